@@ -1,0 +1,186 @@
+// One field of a text, found by its bytes.
+ghost use mathlib.Core.Path.{_≡_};
+ghost use mathlib.Core.Bool.{false};
+ghost use Prim.Native.Nat.{_+_};
+ghost use lib.ListN.{getD, drop};
+ghost use lib.Dec.{eqb};
+ghost use Rattle.csv.specs.Reading.{isText, isQuoted, run, quotes, afterCR, stopOf, quotedAt, fieldAt};
+use crate::Span;
+
+// What stands after an opening quote: no closing one, a byte that quotes may not hold before it, or the closing one after so many bytes.
+pub(crate) enum Quotes {
+    Unclosed,
+    Broken,
+    Closed(usize, bool),
+}
+
+// What follows a field: a comma; CR LF; the end of the text; what may not follow; or the end of the bytes that may be looked at.
+pub(crate) enum Stop {
+    Comma,
+    LineEnd,
+    TextEnd,
+    Bad,
+    Cut,
+}
+
+// A field: its span, the place after it with its quotes, and what follows there.
+pub(crate) struct Cell {
+    pub span: Span,
+    pub end: usize,
+    pub stop: Stop,
+}
+
+// TEXTDATA = %x20-21 / %x23-2B / %x2D-7E
+fn is_text(b: u8) -> bool
+    ensures { λ r. ⌜ r ≡ isText b ⌝ }
+{
+    match b {
+        0x20..=0x21 | 0x23..=0x2B | 0x2D..=0x7E => true,
+        _ => false,
+    }
+}
+
+// TEXTDATA / COMMA / CR / LF
+fn is_quoted(b: u8) -> bool
+    ensures { λ r. ⌜ r ≡ isQuoted b ⌝ }
+{
+    match b {
+        b',' | b'\r' | b'\n' => true,
+        _ => is_text(b),
+    }
+}
+
+// A quote stands at the place.
+fn quote_at(s: &[u8], at: usize) -> bool
+    ensures { λ r. ⌜ r ≡ eqb (getD (now (s .entry)) at 0) 0x22 ⌝ }
+{
+    if at < s.len() { s[at] == b'"' } else { false }
+}
+
+// The place after the TEXTDATA that stands at a place.
+fn skip_text(s: &[u8], at: usize) -> usize
+    ensures { λ r. ⌜ r ≡ at + run (drop at (now (s .entry))) ⌝ }
+{
+    let mut i = at;
+    while i < s.len() {
+        if !is_text(s[i]) {
+            return i;
+        }
+        i += 1;
+    }
+    i
+}
+
+// Looks for the closing quote from the byte after the opening one.
+fn find_quote(s: &[u8], at: usize) -> Quotes
+    ensures { λ r. ⌜ r ≡ quotes 0 false (drop at (now (s .entry))) ⌝ }
+{
+    let mut i = at;
+    let mut doubled = false;
+    while i < s.len() {
+        let b = s[i];
+        if b == b'"' {
+            if !quote_at(s, i + 1) {
+                return Quotes::Closed(i - at, doubled);
+            }
+            doubled = true;
+            i += 2;
+        } else {
+            if !is_quoted(b) {
+                return Quotes::Broken;
+            }
+            i += 1;
+        }
+    }
+    Quotes::Unclosed
+}
+
+// What follows a CR outside quotes.
+fn after_cr(s: &[u8], cut: bool, at: usize) -> Stop
+    ensures { λ r. ⌜ r ≡ afterCR cut (drop at (now (s .entry))) ⌝ }
+{
+    if at < s.len() {
+        if s[at] == b'\n' {
+            return Stop::LineEnd;
+        }
+        return Stop::Bad;
+    }
+    if cut { Stop::Cut } else { Stop::Bad }
+}
+
+// What follows a field.
+fn stop_at(s: &[u8], cut: bool, at: usize) -> Stop
+    ensures { λ r. ⌜ r ≡ stopOf cut (drop at (now (s .entry))) ⌝ }
+{
+    if at < s.len() {
+        match s[at] {
+            b',' => Stop::Comma,
+            b'\r' => after_cr(s, cut, at + 1),
+            _ => Stop::Bad,
+        }
+    } else if cut {
+        Stop::Cut
+    } else {
+        Stop::TextEnd
+    }
+}
+
+// The field at a place.
+pub(crate) fn field_at(s: &[u8], cut: bool, at: usize) -> Cell
+    ensures { λ r. ⌜ r ≡ fieldAt (now (s .entry)) cut at ⌝ }
+{
+    if quote_at(s, at) {
+        return quoted_field(s, cut, at + 1);
+    }
+    let end = skip_text(s, at);
+    let span = Span {
+        start: at,
+        len: end - at,
+        doubled: false,
+    };
+    let stop = stop_at(s, cut, end);
+    Cell { span, end, stop }
+}
+
+// A field in quotes, from the byte after the opening one.
+fn quoted_field(s: &[u8], cut: bool, at: usize) -> Cell
+    ensures { λ r. ⌜ r ≡ quotedAt (now (s .entry)) cut at ⌝ }
+{
+    let none = Span {
+        start: 0,
+        len: 0,
+        doubled: false,
+    };
+    match find_quote(s, at) {
+        Quotes::Broken => Cell {
+            span: none,
+            end: 0,
+            stop: Stop::Bad,
+        },
+        Quotes::Unclosed => {
+            if cut {
+                Cell {
+                    span: none,
+                    end: 0,
+                    stop: Stop::Cut,
+                }
+            } else {
+                Cell {
+                    span: none,
+                    end: 0,
+                    stop: Stop::Bad,
+                }
+            }
+        }
+        Quotes::Closed(len, doubled) => {
+            let end = at + len + 1;
+            let span = Span {
+                start: at,
+                len,
+                doubled,
+            };
+            let stop = stop_at(s, cut, end);
+            Cell { span, end, stop }
+        }
+    }
+}
