@@ -82,7 +82,7 @@ pub start : (s : List ℕ) (cut : Bool) (at : ℕ) → Going s cut at (firstSix 
 unfolding prependAll
 start s cut at = record { done = []; left = length s; whole = refl; enough = omega arith; kept = refl; many = refl; below = omega arith; few = omega arith }
 
-module _ (s : List ℕ) (cut : Bool) (at : ℕ) (spans : List Span) (count i : ℕ) (g : Going s cut at spans count i) where
+module _ {s : List ℕ} {cut : Bool} {at : ℕ} {spans : List Span} {count i : ℕ} (g : Going s cut at spans count i) where
   -- the array after a store that is left out past the sixth
   pub stored : {after : List Span} (x : Span) → ((count < 6) × (after ≡ set spans count x)) ⊎ ((6 ≤ count) × (after ≡ spans)) →
       after ≡ firstSix (g .done ++ (x ∷ []))
@@ -92,7 +92,7 @@ module _ (s : List ℕ) (cut : Bool) (at : ℕ) (spans : List Span) (count i : �
       e .1 ∙ g .kept ∙ sym (set-out (firstSix (g .done)) (length (g .done)) x out) ∙ set-next 6 6 (g .done) x noSpan (omega arith)
 
   -- the next field
-  module _ (cell : Cell) (f : cell ≡ fieldAt s cut i) where
+  module _ {cell : Cell} (f : cell ≡ fieldAt s cut i) where
     step : {st : Stop} → cell .stop ≡ st →
         recordIn s cut at ≡ prependAll (g .done) (onStop st (cell .span) (cell .end) (λ p. fieldsFrom (g .left) s cut p))
     unfolding fieldsFrom

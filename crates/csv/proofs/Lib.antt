@@ -10,3 +10,4 @@ pub mod Cells
 pub mod Going
 pub mod Contents
 pub mod Examples
+pub mod Answers

@@ -41,9 +41,8 @@ kept : (c : lts.Joined1 (field-at-reads.Asked, field-at-reads.Learnt, refusal-re
     c .if1 .spans ≡ firstSix (c .before .before .before .loop .inv .done ++ (c .before .before .field-at .result .span ∷ []))
 kept c =
     let l = c .before .before .before .loop in
-    let a = c .before .before .before .before .before .args in
     let x = c .before .before .field-at .result .span in
-    stored (now (a .s)) (a .cut) (a .at) (l .spans) (l .count) (l .i) (l .inv) x
+    stored (l .inv) x
     (⊎-elim (λ w. inl (w .0 .taken, w .1)) (λ w. inr (w .0 .left, w .1)) (c .if1 .came))
 
 add-count : tie.Need-add-count Inv-loop μ-loop
@@ -54,45 +53,39 @@ enum-told c = search needs
 
 add-i : tie.Need-add-i Inv-loop μ-loop
 add-i c =
-    let a = c .before .before .before .before .before .before .before .args in
     let l = c .before .before .before .before .before .loop in
-    omega (arith, comma-in (now (a .s)) (a .cut) (a .at) (l .spans) (l .count) (l .i) (l .inv) (c .before .before .before .before .field-at .result) (c .before .before .before .before .field-at .ensures) (c .enum-told .given .1))
+    omega (arith, comma-in (l .inv) (c .before .before .before .before .field-at .ensures) (c .enum-told .given .1))
 
 loop-less : tie.Need-loop-less Inv-loop μ-loop
 loop-less c =
-    let a = c .before .before .before .before .before .before .before .args in
     let l = c .before .before .before .before .before .loop in
-    omega (arith, comma-in (now (a .s)) (a .cut) (a .at) (l .spans) (l .count) (l .i) (l .inv) (c .before .before .before .before .field-at .result) (c .before .before .before .before .field-at .ensures) (c .enum-told .given .1))
+    omega (arith, comma-in (l .inv) (c .before .before .before .before .field-at .ensures) (c .enum-told .given .1))
 
 loop-again : tie.Need-loop-again Inv-loop μ-loop
 loop-again c =
-    let a = c .before .before .before .before .before .before .before .args in
     let l = c .before .before .before .before .before .loop in
-    next (now (a .s)) (a .cut) (a .at) (l .spans) (l .count) (l .i) (l .inv) (c .before .before .before .before .field-at .result) (c .before .before .before .before .field-at .ensures) (kept (c .before .before)) (c .enum-told .given .1)
+    next (l .inv) (c .before .before .before .before .field-at .ensures) (kept (c .before .before)) (c .enum-told .given .1)
 
 enum-told-2 : tie.Need-enum-told-2 Inv-loop μ-loop
 enum-told-2 c = search needs
 
 add-t18 : tie.Need-add-t18 Inv-loop μ-loop
 add-t18 c =
-    let a = c .before .before .before .before .before .before .before .args in
     let l = c .before .before .before .before .before .loop in
-    omega (arith, line-in (now (a .s)) (a .cut) (a .at) (l .spans) (l .count) (l .i) (l .inv) (c .before .before .before .before .field-at .result) (c .before .before .before .before .field-at .ensures) (c .enum-told2 .given .1))
+    omega (arith, line-in (l .inv) (c .before .before .before .before .field-at .ensures) (c .enum-told2 .given .1))
 
 returns : tie.Need-returns Inv-loop μ-loop
 returns c =
-    let a = c .before .before .before .before .before .before .before .args in
     let l = c .before .before .before .before .before .loop in
-    last-line (now (a .s)) (a .cut) (a .at) (l .spans) (l .count) (l .i) (l .inv) (c .before .before .before .before .field-at .result) (c .before .before .before .before .field-at .ensures) (kept (c .before .before)) (c .enum-told2 .given .1)
+    last-line (l .inv) (c .before .before .before .before .field-at .ensures) (kept (c .before .before)) (c .enum-told2 .given .1)
 
 enum-told-3 : tie.Need-enum-told-3 Inv-loop μ-loop
 enum-told-3 c = search needs
 
 returns-2 : tie.Need-returns-2 Inv-loop μ-loop
 returns-2 c =
-    let a = c .before .before .before .before .before .before .before .args in
     let l = c .before .before .before .before .before .loop in
-    last-text (now (a .s)) (a .cut) (a .at) (l .spans) (l .count) (l .i) (l .inv) (c .before .before .before .before .field-at .result) (c .before .before .before .before .field-at .ensures) (kept (c .before .before)) (c .enum-told3 .given .1)
+    last-text (l .inv) (c .before .before .before .before .field-at .ensures) (kept (c .before .before)) (c .enum-told3 .given .1)
 
 enum-told-4 : tie.Need-enum-told-4 Inv-loop μ-loop
 enum-told-4 c = search needs
@@ -102,9 +95,8 @@ refusal-requires c κs = search needs
 
 returns-3 : tie.Need-returns-3 Inv-loop μ-loop
 returns-3 c =
-    let a = c .before .before .before .before .before .before .before .before .args in
     let l = c .before .before .before .before .before .before .loop in
-    c .refusal .ensures ∙ bad (now (a .s)) (a .cut) (a .at) (l .spans) (l .count) (l .i) (l .inv) (c .before .before .before .before .before .field-at .result) (c .before .before .before .before .before .field-at .ensures) (c .before .enum-told4 .given .1)
+    c .refusal .ensures ∙ bad (l .inv) (c .before .before .before .before .before .field-at .ensures) (c .before .enum-told4 .given .1)
 
 enum-told-5 : tie.Need-enum-told-5 Inv-loop μ-loop
 enum-told-5 c = search needs
@@ -114,9 +106,8 @@ refusal-requires-2 c κs = search needs
 
 returns-4 : tie.Need-returns-4 Inv-loop μ-loop
 returns-4 c =
-    let a = c .before .before .before .before .before .before .before .before .args in
     let l = c .before .before .before .before .before .before .loop in
-    c .refusal2 .ensures ∙ over (now (a .s)) (a .cut) (a .at) (l .spans) (l .count) (l .i) (l .inv) (c .before .before .before .before .before .field-at .result) (c .before .before .before .before .before .field-at .ensures) (c .before .enum-told5 .given .1)
+    c .refusal2 .ensures ∙ over (l .inv) (c .before .before .before .before .before .field-at .ensures) (c .before .enum-told5 .given .1)
 
 pub read-fields-spec : {M : Type 1} → statement M
 read-fields-spec =

@@ -29,7 +29,8 @@ read-fields-requires c κs = search needs
 returns-2 : tie.Need-returns-2
 returns-2 c =
     let a = c .before .before .before .before .before .args in
-    c .read-fields .ensures ∙ sym (ap readingOf (read-cut (now (a .text)) (a .at) (a .limit) (c .before .before .before .if1 .left) (c .before .before .if2 .taken)))
+    c .read-fields .ensures ∙ sym (ap readingOf (read-cut (now (a .text)) (a .at) (a .limit) (c .before .before .before .if1 .left)
+    (c .before .before .if2 .taken)))
 
 read-fields-requires-2 : tie.Need-read-fields-requires-2
 read-fields-requires-2 c κs = search needs
@@ -37,7 +38,8 @@ read-fields-requires-2 c κs = search needs
 returns-3 : tie.Need-returns-3
 returns-3 c =
     let a = c .before .before .before .before .args in
-    c .read-fields2 .ensures ∙ sym (ap readingOf (read-whole (now (a .text)) (a .at) (a .limit) (c .before .before .if1 .left) (c .before .if2 .left)))
+    c .read-fields2 .ensures ∙ sym (ap readingOf (read-whole (now (a .text)) (a .at) (a .limit) (c .before .before .if1 .left)
+    (c .before .if2 .left)))
 
 pub read-record-spec : {M : Type 1} → statement M
 read-record-spec =

@@ -18,7 +18,8 @@ same-undoubled-requires c κs = search needs
 returns : tie.Need-returns
 returns c =
     let a = c .before .before .before .before .before .args in
-    c .same-undoubled .ensures ∙ ap (λ (x : List ℕ). sameBytes x (now (a .word))) (content-doubled (now (a .text)) (a .span) (now (c .before .before .raw .result)) (c .before .before .raw .ensures) (c .before .if1 .taken))
+    c .same-undoubled .ensures ∙ ap (λ (x : List ℕ). sameBytes x (now (a .word)))
+    (content-doubled (now (a .text)) (a .span) (now (c .before .before .raw .result)) (c .before .before .raw .ensures) (c .before .if1 .taken))
 
 same-requires : tie.Need-same-requires
 same-requires c κs = search needs
@@ -26,7 +27,8 @@ same-requires c κs = search needs
 returns-2 : tie.Need-returns-2
 returns-2 c =
     let a = c .before .before .before .before .before .args in
-    c .same .ensures ∙ ap (λ (x : List ℕ). sameBytes x (now (a .word))) (content-plain (now (a .text)) (a .span) (now (c .before .before .raw .result)) (c .before .before .raw .ensures) (c .before .if1 .left))
+    c .same .ensures ∙ ap (λ (x : List ℕ). sameBytes x (now (a .word)))
+    (content-plain (now (a .text)) (a .span) (now (c .before .before .raw .result)) (c .before .before .raw .ensures) (c .before .if1 .left))
 
 pub is-word-spec : {M : Type 1} → statement M
 is-word-spec =

@@ -32,7 +32,8 @@ returns-2 : tie.Need-returns-2 Inv-loop μ-loop
 returns-2 c =
     let a = c .before .before .before .before .before .before .args in
     let l = c .before .before .before .before .loop in
-    sym (l .inv .1 ∙ same-off (now (a .a)) (now (a .b)) (l .i) (c .before .before .before .loop-test .taken) (omega (arith, l .inv .0, c .before .before .before .loop-test .taken)) (c .if2 .taken))
+    sym (l .inv .1 ∙ same-off (now (a .a)) (now (a .b)) (l .i) (c .before .before .before .loop-test .taken)
+    (omega (arith, l .inv .0, c .before .before .before .loop-test .taken)) (c .if2 .taken))
 
 add-i : tie.Need-add-i Inv-loop μ-loop
 add-i c = search needs
@@ -43,8 +44,11 @@ loop-less c = search needs
 loop-again : tie.Need-loop-again Inv-loop μ-loop
 loop-again c =
     let a = c .before .before .before .before .before .before .args in
-    let l = c .before .before .before .before .loop in
-    (l .inv .0, l .inv .1 ∙ same-on (now (a .a)) (now (a .b)) (l .i) (c .before .before .before .loop-test .taken) (omega (arith, l .inv .0, c .before .before .before .loop-test .taken)) (c .if2 .left))
+    let l = c .before .before .before .before .loop in (
+      l .inv .0,
+      l .inv .1 ∙ same-on (now (a .a)) (now (a .b)) (l .i) (c .before .before .before .loop-test .taken)
+          (omega (arith, l .inv .0, c .before .before .before .loop-test .taken)) (c .if2 .left),
+    )
 
 returns-3 : tie.Need-returns-3 Inv-loop μ-loop
 returns-3 c =

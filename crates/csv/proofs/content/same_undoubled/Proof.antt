@@ -36,15 +36,20 @@ loop-less c = search needs
 loop-again : tie.Need-loop-again Inv-loop μ-loop
 loop-again c =
     let a = c .before .before .before .before .before .before .before .args in
-    let l = c .before .before .before .before .loop in
-    (l .inv .0, l .inv .1 ∙ ap (λ (x : List ℕ). sameBytes x (drop (l .j) (now (a .b)))) (undouble-skip (now (a .a)) (l .i) (l .kept) (c .before .before .before .loop-test .taken) (sym (c .before .is-second .ensures) ∙ c .if1 .taken)))
+    let l = c .before .before .before .before .loop in (
+      l .inv .0,
+      l .inv .1 ∙ ap (λ (x : List ℕ). sameBytes x (drop (l .j) (now (a .b))))
+          (undouble-skip (now (a .a)) (l .i) (l .kept) (c .before .before .before .loop-test .taken) (sym (c .before .is-second .ensures) ∙ c .if1 .taken)),
+    )
 
 returns : tie.Need-returns Inv-loop μ-loop
 returns c =
     let a = c .before .before .before .before .before .before .before .before .args in
     let l = c .before .before .before .before .before .loop in
     let b = now (a .b) in
-    sym (l .inv .1 ∙ ap (λ (x : List ℕ). sameBytes x (drop (l .j) b)) (undouble-keep (now (a .a)) (l .i) (l .kept) (c .before .before .before .before .loop-test .taken) (sym (c .before .before .is-second .ensures) ∙ c .before .if1 .left)) ∙ same-short b (l .j) _ _ (c .if2 .taken))
+    sym (l .inv .1 ∙ ap (λ (x : List ℕ). sameBytes x (drop (l .j) b))
+    (undouble-keep (now (a .a)) (l .i) (l .kept) (c .before .before .before .before .loop-test .taken)
+    (sym (c .before .before .is-second .ensures) ∙ c .before .if1 .left)) ∙ same-short b (l .j) _ _ (c .if2 .taken))
 
 shared-slice-read-if3 : tie.Need-shared-slice-read-if3 Inv-loop μ-loop
 shared-slice-read-if3 c = search needs
@@ -54,7 +59,10 @@ returns-2 c =
     let a = c .before .before .before .before .before .before .before .before .before .before .args in
     let l = c .before .before .before .before .before .before .before .loop in
     let b = now (a .b) in
-    sym (l .inv .1 ∙ ap (λ (x : List ℕ). sameBytes x (drop (l .j) b)) (undouble-keep (now (a .a)) (l .i) (l .kept) (c .before .before .before .before .before .before .loop-test .taken) (sym (c .before .before .before .before .is-second .ensures) ∙ c .before .before .before .if1 .left)) ∙ same-differ b (l .j) _ _ (c .before .before .if2 .left) (c .if3 .taken))
+    sym (l .inv .1 ∙ ap (λ (x : List ℕ). sameBytes x (drop (l .j) b))
+    (undouble-keep (now (a .a)) (l .i) (l .kept) (c .before .before .before .before .before .before .loop-test .taken)
+    (sym (c .before .before .before .before .is-second .ensures) ∙ c .before .before .before .if1 .left)) ∙ same-differ b (l .j) _ _
+    (c .before .before .if2 .left) (c .if3 .taken))
 
 add-j : tie.Need-add-j Inv-loop μ-loop
 add-j c = search needs
@@ -66,8 +74,13 @@ loop-again-2 : tie.Need-loop-again-2 Inv-loop μ-loop
 loop-again-2 c =
     let a = c .before .before .before .before .before .before .before .before .before .before .args in
     let l = c .before .before .before .before .before .before .before .loop in
-    let b = now (a .b) in
-    (omega arith, l .inv .1 ∙ ap (λ (x : List ℕ). sameBytes x (drop (l .j) b)) (undouble-keep (now (a .a)) (l .i) (l .kept) (c .before .before .before .before .before .before .loop-test .taken) (sym (c .before .before .before .before .is-second .ensures) ∙ c .before .before .before .if1 .left)) ∙ same-cons b (l .j) _ _ (c .before .before .if2 .left) (c .if3 .left))
+    let b = now (a .b) in (
+      omega arith,
+      l .inv .1 ∙ ap (λ (x : List ℕ). sameBytes x (drop (l .j) b))
+          (undouble-keep (now (a .a)) (l .i) (l .kept) (c .before .before .before .before .before .before .loop-test .taken)
+          (sym (c .before .before .before .before .is-second .ensures) ∙ c .before .before .before .if1 .left)) ∙ same-cons b (l .j) _ _
+          (c .before .before .if2 .left) (c .if3 .left),
+    )
 
 returns-3 : tie.Need-returns-3 Inv-loop μ-loop
 returns-3 c =

@@ -40,7 +40,8 @@ returns : tie.Need-returns Inv-loop μ-loop
 returns c =
     let a = c .before .before .before .before .before .before .before .args in
     let l = c .before .before .before .before .before .loop in
-    sym (l .inv .1 ∙ quotes-close (now (a .s)) (l .i) (l .i - a .at) (l .doubled) (c .before .before .before .before .loop-test .taken) (eq-eqb _ _ (c .before .before .if1 .taken)) (sym (c .before .quote-at .ensures) ∙ not-true (c .before .quote-at .result) (c .if2 .taken)))
+    sym (l .inv .1 ∙ quotes-close (now (a .s)) (l .i) (l .i - a .at) (l .doubled) (c .before .before .before .before .loop-test .taken)
+    (eq-eqb _ _ (c .before .before .if1 .taken)) (sym (c .before .quote-at .ensures) ∙ not-true (c .before .quote-at .result) (c .if2 .taken)))
 
 add-i : tie.Need-add-i Inv-loop μ-loop
 add-i c = search needs
@@ -57,7 +58,8 @@ loop-again c =
     let e : i - a .at + 2 ≡ i + 2 - a .at = omega (arith, l .inv .0) in
     let q = sym (c .before .quote-at .ensures) ∙ not-false (c .before .quote-at .result) (c .if2 .left) in (
       omega (arith, l .inv .0),
-      l .inv .1 ∙ quotes-two s (l .i) (l .i - a .at) (l .doubled) (c .before .before .before .before .loop-test .taken) (eq-eqb _ _ (c .before .before .if1 .taken)) q ∙ ap (λ (n : ℕ). quotes n true (drop (i + 2) s)) e,
+      l .inv .1 ∙ quotes-two s (l .i) (l .i - a .at) (l .doubled) (c .before .before .before .before .loop-test .taken)
+          (eq-eqb _ _ (c .before .before .if1 .taken)) q ∙ ap (λ (n : ℕ). quotes n true (drop (i + 2) s)) e,
     )
 
 is-quoted-requires : tie.Need-is-quoted-requires Inv-loop μ-loop
@@ -67,7 +69,8 @@ returns-2 : tie.Need-returns-2 Inv-loop μ-loop
 returns-2 c =
     let a = c .before .before .before .before .before .before .before .args in
     let l = c .before .before .before .before .before .loop in
-    sym (l .inv .1 ∙ quotes-bad (now (a .s)) (l .i) (l .i - a .at) (l .doubled) (c .before .before .before .before .loop-test .taken) (ne-eqb _ _ (c .before .before .if1 .left)) (sym (c .before .is-quoted .ensures) ∙ not-true (c .before .is-quoted .result) (c .if3 .taken)))
+    sym (l .inv .1 ∙ quotes-bad (now (a .s)) (l .i) (l .i - a .at) (l .doubled) (c .before .before .before .before .loop-test .taken)
+    (ne-eqb _ _ (c .before .before .if1 .left)) (sym (c .before .is-quoted .ensures) ∙ not-true (c .before .is-quoted .result) (c .if3 .taken)))
 
 add-i-2 : tie.Need-add-i-2 Inv-loop μ-loop
 add-i-2 c = search needs
@@ -84,7 +87,8 @@ loop-again-2 c =
     let e : i - a .at + 1 ≡ i + 1 - a .at = omega (arith, l .inv .0) in
     let q = sym (c .before .is-quoted .ensures) ∙ not-false (c .before .is-quoted .result) (c .if3 .left) in (
       omega (arith, l .inv .0),
-      l .inv .1 ∙ quotes-byte s (l .i) (l .i - a .at) (l .doubled) (c .before .before .before .before .loop-test .taken) (ne-eqb _ _ (c .before .before .if1 .left)) q ∙ ap (λ (n : ℕ). quotes n (l .doubled) (drop (i + 1) s)) e,
+      l .inv .1 ∙ quotes-byte s (l .i) (l .i - a .at) (l .doubled) (c .before .before .before .before .loop-test .taken)
+          (ne-eqb _ _ (c .before .before .if1 .left)) q ∙ ap (λ (n : ℕ). quotes n (l .doubled) (drop (i + 1) s)) e,
     )
 
 returns-3 : tie.Need-returns-3 Inv-loop μ-loop

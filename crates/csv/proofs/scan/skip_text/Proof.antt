@@ -29,7 +29,12 @@ is-text-requires c κs = search needs
 returns : tie.Need-returns Inv-loop μ-loop
 returns c =
     let l = c .before .before .before .before .loop in
-    omega (arith, l .inv, run-off (now (c .before .before .before .before .before .before .args .s)) (l .i) (c .before .before .before .loop-test .taken) (sym (c .before .is-text .ensures) ∙ not-true (c .before .is-text .result) (c .if1 .taken)))
+    omega (
+      arith,
+      l .inv,
+      run-off (now (c .before .before .before .before .before .before .args .s)) (l .i)
+          (c .before .before .before .loop-test .taken) (sym (c .before .is-text .ensures) ∙ not-true (c .before .is-text .result) (c .if1 .taken)),
+    )
 
 add-i : tie.Need-add-i Inv-loop μ-loop
 add-i c = search needs
@@ -40,7 +45,12 @@ loop-less c = search needs
 loop-again : tie.Need-loop-again Inv-loop μ-loop
 loop-again c =
     let l = c .before .before .before .before .loop in
-    omega (arith, l .inv, run-on (now (c .before .before .before .before .before .before .args .s)) (l .i) (c .before .before .before .loop-test .taken) (sym (c .before .is-text .ensures) ∙ not-false (c .before .is-text .result) (c .if1 .left)))
+    omega (
+      arith,
+      l .inv,
+      run-on (now (c .before .before .before .before .before .before .args .s)) (l .i)
+          (c .before .before .before .loop-test .taken) (sym (c .before .is-text .ensures) ∙ not-false (c .before .is-text .result) (c .if1 .left)),
+    )
 
 returns-2 : tie.Need-returns-2 Inv-loop μ-loop
 returns-2 c =
