@@ -1,0 +1,223 @@
+-- The first No of the questions: of a call, of a header and of a row's record. Assumes nothing.
+use Prim.Native.Nat.{ℕ, suc, _*_, _^_, _≤_, _<_}
+use native.Mathlib.Nat.{le-of-lt, lt-of-le-of-lt, mul-le-mul-left, mul-lt-mul-of-pos-right}
+use native.Mathlib.Omega.{arith}
+use mathlib.Core.Path.{_≡_, refl, sym, ap, _∙_}
+use mathlib.Core.Bool.{Bool, true, false, cond, _&&_, and-true}
+use mathlib.Core.List.{List, [], _∷_, _++_, map}
+use lib.ListN.{length, getD, drop, drop-of-length-le}
+use lib.Seq.{drop-cons}
+use lib.Dec.{leb, eqb}
+use borrow.Author.Tests.{lt-ltb, le-ltb, le-leb, lt-leb, eq-eqb, ne-eqb, eqb-true, eqb-false}
+use Rattle.csv.specs.Reading.{contentOf, noSpan, sameBytes}
+use Rattle.csv.specs.declared.Span.{Span}
+use Rattle.models.specs.Limits.{MODELS, PROCESSES, ROWS}
+use Rattle.trace.specs.declared.Row.{Row}
+use Rattle.trace.specs.declared.fields.Judged.{Judged}
+use Rattle.trace.specs.declared.fields.Judged.the-variants.{Kept, No}
+use Rattle.trace.specs.Rows.{headerNames, sameFields, rowOf}
+use Rattle.trace.specs.Questions.{Question, firstNo, inLimits, callQuestions, fieldQuestions, messageInOrder}
+use Rattle.trace.specs.Reads.{fieldsOf, judgedBy, judgedFields, judgedRow, headed}
+
+-- ---- The questions 1 to 3
+
+-- the product of two numbers of 32 bits has 64
+pub product : {a b : ℕ} → a < 2 ^ 32 → b < 2 ^ 32 → a * b < 2 ^ 64
+product {a} {b} h g = lt-of-le-of-lt (mul-le-mul-left a (le-of-lt g)) (mul-lt-mul-of-pos-right h (omega arith))
+
+module _ (header model rowLimit processLimit rowsLength countsLength : ℕ) where
+  -- the first No of a call
+  abbrev first : ℕ
+  first = firstNo (callQuestions header model rowLimit processLimit rowsLength countsLength)
+
+  -- 1: a slice is too short
+  pub few-rows : rowsLength < rowLimit * 6 → 1 ≡ first
+  unfolding firstNo callQuestions
+  few-rows h = let g : rowsLength < 6 * rowLimit = omega arith in rw (lt-leb (6 * rowLimit) rowsLength g)
+
+  module _ (r : rowLimit * 6 ≤ rowsLength) where
+    long-rows : leb (6 * rowLimit) rowsLength ≡ true
+    long-rows = le-leb (6 * rowLimit) rowsLength (omega arith)
+
+    pub few-counts : countsLength < rowLimit * processLimit → 1 ≡ first
+    unfolding firstNo callQuestions
+    few-counts h = rw (long-rows, lt-leb (rowLimit * processLimit) countsLength h)
+
+    module _ (k : rowLimit * processLimit ≤ countsLength) where
+      -- 2: a number is out of its limits
+      out : inLimits model rowLimit processLimit ≡ false → 2 ≡ first
+      unfolding firstNo callQuestions
+      out h = rw (long-rows, le-leb (rowLimit * processLimit) countsLength k, h)
+
+      pub bad-model : MODELS ≤ model → 2 ≡ first
+      bad-model h = out (rw (le-ltb model MODELS h))
+
+      module _ (m : model < MODELS) where
+        pub no-rows : rowLimit < 1 → 2 ≡ first
+        no-rows h = out (rw (lt-ltb model MODELS m, lt-leb 1 rowLimit h))
+
+        module _ (o : 1 ≤ rowLimit) where
+          pub many-rows : ROWS < rowLimit → 2 ≡ first
+          many-rows h = out (rw (lt-ltb model MODELS m, le-leb 1 rowLimit o, lt-leb rowLimit ROWS h))
+
+          module _ (w : rowLimit ≤ ROWS) where
+            pub no-processes : processLimit < 1 → 2 ≡ first
+            no-processes h = out (rw (lt-ltb model MODELS m, le-leb 1 rowLimit o, le-leb rowLimit ROWS w, lt-leb 1 processLimit h))
+
+            module _ (p : 1 ≤ processLimit) where
+              within : inLimits model rowLimit processLimit ≡ leb processLimit PROCESSES
+              within = rw (lt-ltb model MODELS m, le-leb 1 rowLimit o, le-leb rowLimit ROWS w, le-leb 1 processLimit p)
+
+              pub many-processes : PROCESSES < processLimit → 2 ≡ first
+              many-processes h = out (within ∙ lt-leb processLimit PROCESSES h)
+
+              -- 3: the header word is neither 0 nor 1, or every answer is Yes
+              module _ (q : processLimit ≤ PROCESSES) where
+                third : first ≡ cond (leb header 1) 0 3
+                unfolding firstNo callQuestions
+                third = rw (long-rows, le-leb (rowLimit * processLimit) countsLength k, within, le-leb processLimit PROCESSES q)
+
+                pub bad-header : 1 < header → 3 ≡ first
+                bad-header h = sym (third ∙ rw (lt-leb header 1 h))
+
+                pub all-asked : header ≤ 1 → 0 ≡ first
+                all-asked h = sym (third ∙ rw (le-leb header 1 h))
+
+-- ---- The header
+
+-- the first k names of six are there, and the others decide
+pub record Named (text : List ℕ) (count : ℕ) (spans : List Span) (k : ℕ) : Type 0 where
+  pub six : length spans ≡ 6
+  pub rest : headed count (fieldsOf text spans) ≡ sameFields (map (contentOf text) (drop k spans)) (drop k headerNames)
+
+-- the record has not six fields, or it has and no name is looked at yet
+pub not-six : (text : List ℕ) (count : ℕ) (spans : List Span) → (count ≡ 6 → ⊥) → false ≡ headed count (fieldsOf text spans)
+not-six text count spans h = rw (ne-eqb count 6 h)
+
+pub none-named : {text : List ℕ} {count : ℕ} {spans : List Span} → length spans ≡ 6 → count ≡ 6 → Named text count spans 0
+none-named s h = record { six = s; rest = rw h }
+
+module _ {text : List ℕ} {count : ℕ} {spans : List Span} {k : ℕ} (n : Named text count spans k) (h : k < 6)
+    {b : Bool} (e : b ≡ sameBytes (contentOf text (getD spans k noSpan)) (getD headerNames k [])) where
+  -- the next name, and those behind it
+  next : headed count (fieldsOf text spans) ≡ (b && sameFields (map (contentOf text) (drop (suc k) spans)) (drop (suc k) headerNames))
+  unfolding sameFields
+  next =
+      let g : k < length spans = omega (arith, n .six) in
+      let g′ : k < length headerNames = omega arith in
+      n .rest ∙ rw (drop-cons spans k noSpan g, drop-cons headerNames k [] g′, e)
+
+  -- it is there, or the record is no header
+  pub named : b ≡ true → Named text count spans (suc k)
+  named q = record { six = n .six; rest = next ∙ rw q }
+
+  pub other-name : b ≡ false → false ≡ headed count (fieldsOf text spans)
+  other-name q = sym (next ∙ rw q)
+
+  -- none stands behind the sixth
+  pub last-name : k ≡ 5 → b ≡ headed count (fieldsOf text spans)
+  unfolding sameFields
+  last-name q =
+      let g : length spans ≤ suc k = omega (arith, n .six) in
+      let g′ : length headerNames ≤ suc k = omega arith in
+      sym (next ∙ rw (drop-of-length-le spans g, drop-of-length-le headerNames g′) (and-true b))
+
+-- ---- The questions 6 to 12
+
+-- questions one behind the other: the first No of the first ones
+first-no : (qs rest : List Question) → (firstNo qs ≡ 0 → ⊥) → firstNo (qs ++ rest) ≡ firstNo qs
+unfolding firstNo
+first-no [] rest h = absurd (h refl)
+first-no (q ∷ qs) rest h = go (q .yes) (first-no qs rest) h
+  where
+    go : (x : Bool) → ((firstNo qs ≡ 0 → ⊥) → firstNo (qs ++ rest) ≡ firstNo qs) → (cond x (firstNo qs) (q .number) ≡ 0 → ⊥) →
+        cond x (firstNo (qs ++ rest)) (q .number) ≡ cond x (firstNo qs) (q .number)
+    go true ih g = ih g
+    go false ih g = refl
+
+-- or that of the rest, where the first ones all have Yes; their numbers are not 0
+abbrev Numbered : List Question → Type 0
+Numbered [] = Unit {0}
+Numbered (q ∷ qs) = (0 < q .number) × Numbered qs
+
+all-yes : (qs rest : List Question) → Numbered qs → firstNo qs ≡ 0 → firstNo (qs ++ rest) ≡ firstNo rest
+unfolding firstNo
+all-yes [] rest n h = refl
+all-yes (q ∷ qs) rest n h = go (q .yes) (all-yes qs rest (n .1)) h
+  where
+    go : (x : Bool) → (firstNo qs ≡ 0 → firstNo (qs ++ rest) ≡ firstNo rest) → cond x (firstNo qs) (q .number) ≡ 0 →
+        cond x (firstNo (qs ++ rest)) (q .number) ≡ firstNo rest
+    go true ih g = ih g
+    go false ih g = absurd (omega (arith, n .0))
+
+-- the questions 8 to 11 have numbers
+numbered : (processLimit : ℕ) (fields : List (List ℕ)) → Numbered (fieldQuestions processLimit fields)
+unfolding fieldQuestions
+numbered processLimit fields = (omega arith, (omega arith, (omega arith, (omega arith, tt))))
+
+-- question 12
+abbrev last : List Row → List (List ℕ) → List Question
+last earlier fields = record { number = 12; yes = messageInOrder earlier (rowOf fields) } ∷ []
+
+-- what an answer tells of the first No
+module _ (first : ℕ) (fields : List (List ℕ)) where
+  pub no-of : {k : ℕ} → judgedBy first fields ≡ No k → (first ≡ k) × (first ≡ 0 → ⊥)
+  no-of {k} e = go (eqb first 0) refl e
+    where
+      go : (x : Bool) → eqb first 0 ≡ x → cond x (Kept (rowOf fields)) (No first) ≡ No k → (first ≡ k) × (first ≡ 0 → ⊥)
+      go true q e = let z : _≡_ {A = ℕ} 0 1 = cc in absurd (omega arith)
+      go false q e = (cc, eqb-false first 0 q)
+
+  pub kept-of : {row : Row} → judgedBy first fields ≡ Kept row → (first ≡ 0) × (row ≡ rowOf fields)
+  kept-of {row} e = go (eqb first 0) refl e
+    where
+      go : (x : Bool) → eqb first 0 ≡ x → cond x (Kept (rowOf fields)) (No first) ≡ Kept row → (first ≡ 0) × (row ≡ rowOf fields)
+      go true q e = (eqb-true first 0 q, cc)
+      go false q e = let z : _≡_ {A = ℕ} 0 1 = cc in absurd (omega arith)
+
+module _ (rowLimit processLimit n : ℕ) (earlier : List Row) (count : ℕ) (fields : List (List ℕ)) where
+  -- the answer to a row's record
+  abbrev whole : Judged
+  whole = judgedRow rowLimit processLimit n earlier count fields
+
+  -- 6 and 7 have No
+  pub row-over : rowLimit ≤ n → No 6 ≡ whole
+  unfolding judgedRow firstNo
+  row-over h = rw (le-ltb n rowLimit h)
+
+  module _ (h : n < rowLimit) where
+    pub other-count : (count ≡ 6 → ⊥) → No 7 ≡ whole
+    unfolding judgedRow firstNo
+    other-count s = rw (lt-ltb n rowLimit h, ne-eqb count 6 s)
+
+    module _ (s : count ≡ 6) {j : Judged} (e : j ≡ judgedFields processLimit fields) where
+      -- they have Yes, and the others decide
+      inner : whole ≡ judgedBy (firstNo (fieldQuestions processLimit fields ++ last earlier fields)) fields
+      unfolding judgedRow firstNo
+      inner = rw (lt-ltb n rowLimit h, eq-eqb count 6 s)
+
+      -- one of 8 to 11 has No
+      pub fields-no : {k : ℕ} → j ≡ No k → No k ≡ whole
+      unfolding judgedFields
+      fields-no q =
+          let f = firstNo (fieldQuestions processLimit fields) in
+          let g = first-no (fieldQuestions processLimit fields) (last earlier fields) (no-of f fields (sym e ∙ q) .1) in
+          sym (inner ∙ ap (λ (x : ℕ). judgedBy x fields) g ∙ (sym e ∙ q))
+
+      -- they have Yes, and 12 decides
+      module _ {row : Row} (q : j ≡ Kept row) {b : Bool} (m : b ≡ messageInOrder earlier row) where
+        final : whole ≡ judgedBy (cond b 0 12) fields
+        unfolding judgedFields firstNo
+        final =
+            let p = kept-of (firstNo (fieldQuestions processLimit fields)) fields (sym e ∙ q) in
+            inner ∙ ap (λ (x : ℕ). judgedBy x fields) (all-yes (fieldQuestions processLimit fields) (last earlier fields) (numbered processLimit fields) (p .0))
+            ∙ ap (λ (x : Bool). judgedBy (cond x 0 12) fields) (sym (m ∙ ap (messageInOrder earlier) (p .1)))
+
+        pub order-no : b ≡ false → No 12 ≡ whole
+        order-no x = sym (final ∙ rw x)
+
+        pub order-yes : b ≡ true → Kept row ≡ whole
+        unfolding judgedFields
+        order-yes x =
+            let p = kept-of (firstNo (fieldQuestions processLimit fields)) fields (sym e ∙ q) in
+            ap Kept (p .1) ∙ sym (final ∙ rw x)

@@ -1,0 +1,211 @@
+-- Reading row after row: what is known after some rows, and how it goes on. Assumes nothing.
+use Prim.Native.Nat.{ℕ, zero, suc, _+_, _*_, _≤_, _<_}
+use native.Mathlib.Omega.{arith}
+use mathlib.Core.Path.{_≡_, refl, sym, ap, ap₂, _∙_}
+use mathlib.Core.Bool.{Bool, true, false, cond, false≢true}
+use mathlib.Core.List.{List, [], _∷_, _++_, map, append-assoc, append-nil}
+use lib.ListN.{length, take, drop, length-append, length-map}
+use lib.Seq.{take-at, drop-at, drop-drop, drop-append-add}
+use lib.Dec.{ltb, eqb}
+use borrow.Author.Tests.{eq-eqb, ne-eqb, eqb-true, eqb-false, ltb-true}
+use Rattle.csv.specs.Reading.{contentOf, readAt, recordsFrom, onFound, Found, nothing, malformed, past-limit, found, Records, firstSix, readingOf}
+use Rattle.csv.specs.declared.Span.{Span}
+use Rattle.csv.specs.declared.Reading.{Reading}
+use Rattle.csv.specs.declared.Answer.the-variants.{End, Malformed, Limit, Record}
+use Rattle.csv.proofs.Limit.{records-next}
+use Rattle.csv.proofs.Places.{found-places}
+use Rattle.csv.proofs.Answers.{Told, tells, all-six}
+use Rattle.trace.specs.declared.Row.{Row}
+use Rattle.trace.specs.declared.Checked.the-variants.{Accepted, Refused}
+use Rattle.trace.specs.declared.fields.Judged.{Judged}
+use Rattle.trace.specs.declared.fields.Judged.the-variants.{Kept, No}
+use Rattle.trace.specs.Rows.{rowOf, six, numbers, rowsIn}
+use Rattle.trace.specs.Questions.{Question, firstNo, fieldQuestions, rowQuestions, messageInOrder, Outcome, refused, accepted, judgeRows, checkedOf, Holds}
+use Rattle.trace.specs.Reads.{fieldsOf, judgedBy, judgedRow, judgeFrom}
+use Rattle.trace.proofs.Laws.{length-numbers, numbers-append, rows-back}
+use Rattle.trace.proofs.Asking.{no-of, kept-of}
+
+-- the records from a place on
+abbrev recordsAt : List ℕ → ℕ → ℕ → Records
+recordsAt text limit at = recordsFrom (suc (length text)) text limit at
+
+-- the rest of the records behind some rows
+abbrev judge : ℕ → ℕ → List Row → Records → Outcome
+judge R P done r = judgeRows R P done (r .rows) (r .ending)
+
+-- Rows are read up to a place of the text: `done`, and the rest is judged behind them. The slice, xs₀ at first, holds their numbers.
+pub record Going (R P : ℕ) (text : List ℕ) (limit start : ℕ) (xs₀ : List ℕ) (at n : ℕ) (xs : List ℕ) : Type 0 where
+  pub done : List Row
+  pub whole : judgeFrom R P text limit start ≡ judge R P done (recordsAt text limit at)
+  pub many : n ≡ length done
+  pub few : n ≤ R
+  pub held : xs ≡ numbers done ++ drop (6 * n) xs₀
+
+-- no row yet
+pub begin : (R P : ℕ) (text : List ℕ) (limit start : ℕ) (xs₀ : List ℕ) → Going R P text limit start xs₀ start 0 xs₀
+unfolding judgeFrom numbers
+begin R P text limit start xs₀ = record { done = []; whole = refl; many = refl; few = omega arith; held = refl }
+
+module _ {R P : ℕ} {text : List ℕ} {limit start : ℕ} {xs₀ : List ℕ} {at n : ℕ} {xs : List ℕ} (g : Going R P text limit start xs₀ at n xs) where
+  -- what reading finds next, judged
+  step : (f : Found) → readAt text at limit ≡ f → judgeFrom R P text limit start ≡ judge R P (g .done) (onFound text f (λ p. recordsAt text limit p))
+  step f e =
+      g .whole ∙ ap (judge R P (g .done)) (records-next text limit at)
+      ∙ ap (λ (x : Found). judge R P (g .done) (onFound text x (λ p. recordsAt text limit p))) e
+
+  -- the place of the next row
+  place : n + 1 ≡ length (g .done) + 1
+  place = ap (λ (k : ℕ). k + 1) (g .many)
+
+  -- the text is at its end, the record is malformed, the limit was met
+  pub at-end : readAt text at limit ≡ nothing → Accepted n ≡ checkedOf (judgeFrom R P text limit start)
+  unfolding onFound judgeRows
+  at-end e = ap Accepted (g .many) ∙ sym (ap checkedOf (step nothing e))
+
+  pub end-held : readAt text at limit ≡ nothing → Holds (judgeFrom R P text limit start) xs₀ xs
+  unfolding onFound judgeRows
+  end-held e = rw (step nothing e) (g .held ∙ ap (λ (k : ℕ). numbers (g .done) ++ drop (6 * k) xs₀) (g .many))
+
+  pub at-malformed : readAt text at limit ≡ malformed → judgeFrom R P text limit start ≡ refused 4 (n + 1)
+  unfolding onFound judgeRows
+  at-malformed e = step malformed e ∙ ap (refused 4) (sym place)
+
+  pub at-limit : readAt text at limit ≡ past-limit → judgeFrom R P text limit start ≡ refused 6 (n + 1)
+  unfolding onFound judgeRows
+  at-limit e = step past-limit e ∙ ap (refused 6) (sym place)
+
+-- ---- One record
+
+-- a record's row or its first No, by the answers to 6 and 7
+unfoldable judged : ℕ → List Row → Bool → Bool → List (List ℕ) → Judged
+judged P done x y fields =
+    judgedBy
+    (firstNo
+    (record { number = 6; yes = x }
+    ∷ (record { number = 7; yes = y }
+    ∷ (fieldQuestions P fields ++ (record { number = 12; yes = messageInOrder done (rowOf fields) } ∷ [])))))
+    fields
+
+-- where there are not six fields, nothing else is asked of them
+other-fields : (P : ℕ) (done : List Row) (x y : Bool) (a b : List (List ℕ)) → (y ≡ true → a ≡ b) → judged P done x y a ≡ judged P done x y b
+unfolding judged firstNo
+other-fields P done x true a b h = ap (judged P done x true) (h refl)
+other-fields P done true false a b h = refl
+other-fields P done false false a b h = refl
+
+-- the first six fields of a record are judged as the whole of it
+pub judged-same : (R P n : ℕ) (done : List Row) (text : List ℕ) (spans : List Span) (count : ℕ) → n ≡ length done → count ≡ length spans →
+    judgedRow R P n done count (fieldsOf text (firstSix spans)) ≡ judgedBy (firstNo (rowQuestions R P done (fieldsOf text spans))) (fieldsOf text spans)
+unfolding judgedRow rowQuestions judged
+judged-same R P n done text spans count m c =
+    let size = c ∙ sym (length-map spans (contentOf text)) in
+    (λ i. judged P done (ltb (m i) R) (eqb (size i) 6) (fieldsOf text (firstSix spans)))
+    ∙ other-fields P done (ltb (length done) R) (eqb (length (fieldsOf text spans)) 6) (fieldsOf text (firstSix spans)) (fieldsOf text spans)
+    (λ y. ap (fieldsOf text) (all-six spans (sym c ∙ size ∙ eqb-true (length (fieldsOf text spans)) 6 y)))
+
+-- a record without a No is within the row limit
+pub in-limit : (R P : ℕ) (done : List Row) (fields : List (List ℕ)) → eqb (firstNo (rowQuestions R P done fields)) 0 ≡ true → length done < R
+unfolding rowQuestions firstNo
+in-limit R P done fields e = go (ltb (length done) R) refl e
+  where
+    rest : ℕ
+    rest = cond (eqb (length fields) 6) (firstNo (fieldQuestions P fields ++ (record { number = 12; yes = messageInOrder done (rowOf fields) } ∷ []))) 7
+
+    go : (x : Bool) → ltb (length done) R ≡ x → eqb (cond x rest 6) 0 ≡ true → length done < R
+    go true q f = ltb-true (length done) R q
+    go false q f = absurd (false≢true f)
+
+module _ {R P : ℕ} {text : List ℕ} {limit start : ℕ} {xs₀ : List ℕ} {at n : ℕ} {xs : List ℕ} (g : Going R P text limit start xs₀ at n xs) where
+  -- the rows so far, read back from the slice
+  pub back : rowsIn n xs ≡ g .done
+  back = ap (λ (k : ℕ). rowsIn k xs) (g .many) ∙ ap (rowsIn (length (g .done))) (g .held) ∙ rows-back (g .done) (drop (6 * n) xs₀)
+
+  -- the record there is judged
+  module _ {spans : List Span} {end next : ℕ} (f : readAt text at limit ≡ found spans end next) where
+    abbrev pub first : ℕ
+    first = firstNo (rowQuestions R P (g .done) (fieldsOf text spans))
+
+    -- by its first No
+    on : (x : Bool) → eqb first 0 ≡ x → judgeFrom R P text limit start
+        ≡ cond x (judge R P (g .done ++ (rowOf (fieldsOf text spans) ∷ [])) (recordsAt text limit next)) (refused first (length (g .done) + 1))
+    unfolding onFound judgeRows
+    on x e =
+        step g (found spans end next) f
+        ∙ ap (λ (y : Bool). cond y (judge R P (g .done ++ (rowOf (fieldsOf text spans) ∷ [])) (recordsAt text limit next)) (refused first (length (g .done) + 1))) e
+
+    -- it is refused
+    pub refused-here : (k : ℕ) → judgedBy first (fieldsOf text spans) ≡ No k → judgeFrom R P text limit start ≡ refused k (n + 1)
+    refused-here k j =
+        let t = no-of first (fieldsOf text spans) j in
+        on false (ne-eqb first 0 (t .1)) ∙ ap₂ refused (t .0) (sym (place g))
+
+    -- it is the next row, within the limit
+    module _ (row : Row) (j : judgedBy first (fieldsOf text spans) ≡ Kept row) where
+      pub room : n < R
+      room = let h = in-limit R P (g .done) (fieldsOf text spans) (eq-eqb first 0 (kept-of first (fieldsOf text spans) j .0)) in omega (arith, g .many)
+
+      -- the numbers of one more row stand behind those before it
+      laid : (ys : List ℕ) → ys ≡ take (n * 6) xs ++ (six row ++ drop (n * 6 + 6) xs) → ys ≡ numbers (g .done ++ (row ∷ [])) ++ drop (6 * (n + 1)) xs₀
+      unfolding numbers
+      laid ys e =
+          let p = numbers (g .done) in
+          let q = drop (6 * n) xs₀ in
+          let size : length p ≡ n * 6 = length-numbers (g .done) ∙ omega (arith, g .many) in
+          let front : take (n * 6) xs ≡ p = ap (take (n * 6)) (g .held) ∙ take-at p q (n * 6) size in
+          let more : n * 6 + 6 ≡ length p + 6 = ap (λ (k : ℕ). k + 6) (sym size) in
+          let six-on : 6 * n + 6 ≡ 6 * (n + 1) = omega arith in
+          let behind : drop (n * 6 + 6) xs ≡ drop (6 * (n + 1)) xs₀ =
+          (λ i. drop (more i) (g .held i)) ∙ drop-append-add p q 6 ∙ drop-drop 6 (6 * n) xs₀ ∙ ap (λ (k : ℕ). drop k xs₀) six-on in
+          e ∙ (λ i. front i ++ (six row ++ behind i)) ∙ sym (append-assoc p (six row) (drop (6 * (n + 1)) xs₀))
+          ∙ ap (λ (l : List ℕ). (p ++ l) ++ drop (6 * (n + 1)) xs₀) (sym (append-nil (six row)))
+          ∙ ap (λ (l : List ℕ). l ++ drop (6 * (n + 1)) xs₀) (sym (numbers-append (g .done) (row ∷ [])))
+
+      pub goes-on : (ys : List ℕ) → ys ≡ take (n * 6) xs ++ (six row ++ drop (n * 6 + 6) xs) → Going R P text limit start xs₀ next (n + 1) ys
+      goes-on ys e =
+          let t = kept-of first (fieldsOf text spans) j in
+          record {
+            done = g .done ++ (row ∷ []);
+            whole = on true (eq-eqb first 0 (t .0)) ∙ ap (λ (r : Row). judge R P (g .done ++ (r ∷ [])) (recordsAt text limit next)) (sym (t .1));
+            many = omega (arith, g .many, length-append (g .done) (row ∷ []));
+            few = omega (arith, room);
+            held = laid ys e;
+          }
+
+-- the same from what the calls answered: r is the reading at the place, j what was judged of its first six fields
+module _ {R P : ℕ} {text : List ℕ} {limit start : ℕ} {xs₀ : List ℕ} {at n : ℕ} {xs : List ℕ} (g : Going R P text limit start xs₀ at n xs)
+    {r : Reading} (e : r ≡ readingOf (readAt text at limit)) (a : r .answer ≡ Record) where
+  told : Told (readAt text at limit) r
+  told = tells (readAt text at limit) r e a
+
+  -- the next record starts after this one
+  pub onward : (at < r .next) × (r .next ≤ length text)
+  onward =
+      let t = told in
+      let p = found-places text at limit (t .spans) (t .end) (t .next) (t .is-found) in
+      (omega (arith, p .2, t .place), omega (arith, p .3, t .place))
+
+  module _ {j : Judged} (je : j ≡ judgedRow R P n (rowsIn n xs) (r .count) (fieldsOf text (r .spans))) where
+    whole-record : j ≡ judgedBy (firstNo (rowQuestions R P (g .done) (fieldsOf text (told .spans)))) (fieldsOf text (told .spans))
+    whole-record =
+        je ∙ (λ i. judgedRow R P n (back g i) (r .count) (fieldsOf text (told .kept i)))
+        ∙ judged-same R P n (g .done) text (told .spans) (r .count) (g .many) (told .count)
+
+    pub no-row : {k : ℕ} → j ≡ No k → judgeFrom R P text limit start ≡ refused k (n + 1)
+    no-row {k} q =
+        let t = told in
+        refused-here g (t .is-found) k (sym whole-record ∙ q)
+
+    module _ {row : Row} (q : j ≡ Kept row) where
+      pub row-room : n < R
+      row-room =
+          let t = told in
+          room g (t .is-found) row (sym whole-record ∙ q)
+
+      pub next-row : {ys : List ℕ} → ys ≡ take (n * 6) xs ++ (six row ++ drop (n * 6 + 6) xs) → Going R P text limit start xs₀ (r .next) (n + 1) ys
+      next-row {ys} l =
+          let t = told in
+          rw (t .place) (goes-on g (t .is-found) row (sym whole-record ∙ q) ys l)
+
+-- a refusal's answer, and that it holds no rows
+pub refusal : {o : Outcome} {k p : ℕ} (xs ys : List ℕ) → o ≡ refused k p → (Refused k p ≡ checkedOf o) × Holds o xs ys
+refusal xs ys e = (sym (ap checkedOf e), rw e tt)

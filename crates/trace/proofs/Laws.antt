@@ -1,0 +1,336 @@
+-- Laws of reading a trace, for whoever builds on it. Assumes nothing.
+use Prim.Native.Nat.{ℕ, zero, suc, _+_, _*_, _-_, _≤_, _<_}
+use native.Mathlib.Omega.{arith}
+use mathlib.Core.Path.{_≡_, refl, sym, ap, subst, _∙_}
+use mathlib.Core.Bool.{Bool, true, false, cond, _&&_, false≢true}
+use mathlib.Core.List.{List, [], _∷_, _++_, map, append-nil}
+use lib.ListN.{length, take, drop, replicate, length-append, length-drop}
+use lib.Seq.{take-add, append-snoc}
+use lib.Dec.{leb, eqb}
+use borrow.Author.Tests.{leb-true, ltb-true, eqb-true, eqb-false}
+use Rattle.csv.specs.Reading.{Records, Ending, all-read, at-malformed, at-limit}
+use Rattle.models.specs.Limits.{PROCESSES, ROWS, FILES, MESSAGES, OFFSET-MAX}
+use Rattle.trace.specs.declared.Row.{Row}
+use Rattle.trace.specs.Rows.{KINDS, kindOf, usedBy, isPlain, value, valueFrom, isNumber, field, rowOf, numbers, six, rowHere, rowsIn}
+use Rattle.trace.specs.Questions.{Question, firstNo, callQuestions, isHeader, kindKnown, asUsed, filledAsUsed, numberIf, numbersInRange, endInRange, messageInOrder, fieldQuestions, rowQuestions, Outcome, refused, accepted, judgeRows, judgeHeader, readTrace, checkTrace, rowsLeft}
+
+-- a field that is not used is 0
+abbrev pub Unless : Bool → ℕ → Type 0
+Unless true n = Unit {0}
+Unless false n = n ≡ 0
+
+-- A well-formed row: every number within its range, and 0 where the kind does not use the field.
+pub record WellFormed (processLimit : ℕ) (r : Row) : Type 0 where
+  pub process : r .process < processLimit
+  pub kind : r .kind < KINDS
+  pub file : r .file < FILES
+  pub end : r .offset + r .length ≤ OFFSET-MAX
+  pub message : r .message < MESSAGES
+  pub no-file : Unless (usedBy (r .kind) .file) (r .file)
+  pub no-offset : Unless (usedBy (r .kind) .range) (r .offset)
+  pub no-length : Unless (usedBy (r .kind) .range) (r .length)
+  pub no-message : Unless (usedBy (r .kind) .message) (r .message)
+
+-- rows that came one after the other: each well formed, and its message in order behind those before it
+pub data Sound (processLimit : ℕ) : List Row → Type 0 where
+  none : Sound processLimit []
+  next : {rows : List Row} {r : Row} → Sound processLimit rows → WellFormed processLimit r → messageInOrder rows r ≡ true →
+      Sound processLimit (rows ++ (r ∷ []))
+
+-- ---- What the first No says of a list of questions
+
+-- no question has a number below k
+abbrev From : ℕ → List Question → Type 0
+From k [] = Unit {0}
+From k (q ∷ qs) = (k ≤ q .number) × From k qs
+
+-- every question is answered Yes
+abbrev AllYes : List Question → Type 0
+AllYes [] = Unit {0}
+AllYes (q ∷ qs) = (q .yes ≡ true) × AllYes qs
+
+-- a first No is one of the numbers
+no-from : (k : ℕ) (qs : List Question) → From k qs → (firstNo qs ≡ 0 → ⊥) → k ≤ firstNo qs
+unfolding firstNo
+no-from k [] f n = absurd (n refl)
+no-from k (q ∷ qs) f n = go (no-from k qs (f .1)) (q .yes) n
+  where
+    go : ((firstNo qs ≡ 0 → ⊥) → k ≤ firstNo qs) → (b : Bool) → (cond b (firstNo qs) (q .number) ≡ 0 → ⊥) → k ≤ cond b (firstNo qs) (q .number)
+    go rest true m = rest m
+    go rest false m = f .0
+
+-- without a No every answer is Yes
+all-yes : (qs : List Question) → From 1 qs → firstNo qs ≡ 0 → AllYes qs
+unfolding firstNo
+all-yes [] f e = tt
+all-yes (q ∷ qs) f e = go (all-yes qs (f .1)) (q .yes) refl e
+  where
+    go : (firstNo qs ≡ 0 → AllYes qs) → (b : Bool) → q .yes ≡ b → cond b (firstNo qs) (q .number) ≡ 0 → AllYes (q ∷ qs)
+    go rest true y n = (y, rest n)
+    go rest false y n = let low : 1 ≤ q .number = f .0 in absurd (omega arith)
+
+-- both of two tests passed
+both : (x y : Bool) → x && y ≡ true → (x ≡ true) × (y ≡ true)
+both true y e = (refl, e)
+both false y e = absurd (false≢true e)
+
+-- ---- A row that passes its questions is well formed
+
+-- a number that passes is at most the largest one
+number-most : (most : ℕ) (content : List ℕ) → isNumber most content ≡ true → value content ≤ most
+number-most most content e = leb-true (value content) most (both (isPlain content) (leb (value content) most) e .1)
+
+-- a field that passes the questions 9 and 10 is in its range, and 0 where it is not used
+field-in : (used : Bool) (most : ℕ) (content : List ℕ) → asUsed used content ≡ true → numberIf used most content ≡ true →
+    (value content ≤ most) × Unless used (value content)
+unfolding valueFrom
+field-in true most content f n = (number-most most content n, tt)
+field-in false most [] f n = (omega arith, refl)
+field-in false most (b ∷ t) f n = absurd (false≢true f)
+
+-- the questions 8 to 11
+well-formed : (processLimit : ℕ) (fields : List (List ℕ)) → 0 < processLimit → kindKnown fields ≡ true → filledAsUsed fields ≡ true →
+    numbersInRange processLimit fields ≡ true → endInRange (rowOf fields) ≡ true → WellFormed processLimit (rowOf fields)
+unfolding rowOf filledAsUsed numbersInRange
+well-formed processLimit fields p k f n e =
+    let u = usedBy (kindOf (field fields 1)) in
+    let f1 = both _ _ (both (asUsed true (field fields 0)) _ f .1) in
+    let f2 = both _ _ (f1 .1) in
+    let f3 = both _ _ (f2 .1) in
+    let n0 = both _ _ n in
+    let n1 = both _ _ (n0 .1) in
+    let n2 = both _ _ (n1 .1) in
+    let n3 = both _ _ (n2 .1) in
+    let process = number-most (processLimit - 1) (field fields 0) (n0 .0) in
+    let file = field-in (u .file) (FILES - 1) (field fields 2) (f1 .0) (n1 .0) in
+    let offset = field-in (u .range) OFFSET-MAX (field fields 3) (f2 .0) (n2 .0) in
+    let size = field-in (u .range) OFFSET-MAX (field fields 4) (f3 .0) (n3 .0) in
+    let message = field-in (u .message) (MESSAGES - 1) (field fields 5) (f3 .1) (n3 .1) in
+    record {
+      process = omega arith;
+      kind = ltb-true _ _ k;
+      file = omega arith;
+      end = leb-true _ _ e;
+      message = omega arith;
+      no-file = file .1;
+      no-offset = offset .1;
+      no-length = size .1;
+      no-message = message .1;
+    }
+
+-- ---- What an outcome says
+
+-- a refusal is 4 or more, and accepted rows are as Q says
+abbrev Where : (List Row → Type 0) → Outcome → Type 0
+Where Q (refused number place) = 4 ≤ number
+Where Q (accepted rows) = Q rows
+
+-- a weaker statement of the rows
+weaken : {Q Q′ : List Row → Type 0} → ((rows : List Row) → Q rows → Q′ rows) → (o : Outcome) → Where Q o → Where Q′ o
+weaken f (refused number place) h = h
+weaken f (accepted rows) h = f rows h
+
+module _ (rowLimit processLimit : ℕ) where
+  -- rows that came of records behind other rows
+  record Came (before : List Row) (recs : List (List (List ℕ))) (ending : Ending) (rows : List Row) : Type 0 where
+    all : rows ≡ before ++ map rowOf recs
+    end : ending ≡ all-read
+    few : length before ≤ rowLimit → length rows ≤ rowLimit
+    sound : 0 < processLimit → Sound processLimit before → Sound processLimit rows
+
+  -- the same behind a header, from no rows
+  abbrev Behind : List (List (List ℕ)) → Ending → List Row → Type 0
+  Behind recs ending rows = (first : List (List ℕ)) × (rest : List (List (List ℕ))) × (recs ≡ first ∷ rest) × (isHeader first ≡ true) × Came [] rest ending rows
+
+  -- at most as many rows as the limit, and sound ones
+  abbrev Fair : List Row → Type 0
+  Fair rows = (length rows ≤ rowLimit) × (0 < processLimit → Sound processLimit rows)
+
+  -- rows that came of records from no rows are fair
+  fair : {recs : List (List (List ℕ))} {ending : Ending} {rows : List Row} → Came [] recs ending rows → Fair rows
+  fair c = (c .few (omega arith), λ p. c .sound p none)
+
+  -- one more record that passes
+  came-next : (before : List Row) (fields : List (List ℕ)) (rest : List (List (List ℕ))) (ending : Ending) →
+      firstNo (rowQuestions rowLimit processLimit before fields) ≡ 0 → (rows : List Row) →
+      Came (before ++ (rowOf fields ∷ [])) rest ending rows → Came before (fields ∷ rest) ending rows
+  unfolding rowQuestions fieldQuestions
+  came-next before fields rest ending e rows c =
+      let yes = all-yes (rowQuestions rowLimit processLimit before fields) (omega arith) e in
+      let room = ltb-true (length before) rowLimit (yes .0) in
+      let q = yes .1 .1 in
+      record {
+        all = c .all ∙ append-snoc before (rowOf fields) (map rowOf rest);
+        end = c .end;
+        few = λ h. c .few (simp length-append (omega arith));
+        sound =
+            λ p s. c .sound p (next s (well-formed processLimit fields p (q .0) (q .1 .0) (q .1 .1 .0) (q .1 .1 .1 .0)) (q .1 .1 .1 .1 .0));
+      }
+
+  -- records behind rows
+  judged-rows : (before : List Row) (recs : List (List (List ℕ))) (ending : Ending) →
+      Where (Came before recs ending) (judgeRows rowLimit processLimit before recs ending)
+  unfolding judgeRows rowQuestions fieldQuestions
+  judged-rows before [] all-read = record { all = sym (append-nil before); end = refl; few = λ h. h; sound = λ p s. s }
+  judged-rows before [] at-malformed = omega arith
+  judged-rows before [] at-limit = omega arith
+  judged-rows before (fields ∷ rest) ending = go (judged-rows (before ++ (rowOf fields ∷ [])) rest ending) (eqb first 0) refl
+    where
+      first : ℕ
+      first = firstNo (rowQuestions rowLimit processLimit before fields)
+
+      behind : Outcome
+      behind = judgeRows rowLimit processLimit (before ++ (rowOf fields ∷ [])) rest ending
+
+      go : Where (Came (before ++ (rowOf fields ∷ [])) rest ending) behind → (b : Bool) → eqb first 0 ≡ b →
+          Where (Came before (fields ∷ rest) ending) (cond b behind (refused first (length before + 1)))
+      go h true e = weaken (came-next before fields rest ending (eqb-true first 0 e)) behind h
+      go h false e = no-from 4 (rowQuestions rowLimit processLimit before fields) (omega arith) (eqb-false first 0 e)
+
+  -- records behind a header
+  judged-header : (recs : List (List (List ℕ))) (ending : Ending) → Where (Behind recs ending) (judgeHeader rowLimit processLimit recs ending)
+  unfolding judgeHeader
+  judged-header [] all-read = omega arith
+  judged-header [] at-malformed = omega arith
+  judged-header [] at-limit = omega arith
+  judged-header (fields ∷ rest) ending = go (isHeader fields) refl
+    where
+      behind : Outcome
+      behind = judgeRows rowLimit processLimit [] rest ending
+
+      go : (b : Bool) → isHeader fields ≡ b → Where (Behind (fields ∷ rest) ending) (cond b behind (refused 5 0))
+      go true e = weaken (λ rows c. (fields, rest, refl, e, c)) behind (judged-rows [] rest ending)
+      go false e = omega arith
+
+  -- the records of a text, with or without a header
+  judged : (header : ℕ) (r : Records) → Where Fair (readTrace header rowLimit processLimit r)
+  unfolding readTrace
+  judged header r = go (eqb header 0)
+    where
+      plain : Outcome
+      plain = judgeRows rowLimit processLimit [] (r .rows) (r .ending)
+
+      behind : Outcome
+      behind = judgeHeader rowLimit processLimit (r .rows) (r .ending)
+
+      go : (b : Bool) → Where Fair (cond b plain behind)
+      go true = weaken (λ rows c. fair c) plain (judged-rows [] (r .rows) (r .ending))
+      go false = weaken (λ rows h. fair (h .4)) behind (judged-header (r .rows) (r .ending))
+
+-- ---- The laws
+
+-- a refusal of a record is 4 or more
+pub refused-from-four : (header rowLimit processLimit : ℕ) (r : Records) (number place : ℕ) →
+    readTrace header rowLimit processLimit r ≡ refused number place → 4 ≤ number
+refused-from-four header rowLimit processLimit r number place e =
+    subst (Where (Fair rowLimit processLimit)) e (judged rowLimit processLimit header r)
+
+-- With header word 0 every record of the text is a row, the first one row 1, and all of the text was read.
+pub rows-without-header : (rowLimit processLimit : ℕ) (r : Records) (rows : List Row) →
+    readTrace 0 rowLimit processLimit r ≡ accepted rows → (rows ≡ map rowOf (r .rows)) × (r .ending ≡ all-read)
+unfolding readTrace
+rows-without-header rowLimit processLimit r rows e =
+    let c = subst (Where (Came rowLimit processLimit [] (r .rows) (r .ending))) e (judged-rows rowLimit processLimit [] (r .rows) (r .ending)) in
+    (c .all, c .end)
+
+-- With header word 1 the first record is the header, and every other one is a row.
+pub rows-behind-header : (rowLimit processLimit : ℕ) (r : Records) (rows : List Row) →
+    readTrace 1 rowLimit processLimit r ≡ accepted rows →
+    (first : List (List ℕ)) × (rest : List (List (List ℕ))) × (r .rows ≡ first ∷ rest) × (isHeader first ≡ true) × (rows ≡ map rowOf rest) × (r .ending ≡ all-read)
+unfolding readTrace
+rows-behind-header rowLimit processLimit r rows e =
+    let b = subst (Where (Behind rowLimit processLimit (r .rows) (r .ending))) e (judged-header rowLimit processLimit (r .rows) (r .ending)) in
+    (b .0, b .1, b .2, b .3, b .4 .all, b .4 .end)
+
+-- the rows of an accepted trace: at most as many as the limit, each well formed, its message in order
+pub accepted-sound : (header rowLimit processLimit : ℕ) (r : Records) (rows : List Row) → 0 < processLimit →
+    readTrace header rowLimit processLimit r ≡ accepted rows → (length rows ≤ rowLimit) × (Sound processLimit rows)
+accepted-sound header rowLimit processLimit r rows p e =
+    let f = subst (Where (Fair rowLimit processLimit)) e (judged rowLimit processLimit header r) in
+    (f .0, f .1 p)
+
+-- Reading depends on nothing but the text, the header word and the limits: slices that are long enough, and models, make no difference.
+pub slices-no-matter : (text : List ℕ) (header model model′ rowLimit processLimit byteLimit rowsLength countsLength rowsLength′ countsLength′ : ℕ) →
+    firstNo (callQuestions header model rowLimit processLimit rowsLength countsLength) ≡ 0 →
+    firstNo (callQuestions header model′ rowLimit processLimit rowsLength′ countsLength′) ≡ 0 →
+    checkTrace text header model rowLimit processLimit byteLimit rowsLength countsLength
+    ≡ checkTrace text header model′ rowLimit processLimit byteLimit rowsLength′ countsLength′
+unfolding checkTrace
+slices-no-matter text header model model′ rowLimit processLimit byteLimit rowsLength countsLength rowsLength′ countsLength′ h g = rw (h, g)
+
+-- what the questions 1 to 3 leave: limits within their ranges, slices long enough, a header word
+pub record Legal (header model rowLimit processLimit rowsLength countsLength : ℕ) : Type 0 where
+  pub rows-fit : 6 * rowLimit ≤ rowsLength
+  pub counts-fit : rowLimit * processLimit ≤ countsLength
+  pub some-rows : 1 ≤ rowLimit
+  pub few-rows : rowLimit ≤ ROWS
+  pub some-processes : 1 ≤ processLimit
+  pub few-processes : processLimit ≤ PROCESSES
+  pub known-model : model < 4
+  pub header-word : header ≤ 1
+
+pub legal : (header model rowLimit processLimit rowsLength countsLength : ℕ) →
+    firstNo (callQuestions header model rowLimit processLimit rowsLength countsLength) ≡ 0 → Legal header model rowLimit processLimit rowsLength countsLength
+unfolding callQuestions
+legal header model rowLimit processLimit rowsLength countsLength e =
+    let yes = all-yes (callQuestions header model rowLimit processLimit rowsLength countsLength) (omega arith) e in
+    let slices = both _ _ (yes .0) in
+    let model-in = both _ _ (yes .1 .0) in
+    let rows-in = both _ _ (model-in .1) in
+    let rows-up = both _ _ (rows-in .1) in
+    let processes = both _ _ (rows-up .1) in
+    record {
+      rows-fit = leb-true _ _ (slices .0);
+      counts-fit = leb-true _ _ (slices .1);
+      some-rows = leb-true _ _ (rows-in .0);
+      few-rows = leb-true _ _ (rows-up .0);
+      some-processes = leb-true _ _ (processes .0);
+      few-processes = leb-true _ _ (processes .1);
+      known-model = ltb-true _ _ (model-in .0);
+      header-word = leb-true _ _ (yes .1 .1 .0);
+    }
+
+-- ---- Rows and their numbers
+
+-- six numbers a row
+pub length-numbers : (rows : List Row) → length (numbers rows) ≡ 6 * length rows
+unfolding numbers six
+length-numbers [] = refl
+length-numbers (r ∷ rs) = omega (arith, length-numbers rs)
+
+-- numbers of rows one after the other
+pub numbers-append : (rows more : List Row) → numbers (rows ++ more) ≡ numbers rows ++ numbers more
+unfolding numbers six
+numbers-append [] more = refl
+numbers-append (r ∷ rs) more = ap (λ (l : List ℕ). six r ++ l) (numbers-append rs more)
+
+-- reading back what was written, whatever stands behind it
+pub rows-back : (rows : List Row) (behind : List ℕ) → rowsIn (length rows) (numbers rows ++ behind) ≡ rows
+unfolding rowsIn rowHere numbers six
+rows-back [] behind = refl
+rows-back (r ∷ rs) behind = ap {B = List Row} (λ l. r ∷ l) (rows-back rs behind)
+
+-- six numbers at the front are the row there
+six-back : (xs : List ℕ) → 6 ≤ length xs → six (rowHere xs) ≡ take 6 xs
+unfolding six rowHere
+six-back [] h = absurd (omega arith)
+six-back (a ∷ []) h = absurd (omega arith)
+six-back (a ∷ b ∷ []) h = absurd (omega arith)
+six-back (a ∷ b ∷ c ∷ []) h = absurd (omega arith)
+six-back (a ∷ b ∷ c ∷ d ∷ []) h = absurd (omega arith)
+six-back (a ∷ b ∷ c ∷ d ∷ e ∷ []) h = absurd (omega arith)
+six-back (a ∷ b ∷ c ∷ d ∷ e ∷ f ∷ xs) h = refl
+
+-- writing back what was read
+pub numbers-back : (n : ℕ) (xs : List ℕ) → 6 * n ≤ length xs → numbers (rowsIn n xs) ≡ take (6 * n) xs
+unfolding rowsIn numbers
+numbers-back zero xs h = refl
+numbers-back (suc n) xs h =
+    let all : 6 + 6 * n ≡ 6 * suc n = omega arith in
+    let here : 6 ≤ length xs = omega arith in
+    let rest : 6 * n ≤ length (drop 6 xs) = simp length-drop (omega arith) in
+    (λ i. six-back xs here i ++ numbers-back n (drop 6 xs) rest i) ∙ sym (take-add 6 (6 * n) xs) ∙ ap (λ (k : ℕ). take k xs) all
+
+-- the rows of an accepted trace are read back from the slice that the call leaves
+pub rows-left-back : (rows : List Row) (xs : List ℕ) → rowsIn (length rows) (rowsLeft (accepted rows) xs) ≡ rows
+rows-left-back rows xs = rows-back rows (replicate (length xs - 6 * length rows) 0)

@@ -1,0 +1,60 @@
+-- A slice with six numbers a row: one row laid down, one row tested; and a slice that is cleared. Assumes nothing.
+use Prim.Native.Nat.{ℕ, _+_, _≤_}
+use native.Mathlib.Nat.{add-zero}
+use native.Mathlib.Numerals.{add-one, add-two, add-three, add-four, add-five}
+use native.Mathlib.Omega.{arith}
+use mathlib.Core.Path.{_≡_, ap, _∙_}
+use mathlib.Core.Bool.{Bool, true, false, not}
+use mathlib.Core.List.{List, _++_, append-nil, append-assoc}
+use lib.ListN.{length, getD, take, drop, set, replicate, length-append, length-drop, length-replicate, drop-of-length-le}
+use lib.Seq.{sets-eq, getD-drop}
+use lib.Dec.{eqb}
+use borrow.Author.Tests.{eq-eqb, ne-eqb}
+use Rattle.trace.specs.declared.Row.{Row}
+use Rattle.trace.specs.Rows.{six, rowHere}
+use Rattle.trace.specs.Reads.{matches}
+
+-- a list that is 0 up to its end
+pub cleared : (d : List ℕ) {l : List ℕ} {i : ℕ} → l ≡ replicate i 0 ++ drop i d → length l ≡ length d → length l ≤ i → l ≡ replicate (length d) 0
+cleared d {l} {i} e s h =
+    let n : i ≡ length d = omega (arith, simp (length-append, length-replicate, length-drop) at (ap length e)) in
+    let m : length d ≤ i = omega arith in
+    e ∙ (λ j. replicate (n j) 0 ++ drop-of-length-le d m j) ∙ append-nil (replicate (length d) 0)
+
+-- six stores lay a row down
+pub laid : (l : List ℕ) (at : ℕ) (r : Row) → at + 6 ≤ length l →
+    set (set (set (set (set (set l at (r .process)) (at + 1) (r .kind)) (at + 2) (r .file)) (at + 3) (r .offset)) (at + 4) (r .length)) (at + 5) (r .message)
+    ≡ take at l ++ (six r ++ drop (at + 6) l)
+unfolding six
+laid l at r h =
+    rw (add-one, add-two, add-three, add-four, add-five) (sets-eq (six r) l at h ∙ append-assoc (take at l) (six r) (drop (at + 6) l))
+
+module _ (rows : List ℕ) (at : ℕ) where
+  -- the numbers of the row at a place
+  kind-at : rowHere (drop at rows) .kind ≡ getD rows (at + 1) 0
+  unfolding rowHere
+  kind-at = getD-drop at rows 1 0
+
+  message-at : rowHere (drop at rows) .message ≡ getD rows (at + 5) 0
+  unfolding rowHere
+  message-at = getD-drop at rows 5 0
+
+  process-at : rowHere (drop at rows) .process ≡ getD rows at 0
+  unfolding rowHere
+  process-at = getD-drop at rows 0 0 ∙ ap (λ (k : ℕ). getD rows k 0) (add-zero at)
+
+  -- whether it matches: by its kind, its message, and its process where another's is asked for
+  module _ (kind message process : ℕ) (other : Bool) where
+    pub other-kind : (getD rows (at + 1) 0 ≡ kind → ⊥) → false ≡ matches kind message process other (rowHere (drop at rows))
+    other-kind k = rw (kind-at, ne-eqb (getD rows (at + 1) 0) kind k)
+
+    module _ (k : getD rows (at + 1) 0 ≡ kind) where
+      pub other-message : (getD rows (at + 5) 0 ≡ message → ⊥) → false ≡ matches kind message process other (rowHere (drop at rows))
+      other-message m = rw (kind-at, eq-eqb (getD rows (at + 1) 0) kind k, message-at, ne-eqb (getD rows (at + 5) 0) message m)
+
+      module _ (m : getD rows (at + 5) 0 ≡ message) where
+        pub any-process : other ≡ false → true ≡ matches kind message process other (rowHere (drop at rows))
+        any-process o = rw (kind-at, eq-eqb (getD rows (at + 1) 0) kind k, message-at, eq-eqb (getD rows (at + 5) 0) message m, o)
+
+        pub by-process : other ≡ true → not (eqb (getD rows at 0) process) ≡ matches kind message process other (rowHere (drop at rows))
+        by-process o = rw (kind-at, eq-eqb (getD rows (at + 1) 0) kind k, message-at, eq-eqb (getD rows (at + 5) 0) message m, o, process-at)

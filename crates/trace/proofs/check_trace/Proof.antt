@@ -1,0 +1,169 @@
+-- `trace::check_trace` meets its contract. Assumes nothing.
+use borrow.Author.Needs.{needs}
+use Rattle.trace.proofs.Whole.{call-passed, call-refused, first-three, accepted-told, refused-told, leaves-all, leaves-none, leaves-rows, rows-in}
+use Rattle.trace.proofs.Laws.{legal, refused-from-four}
+use Rattle.trace.specs.Questions.{checkTrace, checkedOf, Holds}
+use Rattle.csv.specs.Reading.{records}
+use denote.Ref.{now}
+use lib.ListN.{length, replicate}
+use Prim.Native.Nat.{ℕ}
+use native.Mathlib.Omega.{arith}
+use mathlib.Core.Path.{sym, ap, _∙_}
+use Rattle.trace.proofs.check_trace.Statement.{statement}
+use Rattle.trace.proofs.check_trace.Tie as tie
+
+ask-call-requires : tie.Need-ask-call-requires
+ask-call-requires c κs = search needs
+
+returns : tie.Need-returns
+returns c =
+    let a = c .before .before .before .before .before .args in
+    leaves-all (now (a .rows)) (now (a .counts)) (call-refused (now (a .text)) (a .header) (a .model) (a .row-limit) (a .process-limit)
+    (a .byte-limit) (length (now (a .rows))) (length (now (a .counts))) (c .before .ask-call .ensures) (c .if1 .taken))
+    (first-three (now (a .text)) (a .header) (a .model) (a .row-limit) (a .process-limit) (a .byte-limit) (length (now (a .rows)))
+    (length (now (a .counts))) (c .before .ask-call .ensures))
+
+clear-counts-requires : tie.Need-clear-counts-requires
+clear-counts-requires c κs = search needs
+
+read-trace-requires : tie.Need-read-trace-requires
+read-trace-requires c κs =
+    let a = c .before .before .before .before .before .before .before .before .before .before .args in
+    let l = legal (a .header) (a .model) (a .row-limit) (a .process-limit) (length (now (a .rows))) (length (now (a .counts)))
+    (sym (c .before .before .before .before .before .before .ask-call .ensures) ∙ c .before .before .before .before .before .if1 .left) in
+    (l .few-rows, l .rows-fit, l .some-processes)
+
+enum-known-n : tie.Need-enum-known-n
+enum-known-n c = search needs
+
+cast-end : tie.Need-cast-end
+cast-end c = search needs
+
+mul-end : tie.Need-mul-end
+mul-end c =
+    let a = c .before .before .before .before .before .before .before .before .before .before .before .before .before .before .before .before .args in
+    let p = call-passed (now (a .text)) (a .header) (a .model) (a .row-limit) (a .process-limit) (a .byte-limit) (length (now (a .rows)))
+    (length (now (a .counts))) (c .before .before .before .before .before .before .before .before .before .before .before .before .ask-call .ensures) (c .before .before .before .before .before .before .before .before .before .before .before .if1 .left) in
+    let o = checkTrace (now (a .text)) (a .header) (a .model) (a .row-limit) (a .process-limit) (a .byte-limit) (length (now (a .rows)))
+    (length (now (a .counts))) in
+    let ys = c .before .before .before .before .before .read-trace .last .1 .1 .1 .1 .1 .0 in
+    let t = accepted-told o (sym (c .before .n .given .1) ∙ c .before .before .before .before .before .read-trace .ensures .0
+    ∙ ap checkedOf (sym p)) in
+    let h : Holds o (now (a .rows)) ys = rw p (c .before .before .before .before .before .read-trace .ensures .1) in
+    omega (arith, rows-in (now (a .rows)) (now (a .counts)) ys t h)
+
+mul-clear-rows : tie.Need-mul-clear-rows
+mul-clear-rows c =
+    let a = c .before .before .before .before .before .before .before .before .before .before .before .before .before .before .before .before .args in
+    let p = call-passed (now (a .text)) (a .header) (a .model) (a .row-limit) (a .process-limit) (a .byte-limit) (length (now (a .rows)))
+    (length (now (a .counts))) (c .before .before .before .before .before .before .before .before .before .before .before .before .ask-call .ensures) (c .before .before .before .before .before .before .before .before .before .before .before .if1 .left) in
+    let o = checkTrace (now (a .text)) (a .header) (a .model) (a .row-limit) (a .process-limit) (a .byte-limit) (length (now (a .rows)))
+    (length (now (a .counts))) in
+    let ys = c .before .before .before .before .before .read-trace .last .1 .1 .1 .1 .1 .0 in
+    let t = accepted-told o (sym (c .before .n .given .1) ∙ c .before .before .before .before .before .read-trace .ensures .0
+    ∙ ap checkedOf (sym p)) in
+    let h : Holds o (now (a .rows)) ys = rw p (c .before .before .before .before .before .read-trace .ensures .1) in
+    omega (arith, rows-in (now (a .rows)) (now (a .counts)) ys t h)
+
+sub-clear-rows : tie.Need-sub-clear-rows
+sub-clear-rows c =
+    let a = c .before .before .before .before .before .before .before .before .before .before .before .before .before .before .before .before .args in
+    let p = call-passed (now (a .text)) (a .header) (a .model) (a .row-limit) (a .process-limit) (a .byte-limit) (length (now (a .rows)))
+    (length (now (a .counts))) (c .before .before .before .before .before .before .before .before .before .before .before .before .ask-call .ensures) (c .before .before .before .before .before .before .before .before .before .before .before .if1 .left) in
+    let o = checkTrace (now (a .text)) (a .header) (a .model) (a .row-limit) (a .process-limit) (a .byte-limit) (length (now (a .rows)))
+    (length (now (a .counts))) in
+    let ys = c .before .before .before .before .before .read-trace .last .1 .1 .1 .1 .1 .0 in
+    let t = accepted-told o (sym (c .before .n .given .1) ∙ c .before .before .before .before .before .read-trace .ensures .0
+    ∙ ap checkedOf (sym p)) in
+    let h : Holds o (now (a .rows)) ys = rw p (c .before .before .before .before .before .read-trace .ensures .1) in
+    omega (arith, rows-in (now (a .rows)) (now (a .counts)) ys t h)
+
+part-clear-rows-start : tie.Need-part-clear-rows-start
+part-clear-rows-start c =
+    let a = c .before .before .before .before .before .before .before .before .before .before .before .before .before .before .before .before .args in
+    let p = call-passed (now (a .text)) (a .header) (a .model) (a .row-limit) (a .process-limit) (a .byte-limit) (length (now (a .rows)))
+    (length (now (a .counts))) (c .before .before .before .before .before .before .before .before .before .before .before .before .ask-call .ensures) (c .before .before .before .before .before .before .before .before .before .before .before .if1 .left) in
+    let o = checkTrace (now (a .text)) (a .header) (a .model) (a .row-limit) (a .process-limit) (a .byte-limit) (length (now (a .rows)))
+    (length (now (a .counts))) in
+    let ys = c .before .before .before .before .before .read-trace .last .1 .1 .1 .1 .1 .0 in
+    let t = accepted-told o (sym (c .before .n .given .1) ∙ c .before .before .before .before .before .read-trace .ensures .0
+    ∙ ap checkedOf (sym p)) in
+    let h : Holds o (now (a .rows)) ys = rw p (c .before .before .before .before .before .read-trace .ensures .1) in
+    omega (arith, rows-in (now (a .rows)) (now (a .counts)) ys t h)
+
+part-clear-rows-end : tie.Need-part-clear-rows-end
+part-clear-rows-end c = search needs
+
+clear-rows-requires : tie.Need-clear-rows-requires
+clear-rows-requires c κs = search needs
+
+enum-known-number : tie.Need-enum-known-number
+enum-known-number c = search needs
+
+clear-rows-requires-2 : tie.Need-clear-rows-requires-2
+clear-rows-requires-2 c κs = search needs
+
+same-length : tie.Need-same-length
+same-length c = search needs
+
+same-length-2 : tie.Need-same-length-2
+same-length-2 c = search needs
+
+returns-2 : tie.Need-returns-2
+returns-2 c =
+    let a = c .before .before .before .before .before .before .before .before .before .before .before .before .before .before .before .before .before .before .before .before .args in
+    let p = call-passed (now (a .text)) (a .header) (a .model) (a .row-limit) (a .process-limit) (a .byte-limit) (length (now (a .rows)))
+    (length (now (a .counts))) (c .before .before .before .before .before .before .before .before .before .before .before .before .before .before .before .before .ask-call .ensures) (c .before .before .before .before .before .before .before .before .before .before .before .before .before .before .before .if1 .left) in
+    let o = checkTrace (now (a .text)) (a .header) (a .model) (a .row-limit) (a .process-limit) (a .byte-limit) (length (now (a .rows)))
+    (length (now (a .counts))) in
+    let ys = c .before .before .before .before .before .before .before .before .before .read-trace .last .1 .1 .1 .1 .1 .0 in
+    let t = accepted-told o (sym (c .before .before .before .before .before .n .given .1)
+    ∙ c .before .before .before .before .before .before .before .before .before .read-trace .ensures .0 ∙ ap checkedOf (sym p)) in
+    let h : Holds o (now (a .rows)) ys = rw p (c .before .before .before .before .before .before .before .before .before .read-trace .ensures .1) in
+    leaves-rows (now (a .rows)) (now (a .counts)) ys t h (c .before .before .clear-rows .ensures)
+    (c .before .before .before .before .before .before .before .before .before .before .before .before .before .clear-counts .ensures)
+
+same-length-3 : tie.Need-same-length-3
+same-length-3 c = search needs
+
+same-length-4 : tie.Need-same-length-4
+same-length-4 c = search needs
+
+returns-3 : tie.Need-returns-3
+returns-3 c =
+    let a = c .before .before .before .before .before .before .before .before .before .before .before .before .before .before .before .before .before .before .before .before .args in
+    let p = call-passed (now (a .text)) (a .header) (a .model) (a .row-limit) (a .process-limit) (a .byte-limit) (length (now (a .rows)))
+    (length (now (a .counts))) (c .before .before .before .before .before .before .before .before .before .before .before .before .before .before .before .before .ask-call .ensures) (c .before .before .before .before .before .before .before .before .before .before .before .before .before .before .before .if1 .left) in
+    let o = checkTrace (now (a .text)) (a .header) (a .model) (a .row-limit) (a .process-limit) (a .byte-limit) (length (now (a .rows)))
+    (length (now (a .counts))) in
+    let e = refused-told o (sym (c .before .before .before .before .before .number .given .1)
+    ∙ c .before .before .before .before .before .before .before .before .before .read-trace .ensures .0 ∙ ap checkedOf (sym p)) in
+    let four = refused-from-four (a .header) (a .row-limit) (a .process-limit) (records (now (a .text)) (a .byte-limit)) _ _ (sym p ∙ e) in
+    leaves-none (now (a .rows)) (now (a .counts)) e four (c .before .before .clear-rows2 .ensures ∙ ap (λ (k : ℕ). replicate k 0)
+    (c .before .before .before .before .before .before .before .before .before .read-trace .kept .1 .1 .1 .1 .1 .0))
+    (c .before .before .before .before .before .before .before .before .before .before .before .before .before .clear-counts .ensures)
+
+pub check-trace-spec : {M : Type 1} → statement M
+check-trace-spec =
+    tie.close
+    (tie.spec
+    ask-call-requires
+    returns
+    clear-counts-requires
+    read-trace-requires
+    enum-known-n
+    cast-end
+    mul-end
+    mul-clear-rows
+    sub-clear-rows
+    part-clear-rows-start
+    part-clear-rows-end
+    clear-rows-requires
+    enum-known-number
+    clear-rows-requires-2
+    same-length
+    same-length-2
+    returns-2
+    same-length-3
+    same-length-4
+    returns-3)

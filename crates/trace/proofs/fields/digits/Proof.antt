@@ -1,0 +1,108 @@
+-- `trace::fields::digits` meets its contract. Assumes nothing.
+use borrow.Author.Needs.{needs}
+use Rattle.trace.specs.Rows.{numberUpTo}
+use Rattle.trace.proofs.Judging.{refused, passed}
+use Rattle.trace.proofs.Numbers.{numberFrom, number-start, number-none, digit-low, digit-high, digit-on, digit-past, digits-end}
+use Prim.Native.Nat.{_-_, _≤_}
+use native.Mathlib.Omega.{arith}
+use mathlib.Core.Path.{_≡_, sym, _∙_}
+use lib.ListN.{length, drop}
+use denote.Ref.{now}
+use Rattle.trace.proofs.fields.digits.Statement.{statement}
+use Rattle.trace.proofs.fields.digits.Tie as tie
+
+abbrev Inv-loop : tie.InvT-loop
+Inv-loop s most v₀ i₀ v i = (v ≤ most) × (numberUpTo most s ≡ numberFrom most v (drop i s))
+
+abbrev μ-loop : tie.MeasureT-loop
+μ-loop s most v₀ i₀ v i = length s - i
+
+starts-plain-requires : tie.Need-starts-plain-requires Inv-loop μ-loop
+starts-plain-requires c κs = search needs
+
+returns : tie.Need-returns Inv-loop μ-loop
+returns c =
+    let a = c .before .before .before .args in
+    sym (number-none (a .most) (now (a .s)) (refused (c .before .starts-plain .ensures) (c .if1 .taken)))
+
+loop-holds : tie.Need-loop-holds Inv-loop μ-loop
+loop-holds c =
+    let a = c .before .before .before .args in
+    (omega arith, number-start (a .most) (now (a .s)) (passed (c .before .starts-plain .ensures) (c .if1 .left)))
+
+shared-slice-read-b : tie.Need-shared-slice-read-b Inv-loop μ-loop
+shared-slice-read-b c = search needs
+
+returns-2 : tie.Need-returns-2 Inv-loop μ-loop
+returns-2 c =
+    let a = c .before .before .before .before .before .before .before .args in
+    let l = c .before .before .before .loop in
+    sym (l .inv .1 ∙ digit-low (a .most) (l .v) (now (a .s)) (l .i) (c .before .before .loop-test .taken) (c .if2 .taken))
+
+returns-3 : tie.Need-returns-3 Inv-loop μ-loop
+returns-3 c =
+    let a = c .before .before .before .before .before .before .before .before .args in
+    let l = c .before .before .before .before .loop in
+    sym (l .inv .1 ∙ digit-high (a .most) (l .v) (now (a .s)) (l .i) (c .before .before .before .loop-test .taken) (c .if3 .taken))
+
+mul-v : tie.Need-mul-v Inv-loop μ-loop
+mul-v c = omega arith
+
+cast-v : tie.Need-cast-v Inv-loop μ-loop
+cast-v c = search needs
+
+add-v : tie.Need-add-v Inv-loop μ-loop
+add-v c = omega arith
+
+returns-4 : tie.Need-returns-4 Inv-loop μ-loop
+returns-4 c =
+    let d = c .before .before in
+    let t = d .before .before in
+    let a = t .before .before .before .before .before .args in
+    let l = t .before .loop in
+    sym (l .inv .1 ∙ digit-past (a .most) (l .v) (now (a .s)) (l .i) (t .loop-test .taken) (d .if2 .left) (c .before .if3 .left) (c .if4 .taken))
+
+add-i : tie.Need-add-i Inv-loop μ-loop
+add-i c = search needs
+
+loop-less : tie.Need-loop-less Inv-loop μ-loop
+loop-less c = omega arith
+
+loop-again : tie.Need-loop-again Inv-loop μ-loop
+loop-again c =
+    let d = c .before .before in
+    let t = d .before .before in
+    let a = t .before .before .before .before .before .args in
+    let l = t .before .loop in
+    (c .if4 .left, l .inv .1 ∙ digit-on (a .most) (l .v) (now (a .s)) (l .i) (t .loop-test .taken) (d .if2 .left) (c .before .if3 .left))
+
+cast-t14 : tie.Need-cast-t14 Inv-loop μ-loop
+cast-t14 c = omega arith
+
+returns-5 : tie.Need-returns-5 Inv-loop μ-loop
+returns-5 c =
+    let a = c .before .before .before .before .before .args in
+    let l = c .before .loop in
+    sym (l .inv .1 ∙ digits-end (a .most) (l .v) (now (a .s)) (l .i) (c .loop-test .left) (l .inv .0))
+
+pub digits-spec : {M : Type 1} → statement M
+digits-spec =
+    tie.close
+    (tie.spec
+    Inv-loop
+    μ-loop
+    starts-plain-requires
+    returns
+    loop-holds
+    shared-slice-read-b
+    returns-2
+    returns-3
+    mul-v
+    cast-v
+    add-v
+    returns-4
+    add-i
+    loop-less
+    loop-again
+    cast-t14
+    returns-5)

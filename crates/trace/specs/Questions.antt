@@ -1,0 +1,200 @@
+-- The questions put to an input, each one definition, in document 01's order; the first No decides.
+use Prim.Native.Nat.{ℕ, zero, suc, _+_, _*_, _-_}
+use mathlib.Core.Bool.{Bool, true, false, cond, not, _&&_, _||_}
+use mathlib.Core.List.{List, [], _∷_, _++_}
+use mathlib.Core.Path.{_≡_}
+use lib.ListN.{length, drop, replicate}
+use lib.Dec.{leb, ltb, eqb}
+use Rattle.csv.specs.Reading.{isNil, records, Records, Ending, all-read, at-malformed, at-limit}
+use Rattle.models.specs.Limits.{MODELS, PROCESSES, ROWS, FILES, MESSAGES, OFFSET-MAX}
+use Rattle.trace.specs.declared.Row.{Row}
+use Rattle.trace.specs.declared.Checked.{Checked}
+use Rattle.trace.specs.declared.Checked.the-variants.{Accepted, Refused}
+use Rattle.trace.specs.Rows.{SEND, RECV, KINDS, kindOf, headerNames, sameFields, usedBy, isNumber, value, field, rowOf, numbers}
+
+-- a question's number and its answer
+pub record Question : Type 0 where
+  pub number : ℕ
+  pub yes : Bool
+
+-- the number of the first No, and 0 where every answer is Yes
+unfoldable pub firstNo : List Question → ℕ
+firstNo [] = 0
+firstNo (q ∷ qs) = cond (q .yes) (firstNo qs) (q .number)
+
+-- ---- First, of the caller's numbers and slices
+
+-- 1. Are the lent slices long enough (6 × row limit; row limit × process limit)?
+abbrev pub longEnough : ℕ → ℕ → ℕ → ℕ → Bool
+longEnough rowLimit processLimit rowsLength countsLength =
+    leb (6 * rowLimit) rowsLength && leb (rowLimit * processLimit) countsLength
+
+-- 2. Are model 0 to 3, row limit 1 to 4,096, process limit 1 to 64?
+abbrev pub inLimits : ℕ → ℕ → ℕ → Bool
+inLimits model rowLimit processLimit =
+    ltb model MODELS && (leb 1 rowLimit && (leb rowLimit ROWS && (leb 1 processLimit && leb processLimit PROCESSES)))
+
+-- 3. Is the header word 0 (absent) or 1 (present)?
+abbrev pub headerWord : ℕ → Bool
+headerWord header = leb header 1
+
+unfoldable pub callQuestions : ℕ → ℕ → ℕ → ℕ → ℕ → ℕ → List Question
+callQuestions header model rowLimit processLimit rowsLength countsLength =
+    record { number = 1; yes = longEnough rowLimit processLimit rowsLength countsLength }
+    ∷ (record { number = 2; yes = inLimits model rowLimit processLimit }
+    ∷ (record { number = 3; yes = headerWord header } ∷ []))
+
+-- ---- Then of each record. 4, whether it is well formed, is answered by reading it.
+
+-- 5. Has the header the six names in order?
+abbrev pub isHeader : List (List ℕ) → Bool
+isHeader fields = sameFields fields headerNames
+
+-- 6. Is the row's number within the row limit? `before` counts the rows before it.
+abbrev pub inRowLimit : ℕ → ℕ → Bool
+inRowLimit rowLimit before = ltb before rowLimit
+
+-- 7. Are there six fields?
+abbrev pub sixFields : List (List ℕ) → Bool
+sixFields fields = eqb (length fields) 6
+
+-- 8. Is the kind known?
+abbrev pub kindKnown : List (List ℕ) → Bool
+kindKnown fields = ltb (kindOf (field fields 1)) KINDS
+
+-- filled where used, and empty where not
+abbrev pub asUsed : Bool → List ℕ → Bool
+asUsed true content = not (isNil content)
+asUsed false content = isNil content
+
+-- 9. Are the used fields filled and the unused empty?
+unfoldable pub filledAsUsed : List (List ℕ) → Bool
+filledAsUsed fields =
+    let u = usedBy (kindOf (field fields 1)) in
+    asUsed true (field fields 0)
+    && (asUsed (u .file) (field fields 2)
+    && (asUsed (u .range) (field fields 3) && (asUsed (u .range) (field fields 4) && asUsed (u .message) (field fields 5))))
+
+-- a field that is not used has no number to judge
+abbrev pub numberIf : Bool → ℕ → List ℕ → Bool
+numberIf true most content = isNumber most content
+numberIf false most content = true
+
+-- 10. Is each number plain and within its range?
+unfoldable pub numbersInRange : ℕ → List (List ℕ) → Bool
+numbersInRange processLimit fields =
+    let u = usedBy (kindOf (field fields 1)) in
+    isNumber (processLimit - 1) (field fields 0)
+    && (numberIf (u .file) (FILES - 1) (field fields 2)
+    && (numberIf (u .range) OFFSET-MAX (field fields 3)
+    && (numberIf (u .range) OFFSET-MAX (field fields 4) && numberIf (u .message) (MESSAGES - 1) (field fields 5))))
+
+-- 11. Is offset + length at most 4,294,967,295?
+abbrev pub endInRange : Row → Bool
+endInRange r = leb (r .offset + r .length) OFFSET-MAX
+
+-- some row passes a test
+unfoldable pub any : (Row → Bool) → List Row → Bool
+any test [] = false
+any test (r ∷ rs) = test r || any test rs
+
+-- a row of this kind with this message
+abbrev pub carries : ℕ → ℕ → Row → Bool
+carries kind message r = eqb (r .kind) kind && eqb (r .message) message
+
+abbrev pub sent : ℕ → List Row → Bool
+sent message rows = any (carries SEND message) rows
+
+abbrev pub sentByOther : ℕ → ℕ → List Row → Bool
+sentByOther process message rows = any (λ r. carries SEND message r && not (eqb (r .process) process)) rows
+
+abbrev pub received : ℕ → List Row → Bool
+received message rows = any (carries RECV message) rows
+
+-- 12. Is a send's message unsent so far; was a recv's sent earlier by another process and not yet received?
+unfoldable pub messageInOrder : List Row → Row → Bool
+messageInOrder earlier r =
+    cond (eqb (r .kind) SEND) (not (sent (r .message) earlier))
+    (cond (eqb (r .kind) RECV) (sentByOther (r .process) (r .message) earlier && not (received (r .message) earlier)) true)
+
+-- the questions 8 to 11
+unfoldable pub fieldQuestions : ℕ → List (List ℕ) → List Question
+fieldQuestions processLimit fields =
+    record { number = 8; yes = kindKnown fields }
+    ∷ (record { number = 9; yes = filledAsUsed fields }
+    ∷ (record { number = 10; yes = numbersInRange processLimit fields }
+    ∷ (record { number = 11; yes = endInRange (rowOf fields) } ∷ [])))
+
+-- all questions put to a row's record, behind the rows before it
+unfoldable pub rowQuestions : ℕ → ℕ → List Row → List (List ℕ) → List Question
+rowQuestions rowLimit processLimit earlier fields =
+    record { number = 6; yes = inRowLimit rowLimit (length earlier) }
+    ∷ (record { number = 7; yes = sixFields fields }
+    ∷ (fieldQuestions processLimit fields ++ (record { number = 12; yes = messageInOrder earlier (rowOf fields) } ∷ [])))
+
+-- ---- What an input comes to
+
+-- a refusal's number and place, or the rows of an accepted trace
+pub data Outcome : Type 0 where
+  refused : (number place : ℕ) → Outcome
+  accepted : List Row → Outcome
+
+-- the rest of the records behind the rows before them, and how the text ends; a record that meets the byte limit gets 6
+unfoldable pub judgeRows : ℕ → ℕ → List Row → List (List (List ℕ)) → Ending → Outcome
+judgeRows rowLimit processLimit rows [] all-read = accepted rows
+judgeRows rowLimit processLimit rows [] at-malformed = refused 4 (length rows + 1)
+judgeRows rowLimit processLimit rows [] at-limit = refused 6 (length rows + 1)
+judgeRows rowLimit processLimit rows (fields ∷ rest) ending =
+    let first = firstNo (rowQuestions rowLimit processLimit rows fields) in
+    cond (eqb first 0) (judgeRows rowLimit processLimit (rows ++ (rowOf fields ∷ [])) rest ending) (refused first (length rows + 1))
+
+-- the first record as the header, at place 0; one that meets the byte limit gets 5, and so does a text without records
+unfoldable pub judgeHeader : ℕ → ℕ → List (List (List ℕ)) → Ending → Outcome
+judgeHeader rowLimit processLimit [] all-read = refused 5 0
+judgeHeader rowLimit processLimit [] at-malformed = refused 4 0
+judgeHeader rowLimit processLimit [] at-limit = refused 5 0
+judgeHeader rowLimit processLimit (fields ∷ rest) ending =
+    cond (isHeader fields) (judgeRows rowLimit processLimit [] rest ending) (refused 5 0)
+
+-- a text whose header word is 0 or 1
+unfoldable pub readTrace : ℕ → ℕ → ℕ → Records → Outcome
+readTrace header rowLimit processLimit r =
+    cond (eqb header 0) (judgeRows rowLimit processLimit [] (r .rows) (r .ending)) (judgeHeader rowLimit processLimit (r .rows) (r .ending))
+
+-- the whole call
+unfoldable pub checkTrace : List ℕ → ℕ → ℕ → ℕ → ℕ → ℕ → ℕ → ℕ → Outcome
+checkTrace text header model rowLimit processLimit byteLimit rowsLength countsLength =
+    let first = firstNo (callQuestions header model rowLimit processLimit rowsLength countsLength) in
+    cond (eqb first 0) (readTrace header rowLimit processLimit (records text byteLimit)) (refused first 0)
+
+-- ---- What a call answers and leaves
+
+-- the number and place of a refusal, or the row count
+abbrev pub checkedOf : Outcome → Checked
+checkedOf (refused number place) = Refused number place
+checkedOf (accepted rows) = Accepted (length rows)
+
+-- the rows of an accepted trace stand at the front of a slice that was xs, and the rest of it is as it was
+abbrev pub Holds : Outcome → List ℕ → List ℕ → Type 0
+Holds (refused number place) xs ys = Unit {0}
+Holds (accepted rows) xs ys = ys ≡ numbers rows ++ drop (6 * length rows) xs
+
+-- refusals 1 to 3 keep every slice; the others fill both with 0 to their ends
+abbrev pub refusalLeaves : ℕ → List ℕ → List ℕ
+refusalLeaves number xs = cond (leb number 3) xs (replicate (length xs) 0)
+
+-- the rows of an accepted trace, then 0 to the end
+abbrev pub rowsLeft : Outcome → List ℕ → List ℕ
+rowsLeft (refused number place) xs = refusalLeaves number xs
+rowsLeft (accepted rows) xs = numbers rows ++ replicate (length xs - 6 * length rows) 0
+
+-- the counts' slice is cleared for whoever fills it
+abbrev pub countsLeft : Outcome → List ℕ → List ℕ
+countsLeft (refused number place) xs = refusalLeaves number xs
+countsLeft (accepted rows) xs = replicate (length xs) 0
+
+-- what a call answers, and what it leaves of the rows' slice and of the counts'
+pub record Leaves (o : Outcome) (answer : Checked) (rows rows′ counts counts′ : List ℕ) : Type 0 where
+  pub answered : answer ≡ checkedOf o
+  pub rows-left : rows′ ≡ rowsLeft o rows
+  pub counts-left : counts′ ≡ countsLeft o counts

@@ -1,0 +1,184 @@
+// Traces: rows of file operations, read from RFC 4180 text into slices that the caller lends, and the questions that an input is asked.
+mod fields;
+mod rows;
+
+ghost use mathlib.Core.Path.{_≡_};
+ghost use Prim.Native.Nat.{_≤_, _<_, _*_};
+ghost use lib.ListN.{length, replicate};
+ghost use Rattle.csv.specs.Reading.{records};
+ghost use Rattle.trace.specs.Questions.{firstNo, callQuestions, readTrace, checkTrace, checkedOf, Holds, Leaves};
+ghost use Rattle.trace.specs.Reads.{fieldsOf, headed};
+use csv::Answer;
+use csv::Span;
+
+// A row: six numbers in field order. Fields that the kind does not use are 0.
+pub struct Row {
+    pub process: u32,
+    pub kind: u32,
+    pub file: u32,
+    pub offset: u32,
+    pub length: u32,
+    pub message: u32,
+}
+
+// The answer to a trace: its row count, or the number of the question that was answered No and the record's place.
+pub enum Checked {
+    Accepted(u32),
+    Refused(u32, u32),
+}
+
+// Reads a trace into the lent rows, six numbers each, and clears the lent counts. Questions 1 to 3 come first and their refusals keep both
+// slices; any other refusal leaves both filled with 0, and an accepted trace leaves its rows and 0 behind them.
+pub fn check_trace(
+    text: &[u8],
+    header: u32,
+    model: u32,
+    row_limit: u32,
+    process_limit: u32,
+    byte_limit: usize,
+    rows: &mut [u32],
+    counts: &mut [u16],
+) -> Checked
+    ensures { λ r. ⌜ Leaves
+        (checkTrace (now (text .entry)) header model «row_limit» «process_limit» «byte_limit» (length (now (rows .entry))) (length (now (counts .entry))))
+        r (now (rows .entry)) (now (rows .exit)) (now (counts .entry)) (now (counts .exit)) ⌝ }
+{
+    let no = ask_call(
+        header,
+        model,
+        row_limit,
+        process_limit,
+        rows.len(),
+        counts.len(),
+    );
+    if no != 0 {
+        return Checked::Refused(no, 0);
+    }
+    clear_counts(counts);
+    match read_trace(text, header, row_limit, process_limit, byte_limit, rows) {
+        Checked::Accepted(n) => {
+            let end = n as usize * 6;
+            clear_rows(&mut rows[end..]);
+            Checked::Accepted(n)
+        }
+        Checked::Refused(number, place) => {
+            clear_rows(rows);
+            Checked::Refused(number, place)
+        }
+    }
+}
+
+// The questions 1 to 3.
+fn ask_call(
+    header: u32,
+    model: u32,
+    row_limit: u32,
+    process_limit: u32,
+    rows_len: usize,
+    counts_len: usize,
+) -> u32
+    ensures { λ r. ⌜ r ≡ firstNo (callQuestions header model «row_limit» «process_limit» «rows_len» «counts_len») ⌝ }
+{
+    if (rows_len as u64) < row_limit as u64 * 6 {
+        return 1;
+    }
+    if (counts_len as u64) < row_limit as u64 * process_limit as u64 {
+        return 1;
+    }
+    if models::MODELS <= model {
+        return 2;
+    }
+    if row_limit < 1 {
+        return 2;
+    }
+    if models::ROWS < row_limit {
+        return 2;
+    }
+    if process_limit < 1 {
+        return 2;
+    }
+    if models::PROCESSES < process_limit {
+        return 2;
+    }
+    if 1 < header {
+        return 3;
+    }
+    0
+}
+
+fn clear_rows(rows: &mut [u32])
+    ensures { λ r. ⌜ now (rows .exit) ≡ replicate (length (now (rows .entry))) 0 ⌝ }
+{
+    let mut at = 0;
+    while at < rows.len() {
+        rows[at] = 0;
+        at += 1;
+    }
+}
+
+fn clear_counts(counts: &mut [u16])
+    ensures { λ r. ⌜ now (counts .exit) ≡ replicate (length (now (counts .entry))) 0 ⌝ }
+{
+    let mut i = 0;
+    while i < counts.len() {
+        counts[i] = 0;
+        i += 1;
+    }
+}
+
+// The questions 4 to 12, the header's first where there is one.
+fn read_trace(
+    text: &[u8],
+    header: u32,
+    row_limit: u32,
+    process_limit: u32,
+    byte_limit: usize,
+    rows: &mut [u32],
+) -> Checked
+    requires { ⌜ («row_limit» ≤ 4096) × (6 * «row_limit» ≤ length (now rows)) × (0 < «process_limit») ⌝ }
+    ensures answer { λ r. ⌜ r ≡ checkedOf (readTrace header «row_limit» «process_limit» (records (now (text .entry)) «byte_limit»)) ⌝ }
+    ensures held { λ r. ⌜ Holds (readTrace header «row_limit» «process_limit» (records (now (text .entry)) «byte_limit»)) (now (rows .entry)) (now (rows .exit)) ⌝ }
+{
+    if header == 0 {
+        return rows::read_rows(text, 0, row_limit, process_limit, byte_limit, rows);
+    }
+    let r = csv::read_record(text, 0, byte_limit);
+    let answer = r.answer;
+    match answer {
+        Answer::End => Checked::Refused(5, 0),
+        Answer::Malformed => Checked::Refused(4, 0),
+        Answer::Limit => Checked::Refused(5, 0),
+        Answer::Record => {
+            let spans = r.spans;
+            if !is_header(text, r.count, spans) {
+                return Checked::Refused(5, 0);
+            }
+            rows::read_rows(text, r.next, row_limit, process_limit, byte_limit, rows)
+        }
+    }
+}
+
+// The record has the six names of the header in order.
+fn is_header(text: &[u8], count: usize, spans: [Span; 6]) -> bool
+    ensures { λ r. ⌜ r ≡ headed count (fieldsOf (now (text .entry)) spans) ⌝ }
+{
+    if count != 6 {
+        return false;
+    }
+    if !csv::content::is_word(text, spans[0], b"process") {
+        return false;
+    }
+    if !csv::content::is_word(text, spans[1], b"kind") {
+        return false;
+    }
+    if !csv::content::is_word(text, spans[2], b"file") {
+        return false;
+    }
+    if !csv::content::is_word(text, spans[3], b"offset") {
+        return false;
+    }
+    if !csv::content::is_word(text, spans[4], b"length") {
+        return false;
+    }
+    csv::content::is_word(text, spans[5], b"message")
+}
