@@ -1,0 +1,38 @@
+// The library for C and Rust. Numbers pass as themselves, and a slice as a pointer and then its length.
+ghost use mathlib.Core.Path.{_≡_};
+ghost use lib.ListN.{length};
+ghost use Rattle.trace.specs.Questions.{checkTrace};
+ghost use Rattle.kiqsaryn.specs.Packing.{Gives};
+use trace::Checked;
+
+// Checks a trace, as trace::check_trace does. The answer is the row count of an accepted trace, below 2^32, and of a refusal its number
+// times 2^32 plus its place.
+#[no_mangle]
+pub extern "C" fn kiqsaryn_check_trace(
+    text: &[u8],
+    header: u32,
+    model: u32,
+    row_limit: u32,
+    process_limit: u32,
+    byte_limit: usize,
+    rows: &mut [u32],
+    counts: &mut [u16],
+) -> u64
+    ensures { λ r. ⌜ Gives
+        (checkTrace (now (text .entry)) header model «row_limit» «process_limit» «byte_limit» (length (now (rows .entry))) (length (now (counts .entry))))
+        r (now (rows .entry)) (now (rows .exit)) (now (counts .entry)) (now (counts .exit)) ⌝ }
+{
+    match trace::check_trace(
+        text,
+        header,
+        model,
+        row_limit,
+        process_limit,
+        byte_limit,
+        rows,
+        counts,
+    ) {
+        Checked::Accepted(n) => n as u64,
+        Checked::Refused(number, place) => number as u64 * 4294967296 + place as u64,
+    }
+}

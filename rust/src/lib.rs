@@ -1,0 +1,67 @@
+//! The proved library, for Rust: each call takes slices as they are and is total.
+
+mod ffi {
+    extern "C" {
+        #[allow(clippy::too_many_arguments)]
+        pub fn kiqsaryn_check_trace(
+            text: *const u8,
+            text_len: usize,
+            header: u32,
+            model: u32,
+            row_limit: u32,
+            process_limit: u32,
+            byte_limit: usize,
+            rows: *mut u32,
+            rows_len: usize,
+            counts: *mut u16,
+            counts_len: usize,
+        ) -> u64;
+    }
+}
+
+/// What a trace comes to.
+#[derive(Clone, Copy, Debug, PartialEq, Eq)]
+pub enum Checked {
+    /// The number of rows.
+    Accepted(u32),
+    /// The question that was answered No, and the record's place: 0 for the header, rows from 1.
+    Refused { number: u32, place: u32 },
+}
+
+/// How a trace is to be read.
+#[derive(Clone, Copy, Debug)]
+pub struct Settings {
+    /// 0: the first record is row 1. 1: it is the header.
+    pub header: u32,
+    pub model: u32,
+    pub row_limit: u32,
+    pub process_limit: u32,
+    /// No byte past it is looked at; `usize::MAX` for none.
+    pub byte_limit: usize,
+}
+
+/// Reads a trace into the lent rows, six numbers each.
+pub fn check_trace(text: &[u8], s: Settings, rows: &mut [u32], counts: &mut [u16]) -> Checked {
+    // The three slices are live for the call, and the two lent for writing are borrowed by it alone.
+    let answer = unsafe {
+        ffi::kiqsaryn_check_trace(
+            text.as_ptr(),
+            text.len(),
+            s.header,
+            s.model,
+            s.row_limit,
+            s.process_limit,
+            s.byte_limit,
+            rows.as_mut_ptr(),
+            rows.len(),
+            counts.as_mut_ptr(),
+            counts.len(),
+        )
+    };
+    let (number, value) = ((answer >> 32) as u32, answer as u32);
+    if number == 0 {
+        Checked::Accepted(value)
+    } else {
+        Checked::Refused { number, place: value }
+    }
+}

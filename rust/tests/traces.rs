@@ -1,0 +1,60 @@
+//! Every vector of `vectors/traces.txt`: the answer and both slices whole.
+
+use kiqsaryn::{check_trace, Checked, Settings};
+
+fn bytes(hex: &str) -> Vec<u8> {
+    if hex == "-" {
+        return Vec::new();
+    }
+    (0..hex.len() / 2).map(|i| u8::from_str_radix(&hex[2 * i..2 * i + 2], 16).expect("hexadecimal")).collect()
+}
+
+fn numbers(line: &str) -> Vec<u32> {
+    line.split(' ').skip(1).filter(|w| !w.is_empty() && *w != "-").map(|w| w.parse().expect("a number")).collect()
+}
+
+/// A slice that holds these numbers, then 0.
+fn padded(front: &[u32], len: usize) -> Vec<u32> {
+    let mut all = front.to_vec();
+    all.resize(len, 0);
+    all
+}
+
+#[test]
+fn every_trace_vector() {
+    let path = concat!(env!("CARGO_MANIFEST_DIR"), "/../vectors/traces.txt");
+    let text = std::fs::read_to_string(path).expect("the vectors");
+    let lines: Vec<&str> = text.lines().collect();
+    let mut run = 0;
+    for (i, line) in lines.iter().enumerate().filter(|(_, l)| l.starts_with("T ")) {
+        let w: Vec<&str> = line.split(' ').collect();
+        let n = |k: usize| w[k].parse::<u32>().expect("a number");
+        let fill = n(8);
+        let settings = Settings {
+            header: n(2),
+            model: n(3),
+            row_limit: n(4),
+            process_limit: n(5),
+            byte_limit: if w[9] == "-" { usize::MAX } else { n(9) as usize },
+        };
+        let (rows_len, counts_len) = (n(6) as usize, n(7) as usize);
+        let mut rows = vec![fill; rows_len];
+        let mut counts = vec![fill as u16; counts_len];
+        let got = check_trace(&bytes(w[10]), settings, &mut rows, &mut counts);
+
+        let a: Vec<&str> = lines[i + 1].split(' ').collect();
+        let v = |k: usize| a[k].parse::<u32>().expect("a number");
+        if a[1] == "refused" {
+            let (number, place) = (v(2), v(3));
+            assert_eq!(got, Checked::Refused { number, place }, "vector {}", w[1]);
+            let left = if number <= 3 { fill } else { 0 };
+            assert!(rows.iter().all(|x| *x == left), "rows of vector {}", w[1]);
+            assert!(counts.iter().all(|x| u32::from(*x) == left), "counts of vector {}", w[1]);
+        } else {
+            assert_eq!(got, Checked::Accepted(v(2)), "vector {}", w[1]);
+            assert_eq!(rows, padded(&numbers(lines[i + 2]), rows_len), "rows of vector {}", w[1]);
+        }
+        run += 1;
+    }
+    assert_eq!(run, 600);
+}
