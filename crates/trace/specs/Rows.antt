@@ -5,40 +5,13 @@ use mathlib.Core.List.{List, [], _∷_, _++_}
 use lib.ListN.{getD, drop}
 use lib.Dec.{leb, eqb}
 use Rattle.csv.specs.Reading.{sameBytes, isNil, within}
+pub use Rattle.models.specs.Operations.{READ, WRITE, COMMIT, OPEN, CLOSE, SYNC, SEND, RECV, KINDS}
 use Rattle.trace.specs.declared.Row.{Row}
 use Rattle.trace.specs.declared.fields.Number.{Number}
 use Rattle.trace.specs.declared.fields.Number.the-variants.{Plain, Bad}
 use Rattle.trace.specs.declared.fields.Used.{Used}
 
 -- ---- Kinds
-
--- the kinds by their numbers, and how many there are
-abbrev pub READ : ℕ
-READ = 0
-
-abbrev pub WRITE : ℕ
-WRITE = 1
-
-abbrev pub COMMIT : ℕ
-COMMIT = 2
-
-abbrev pub OPEN : ℕ
-OPEN = 3
-
-abbrev pub CLOSE : ℕ
-CLOSE = 4
-
-abbrev pub SYNC : ℕ
-SYNC = 5
-
-abbrev pub SEND : ℕ
-SEND = 6
-
-abbrev pub RECV : ℕ
-RECV = 7
-
-abbrev pub KINDS : ℕ
-KINDS = 8
 
 -- the kinds' words, by number, in small letters
 abbrev pub kindWords : List (List ℕ)

@@ -116,7 +116,8 @@ fn clear_rows(rows: &mut [u32])
     }
 }
 
-fn clear_counts(counts: &mut [u16])
+// Clears a slice of counts.
+pub fn clear_counts(counts: &mut [u16])
     ensures { λ r. ⌜ now (counts .exit) ≡ replicate (length (now (counts .entry))) 0 ⌝ }
 {
     let mut i = 0;

@@ -1,0 +1,27 @@
+-- Which rows publish and which refresh, by model and kind.
+use Prim.Native.Nat.{ℕ, _+_}
+use mathlib.Core.Bool.{Bool, cond, _&&_, _||_}
+use lib.Dec.{eqb}
+use Rattle.models.specs.Operations.{READ, WRITE, COMMIT, OPEN, CLOSE, SYNC, POSIX, COMMIT-MODEL, SESSION, MPI-IO}
+
+-- a row of this kind under this model
+abbrev pub under : ℕ → ℕ → ℕ → ℕ → Bool
+under m k model kind = eqb model m && eqb kind k
+
+-- A row publishes: under POSIX a write, under commit a commit, under session a close, under MPI-IO a close or a sync.
+unfoldable pub publishes : ℕ → ℕ → Bool
+publishes model kind =
+    under POSIX WRITE model kind
+    || (under COMMIT-MODEL COMMIT model kind
+    || (under SESSION CLOSE model kind || (under MPI-IO CLOSE model kind || under MPI-IO SYNC model kind)))
+
+-- A row refreshes: under POSIX and commit a read, under session an open, under MPI-IO an open or a sync.
+unfoldable pub refreshes : ℕ → ℕ → Bool
+refreshes model kind =
+    under POSIX READ model kind
+    || (under COMMIT-MODEL READ model kind
+    || (under SESSION OPEN model kind || (under MPI-IO OPEN model kind || under MPI-IO SYNC model kind)))
+
+-- the mark of a row: 1 if it publishes, plus 2 if it refreshes
+abbrev pub markOf : ℕ → ℕ → ℕ
+markOf model kind = cond (publishes model kind) 1 0 + cond (refreshes model kind) 2 0
