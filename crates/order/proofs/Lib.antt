@@ -1,0 +1,5 @@
+pub mod Below
+pub mod Clocks
+pub mod Cells
+pub mod Joins
+pub mod Filling

@@ -1,0 +1,75 @@
+-- Happens-before, and the counts of every row by their meaning. Rows are named by their places, from 0; row numbers are one more.
+use Prim.Native.Nat.{ℕ, zero, suc, _-_, _*_}
+use mathlib.Core.Path.{_≡_}
+use mathlib.Core.Bool.{Bool, true, false, cond, _&&_, _||_}
+use mathlib.Core.List.{List, [], _∷_, _++_}
+use lib.ListN.{length, getD, replicate}
+use lib.Dec.{leb, ltb, eqb}
+use Rattle.models.specs.Limits.{ROWS, PROCESSES}
+use Rattle.trace.specs.declared.Row.{Row}
+use Rattle.trace.specs.Rows.{SEND, RECV, rowsIn}
+use Rattle.order.specs.Counting.{anyBelow, countBelow, values, blocks}
+use Rattle.order.specs.declared.Filled.{Filled}
+use Rattle.order.specs.declared.Filled.the-variants.{Done, Refused}
+
+-- the row at a place
+abbrev pub noRow : Row
+noRow = record { process = 0; kind = 0; file = 0; offset = 0; length = 0; message = 0 }
+
+abbrev pub rowAt : List Row → ℕ → Row
+rowAt rows i = getD rows i noRow
+
+-- two rows of one process
+abbrev pub sameProcess : Row → Row → Bool
+sameProcess r s = eqb (r .process) (s .process)
+
+-- a send and a recv of its message
+abbrev pub delivers : Row → Row → Bool
+delivers r s = eqb (r .kind) SEND && (eqb (s .kind) RECV && eqb (r .message) (s .message))
+
+-- A direct edge from row i to row j: i stands before j in the trace, and both are of one process or j receives what i sends. No other
+-- definition knows of messages.
+unfoldable pub edge : List Row → ℕ → ℕ → Bool
+edge rows i j = ltb i j && (ltb j (length rows) && (sameProcess (rowAt rows i) (rowAt rows j) || delivers (rowAt rows i) (rowAt rows j)))
+
+-- happens-before: the transitive closure of direct edges
+pub data HB (edge : ℕ → ℕ → Bool) : ℕ → ℕ → Type 0 where
+  one : {i j : ℕ} → edge i j ≡ true → HB edge i j
+  more : {i k j : ℕ} → HB edge i k → edge k j ≡ true → HB edge i j
+
+-- its decision: a direct edge, or a last edge from a row below j; the first number bounds the edges, and j does
+unfoldable pub hbWithin : ℕ → (ℕ → ℕ → Bool) → ℕ → ℕ → Bool
+hbWithin zero edge i j = false
+hbWithin (suc n) edge i j = edge i j || anyBelow j (λ k. edge k j && hbWithin n edge i k)
+
+abbrev pub hb : (ℕ → ℕ → Bool) → ℕ → ℕ → Bool
+hb edge i j = hbWithin j edge i j
+
+-- row i happens before row j or is it
+abbrev pub upTo : (ℕ → ℕ → Bool) → ℕ → ℕ → Bool
+upTo edge i j = eqb i j || hb edge i j
+
+-- The count of process p at row j: how many rows of p happen before the row or are the row. (A row's counts are its vector clock.)
+unfoldable pub count : List Row → ℕ → ℕ → ℕ
+count rows p j = countBelow (length rows) (λ i. eqb (rowAt rows i .process) p && upTo (edge rows) i j)
+
+-- row after row, and in each row process after process up to the limit
+unfoldable pub countsOf : ℕ → List Row → List ℕ
+countsOf processLimit rows = blocks (length rows) (λ j. values processLimit (λ p. count rows p j))
+
+-- ---- What filling the counts answers and leaves
+
+-- the limits hold, and both slices are long enough
+abbrev pub fits : ℕ → ℕ → ℕ → ℕ → Bool
+fits n processLimit rowsLength countsLength =
+    leb n ROWS && (leb processLimit PROCESSES && (leb (6 * n) rowsLength && leb (n * processLimit) countsLength))
+
+abbrev pub filledOf : Bool → Filled
+filledOf true = Done
+filledOf false = Refused
+
+-- the counts of the first n rows, then 0 to the end; the slice as it was where it does not fit
+abbrev pub filledLeft : Bool → ℕ → ℕ → List ℕ → List ℕ → List ℕ
+filledLeft true n processLimit xs counts =
+    countsOf processLimit (rowsIn n xs) ++ replicate (length counts - n * processLimit) 0
+filledLeft false n processLimit xs counts = counts
