@@ -16,6 +16,15 @@ mod ffi {
             counts: *mut u16,
             counts_len: usize,
         ) -> u64;
+
+        pub fn kiqsaryn_fill_counts(
+            rows: *const u32,
+            rows_len: usize,
+            n: u32,
+            process_limit: u32,
+            counts: *mut u16,
+            counts_len: usize,
+        ) -> u32;
     }
 }
 
@@ -64,4 +73,13 @@ pub fn check_trace(text: &[u8], s: Settings, rows: &mut [u32], counts: &mut [u16
     } else {
         Checked::Refused { number, place: value }
     }
+}
+
+/// Fills the happens-before counts of the first `n` rows, `process_limit` each, and clears what lies behind them. `false` is a refusal: a
+/// limit past its largest value or a slice too short; the counts are then as they were.
+pub fn fill_counts(rows: &[u32], n: u32, process_limit: u32, counts: &mut [u16]) -> bool {
+    // Both slices are live for the call, and the one lent for writing is borrowed by it alone.
+    let answer =
+        unsafe { ffi::kiqsaryn_fill_counts(rows.as_ptr(), rows.len(), n, process_limit, counts.as_mut_ptr(), counts.len()) };
+    answer == 1
 }

@@ -1,6 +1,6 @@
 //! Every vector of `vectors/traces.txt`: the answer and both slices whole.
 
-use kiqsaryn::{check_trace, Checked, Settings};
+use kiqsaryn::{check_trace, fill_counts, Checked, Settings};
 
 fn bytes(hex: &str) -> Vec<u8> {
     if hex == "-" {
@@ -53,8 +53,25 @@ fn every_trace_vector() {
         } else {
             assert_eq!(got, Checked::Accepted(v(2)), "vector {}", w[1]);
             assert_eq!(rows, padded(&numbers(lines[i + 2]), rows_len), "rows of vector {}", w[1]);
+            assert!(counts.iter().all(|x| *x == 0), "counts of vector {} are cleared", w[1]);
+            assert!(fill_counts(&rows, v(2), settings.process_limit, &mut counts), "counts of vector {}", w[1]);
+            let wide: Vec<u32> = counts.iter().map(|x| u32::from(*x)).collect();
+            assert_eq!(wide, padded(&numbers(lines[i + 3]), counts_len), "counts of vector {}", w[1]);
         }
         run += 1;
     }
     assert_eq!(run, 600);
+}
+
+#[test]
+fn counts_of_wild_arguments_are_refused() {
+    let rows = [0u32; 12];
+    for (n, processes, len) in [(3, 1, 9), (2, 65, 200), (4097, 1, 9), (2, 5, 9), (u32::MAX, u32::MAX, 9)] {
+        let mut counts = vec![7u16; len];
+        assert!(!fill_counts(&rows, n, processes, &mut counts));
+        assert!(counts.iter().all(|x| *x == 7));
+    }
+    let mut counts = [7u16; 9];
+    assert!(fill_counts(&rows, 2, 4, &mut counts));
+    assert_eq!(counts, [1, 0, 0, 0, 2, 0, 0, 0, 0]);
 }

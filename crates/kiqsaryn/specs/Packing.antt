@@ -1,18 +1,32 @@
 -- How answers are packed into one number for C.
 use Prim.Native.Nat.{ℕ, _+_, _*_}
 use mathlib.Core.Path.{_≡_}
+use mathlib.Core.Bool.{Bool}
 use mathlib.Core.List.{List}
+use Rattle.order.specs.declared.Filled.{Filled}
+use Rattle.order.specs.declared.Filled.the-variants.{Done, Refused}
+use Rattle.order.specs.Order.{filledOf, filledLeft}
 use Rattle.trace.specs.declared.Checked.{Checked}
-use Rattle.trace.specs.declared.Checked.the-variants.{Accepted, Refused}
+use Rattle.trace.specs.declared.Checked.the-variants.{Accepted, Refused as RefusedAt}
 use Rattle.trace.specs.Questions.{Outcome, checkedOf, rowsLeft, countsLeft}
 
 -- the row count, or the refusal's number times 2^32 plus its place
 abbrev pub packed : Checked → ℕ
 packed (Accepted n) = n
-packed (Refused number place) = number * 4294967296 + place
+packed (RefusedAt number place) = number * 4294967296 + place
 
 -- what a call answers and leaves
 pub record Gives (o : Outcome) (answer : ℕ) (rows rows′ counts counts′ : List ℕ) : Type 0 where
   pub answered : answer ≡ packed (checkedOf o)
   pub rows-left : rows′ ≡ rowsLeft o rows
   pub counts-left : counts′ ≡ countsLeft o counts
+
+-- 1 where the counts were filled, 0 where not
+abbrev pub packedFilled : Filled → ℕ
+packedFilled Done = 1
+packedFilled Refused = 0
+
+-- what filling the counts answers and leaves
+pub record Fills (fit : Bool) (n processLimit answer : ℕ) (rows counts counts′ : List ℕ) : Type 0 where
+  pub answered : answer ≡ packedFilled (filledOf fit)
+  pub counts-left : counts′ ≡ filledLeft fit n processLimit rows counts

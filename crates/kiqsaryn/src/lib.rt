@@ -2,7 +2,9 @@
 ghost use mathlib.Core.Path.{_≡_};
 ghost use lib.ListN.{length};
 ghost use Rattle.trace.specs.Questions.{checkTrace};
-ghost use Rattle.kiqsaryn.specs.Packing.{Gives};
+ghost use Rattle.order.specs.Order.{fits};
+ghost use Rattle.kiqsaryn.specs.Packing.{Gives, Fills};
+use order::Filled;
 use trace::Checked;
 
 // Checks a trace, as trace::check_trace does. The answer is the row count of an accepted trace, below 2^32, and of a refusal its number
@@ -34,5 +36,22 @@ pub extern "C" fn kiqsaryn_check_trace(
     ) {
         Checked::Accepted(n) => n as u64,
         Checked::Refused(number, place) => number as u64 * 4294967296 + place as u64,
+    }
+}
+
+// Fills the happens-before counts of the first n rows, as order::fill_counts does. The answer is 1, or 0 for a refusal.
+#[no_mangle]
+pub extern "C" fn kiqsaryn_fill_counts(
+    rows: &[u32],
+    n: u32,
+    process_limit: u32,
+    counts: &mut [u16],
+) -> u32
+    ensures { λ r. ⌜ Fills (fits n «process_limit» (length (now (rows .entry))) (length (now (counts .entry)))) n «process_limit» r
+        (now (rows .entry)) (now (counts .entry)) (now (counts .exit)) ⌝ }
+{
+    match order::fill_counts(rows, n, process_limit, counts) {
+        Filled::Done => 1,
+        Filled::Refused => 0,
     }
 }
