@@ -1,0 +1,5 @@
+pub mod Verdicts
+pub mod Conflicts
+pub mod Chains
+pub mod Best
+pub mod Bench

@@ -1,0 +1,3 @@
+pub mod Races
+pub mod Marks
+pub mod Search

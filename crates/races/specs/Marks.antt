@@ -1,0 +1,29 @@
+-- The chain of a model as the table of publish and refresh marks gives it; the law `table-chain` says that it is the chain of document 01.
+use Prim.Native.Nat.{ℕ}
+use mathlib.Core.Bool.{Bool, cond, _&&_}
+use mathlib.Core.List.{List}
+use lib.ListN.{length}
+use lib.Dec.{ltb, eqb}
+use Rattle.models.specs.Operations.{READ, WRITE}
+use Rattle.models.specs.Table.{publishes, refreshes}
+use Rattle.trace.specs.declared.Row.{Row}
+use Rattle.order.specs.Counting.{anyBelow}
+use Rattle.order.specs.Order.{rowAt, sameProcess, edge, hb}
+use Rattle.races.specs.Races.{sameFile}
+
+module _ (rows : List Row) (model : ℕ) where
+  -- Row c publishes the write X: X itself where a write publishes, else a later row of its process and file that does.
+  unfoldable pub publishedBy : ℕ → ℕ → Bool
+  publishedBy x c =
+      cond (publishes model WRITE) (eqb c x)
+      (ltb x c && (publishes model (rowAt rows c .kind) && (sameFile (rowAt rows x) (rowAt rows c) && sameProcess (rowAt rows x) (rowAt rows c))))
+
+  -- Row o refreshes for Y: Y itself where a read refreshes, else an earlier row of its process and file that does.
+  unfoldable pub refreshedBy : ℕ → ℕ → Bool
+  refreshedBy y o =
+      cond (refreshes model READ) (eqb o y)
+      (ltb o y && (refreshes model (rowAt rows o .kind) && (sameFile (rowAt rows y) (rowAt rows o) && sameProcess (rowAt rows y) (rowAt rows o))))
+
+  -- a row that publishes X happens before a row that refreshes for Y
+  unfoldable pub tableChain : ℕ → ℕ → Bool
+  tableChain x y = anyBelow (length rows) (λ c. publishedBy x c && anyBelow (length rows) (λ o. refreshedBy y o && hb (edge rows) c o))

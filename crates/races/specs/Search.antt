@@ -1,0 +1,41 @@
+-- How a chain is searched for: by the first row that publishes after X and the last row that refreshes before Y, which are the best choices,
+-- and one comparison of counts. The laws `best-chain` and `counts-tell` say that nothing is lost.
+use Prim.Native.Nat.{ℕ, zero, suc, _-_}
+use mathlib.Core.Bool.{Bool, cond, _&&_}
+use mathlib.Core.List.{List}
+use lib.ListN.{length}
+use lib.Dec.{leb, ltb}
+use Rattle.models.specs.Operations.{READ, WRITE}
+use Rattle.models.specs.Table.{publishes, refreshes}
+use Rattle.trace.specs.declared.Row.{Row}
+use Rattle.order.specs.Order.{rowAt, sameProcess, edge, hb, count}
+use Rattle.races.specs.Races.{sameFile, leastFrom}
+
+-- the last number below n that passes, as it and one; 0 where none does
+unfoldable pub lastBelow : ℕ → (ℕ → Bool) → ℕ
+lastBelow zero test = 0
+lastBelow (suc k) test = cond (test k) (suc k) (lastBelow k test)
+
+module _ (rows : List Row) (model : ℕ) where
+  -- row k publishes, or refreshes, the file of row r for its process
+  abbrev pub isPublish : Row → ℕ → Bool
+  isPublish r k = publishes model (rowAt rows k .kind) && (sameFile r (rowAt rows k) && sameProcess r (rowAt rows k))
+
+  abbrev pub isRefresh : Row → ℕ → Bool
+  isRefresh r k = refreshes model (rowAt rows k .kind) && (sameFile r (rowAt rows k) && sameProcess r (rowAt rows k))
+
+  -- the first row that publishes the write at x; the number of rows where none does
+  unfoldable pub publishAt : ℕ → ℕ
+  publishAt x = cond (publishes model WRITE) x (leastFrom (length rows - suc x) (suc x) (isPublish (rowAt rows x)))
+
+  -- the last row that refreshes for y, as its place and one; 0 where none does
+  unfoldable pub refreshAt : ℕ → ℕ
+  refreshAt y = cond (refreshes model READ) (suc y) (lastBelow y (isRefresh (rowAt rows y)))
+
+  -- both are there, and the first happens before the last
+  unfoldable pub bestChain : ℕ → ℕ → Bool
+  bestChain x y = ltb (publishAt x) (length rows) && (ltb 0 (refreshAt y) && hb (edge rows) (publishAt x) (refreshAt y - 1))
+
+-- row i's own count is at most row j's count for its process
+abbrev pub countsOrder : List Row → ℕ → ℕ → Bool
+countsOrder rows i j = leb (count rows (rowAt rows i .process) i) (count rows (rowAt rows i .process) j)
