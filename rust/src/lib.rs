@@ -25,6 +25,16 @@ mod ffi {
             counts: *mut u16,
             counts_len: usize,
         ) -> u32;
+
+        pub fn kiqsaryn_verdict(
+            rows: *const u32,
+            rows_len: usize,
+            n: u32,
+            process_limit: u32,
+            model: u32,
+            counts: *mut u16,
+            counts_len: usize,
+        ) -> u64;
     }
 }
 
@@ -82,4 +92,26 @@ pub fn fill_counts(rows: &[u32], n: u32, process_limit: u32, counts: &mut [u16])
     let answer =
         unsafe { ffi::kiqsaryn_fill_counts(rows.as_ptr(), rows.len(), n, process_limit, counts.as_mut_ptr(), counts.len()) };
     answer == 1
+}
+
+/// A verdict on rows.
+#[derive(Clone, Copy, Debug, PartialEq, Eq)]
+pub enum Verdict {
+    Free,
+    /// The row numbers of the first race.
+    Race { earlier: u32, later: u32 },
+    /// A limit or the model past its largest value, a slice too short, or a process not below the limit.
+    Refused,
+}
+
+/// The verdict on the first `n` rows under a model; the counts are filled on the way, and kept where the call refuses.
+pub fn verdict(rows: &[u32], n: u32, process_limit: u32, model: u32, counts: &mut [u16]) -> Verdict {
+    // Both slices are live for the call, and the one lent for writing is borrowed by it alone.
+    let answer =
+        unsafe { ffi::kiqsaryn_verdict(rows.as_ptr(), rows.len(), n, process_limit, model, counts.as_mut_ptr(), counts.len()) };
+    match answer {
+        0 => Verdict::Free,
+        u64::MAX => Verdict::Refused,
+        _ => Verdict::Race { earlier: (answer >> 32) as u32, later: answer as u32 },
+    }
 }

@@ -1,6 +1,6 @@
 //! Every vector of `vectors/traces.txt`: the answer and both slices whole.
 
-use kiqsaryn::{check_trace, fill_counts, Checked, Settings};
+use kiqsaryn::{check_trace, fill_counts, verdict, Checked, Settings, Verdict};
 
 fn bytes(hex: &str) -> Vec<u8> {
     if hex == "-" {
@@ -55,6 +55,9 @@ fn every_trace_vector() {
             assert_eq!(rows, padded(&numbers(lines[i + 2]), rows_len), "rows of vector {}", w[1]);
             assert!(counts.iter().all(|x| *x == 0), "counts of vector {} are cleared", w[1]);
             assert!(fill_counts(&rows, v(2), settings.process_limit, &mut counts), "counts of vector {}", w[1]);
+            let want = if a[3] == "free" { Verdict::Free } else { Verdict::Race { earlier: v(4), later: v(5) } };
+            let judged = verdict(&rows, v(2), settings.process_limit, settings.model, &mut counts);
+            assert_eq!(judged, want, "verdict of vector {}", w[1]);
             let wide: Vec<u32> = counts.iter().map(|x| u32::from(*x)).collect();
             assert_eq!(wide, padded(&numbers(lines[i + 3]), counts_len), "counts of vector {}", w[1]);
         }
@@ -74,4 +77,17 @@ fn counts_of_wild_arguments_are_refused() {
     let mut counts = [7u16; 9];
     assert!(fill_counts(&rows, 2, 4, &mut counts));
     assert_eq!(counts, [1, 0, 0, 0, 2, 0, 0, 0, 0]);
+}
+
+#[test]
+fn verdicts_on_wild_arguments_are_refused() {
+    let rows = [0u32, 1, 0, 0, 1, 0, 5, 1, 0, 0, 1, 0];
+    for (n, processes, model, len) in [(3, 6, 0, 18), (2, 65, 0, 200), (4097, 1, 0, 9), (2, 5, 0, 10), (2, 6, 4, 12), (2, 6, 0, 11)] {
+        let mut counts = vec![7u16; len];
+        assert_eq!(verdict(&rows, n, processes, model, &mut counts), Verdict::Refused);
+        assert!(counts.iter().all(|x| *x == 7));
+    }
+    let mut counts = [7u16; 12];
+    assert_eq!(verdict(&rows, 2, 6, 0, &mut counts), Verdict::Race { earlier: 1, later: 2 });
+    assert_eq!(verdict(&rows, 1, 6, 0, &mut counts), Verdict::Free);
 }

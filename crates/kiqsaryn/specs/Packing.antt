@@ -6,6 +6,9 @@ use mathlib.Core.List.{List}
 use Rattle.order.specs.declared.Filled.{Filled}
 use Rattle.order.specs.declared.Filled.the-variants.{Done, Refused}
 use Rattle.order.specs.Order.{filledOf, filledLeft}
+use Rattle.races.specs.declared.Found.{Found}
+use Rattle.races.specs.declared.Found.the-variants.{Free, Race, Refused as RefusedToJudge}
+use Rattle.races.specs.Scan.{answerOf, countsAfter}
 use Rattle.trace.specs.declared.Checked.{Checked}
 use Rattle.trace.specs.declared.Checked.the-variants.{Accepted, Refused as RefusedAt}
 use Rattle.trace.specs.Questions.{Outcome, checkedOf, rowsLeft, countsLeft}
@@ -30,3 +33,14 @@ packedFilled Refused = 0
 pub record Fills (fit : Bool) (n processLimit answer : ℕ) (rows counts counts′ : List ℕ) : Type 0 where
   pub answered : answer ≡ packedFilled (filledOf fit)
   pub counts-left : counts′ ≡ filledLeft fit n processLimit rows counts
+
+-- 0 for free, the earlier row's number times 2^32 plus the later row's for a race, 2^64 - 1 for a refusal
+abbrev pub packedFound : Found → ℕ
+packedFound Free = 0
+packedFound (Race earlier later) = earlier * 4294967296 + later
+packedFound RefusedToJudge = 18446744073709551615
+
+-- what a verdict answers and leaves
+pub record Judges (asked : Bool) (n processLimit model answer : ℕ) (rows counts counts′ : List ℕ) : Type 0 where
+  pub answered : answer ≡ packedFound (answerOf asked rows n model)
+  pub counts-left : counts′ ≡ countsAfter asked n processLimit rows counts

@@ -3,8 +3,10 @@ ghost use mathlib.Core.Path.{_≡_};
 ghost use lib.ListN.{length};
 ghost use Rattle.trace.specs.Questions.{checkTrace};
 ghost use Rattle.order.specs.Order.{fits};
-ghost use Rattle.kiqsaryn.specs.Packing.{Gives, Fills};
+ghost use Rattle.races.specs.Scan.{judgeable};
+ghost use Rattle.kiqsaryn.specs.Packing.{Gives, Fills, Judges};
 use order::Filled;
+use races::Found;
 use trace::Checked;
 
 // Checks a trace, as trace::check_trace does. The answer is the row count of an accepted trace, below 2^32, and of a refusal its number
@@ -53,5 +55,25 @@ pub extern "C" fn kiqsaryn_fill_counts(
     match order::fill_counts(rows, n, process_limit, counts) {
         Filled::Done => 1,
         Filled::Refused => 0,
+    }
+}
+
+// The verdict on the first n rows under a model, as races::verdict gives it. The answer is 0 for a free trace, the earlier row's number
+// times 2^32 plus the later row's for a race, and 2^64 - 1 for a refusal.
+#[no_mangle]
+pub extern "C" fn kiqsaryn_verdict(
+    rows: &[u32],
+    n: u32,
+    process_limit: u32,
+    model: u32,
+    counts: &mut [u16],
+) -> u64
+    ensures { λ r. ⌜ Judges (judgeable n «process_limit» model (now (rows .entry)) (length (now (counts .entry)))) n «process_limit» model r
+        (now (rows .entry)) (now (counts .entry)) (now (counts .exit)) ⌝ }
+{
+    match races::verdict(rows, n, process_limit, model, counts) {
+        Found::Free => 0,
+        Found::Race(earlier, later) => earlier as u64 * 4294967296 + later as u64,
+        Found::Refused => 18446744073709551615,
     }
 }

@@ -34,7 +34,7 @@ pub fn fill_counts(rows: &[u32], n: u32, process_limit: u32, counts: &mut [u16])
 }
 
 // The limits hold, and both slices are long enough.
-fn slices_fit(n: u32, process_limit: u32, rows_len: usize, counts_len: usize) -> bool
+pub fn slices_fit(n: u32, process_limit: u32, rows_len: usize, counts_len: usize) -> bool
     ensures { λ r. ⌜ r ≡ fits n «process_limit» «rows_len» «counts_len» ⌝ }
 {
     if models::ROWS < n {

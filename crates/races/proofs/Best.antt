@@ -27,18 +27,18 @@ use Rattle.races.proofs.Chains.{HB-in, HB-start, two-iff}
 -- ---- The first that passes and the last that passes
 
 -- p is the first number below n that passes, or not below n
-record Earliest (n : ℕ) (test : ℕ → Bool) (p : ℕ) : Type 0 where
-  passes : p < n → test p ≡ true
-  first : (c : ℕ) → test c ≡ true → p ≤ c
+pub record Earliest (n : ℕ) (test : ℕ → Bool) (p : ℕ) : Type 0 where
+  pub passes : p < n → test p ≡ true
+  pub first : (c : ℕ) → test c ≡ true → p ≤ c
 
 -- q is one more than the last number that passes, or 0, and at most n
-record Latest (n : ℕ) (test : ℕ → Bool) (q : ℕ) : Type 0 where
-  high : q ≤ n
-  passes : 0 < q → test (q - 1) ≡ true
-  last : (o : ℕ) → o < n → test o ≡ true → o < q
+pub record Latest (n : ℕ) (test : ℕ → Bool) (q : ℕ) : Type 0 where
+  pub high : q ≤ n
+  pub passes : 0 < q → test (q - 1) ≡ true
+  pub last : (o : ℕ) → o < n → test o ≡ true → o < q
 
 -- lastBelow finds it
-last-is : (n : ℕ) (test : ℕ → Bool) → Latest n test (lastBelow n test)
+pub last-is : (n : ℕ) (test : ℕ → Bool) → Latest n test (lastBelow n test)
 unfolding lastBelow
 last-is zero test = record { high = omega arith; passes = λ h. absurd (omega arith); last = λ o l e. omega arith }
 last-is (suc n) test = go (test n) refl (last-is n test)
@@ -116,7 +116,7 @@ module _ (rows : List Row) where
           eqb-true _ _ (and-out (sameFile (rowAt rows x) (rowAt rows c)) _ (j .1) .1)
 
   -- what refreshes for y stands before it or is it, and is of its process
-  refreshed : (model y o : ℕ) → refreshedBy rows model y o ≡ true → (o < suc y) × (processAt y ≡ processAt o)
+  pub refreshed : (model y o : ℕ) → refreshedBy rows model y o ≡ true → (o < suc y) × (processAt y ≡ processAt o)
   unfolding refreshedBy
   refreshed model y o = go (refreshes model READ)
     where
@@ -129,7 +129,7 @@ module _ (rows : List Row) where
           (omega arith, eqb-true _ _ (and-out (sameFile (rowAt rows y) (rowAt rows o)) _ (j .1) .1))
 
   -- publishAt is the first that publishes
-  publish-first : (model x : ℕ) → x < length rows → Earliest (length rows) (publishedBy rows model x) (publishAt rows model x)
+  pub publish-first : (model x : ℕ) → x < length rows → Earliest (length rows) (publishedBy rows model x) (publishAt rows model x)
   unfolding publishedBy publishAt
   publish-first model x h = go (publishes model WRITE)
     where
@@ -153,7 +153,7 @@ module _ (rows : List Row) where
       go false = record { passes = λ l. rw (lt-ltb x p (r .low)) (r .passes (omega arith)); first = after }
 
   -- refreshAt is the last that refreshes, and one
-  refresh-last : (model y : ℕ) → Latest (suc y) (refreshedBy rows model y) (refreshAt rows model y)
+  pub refresh-last : (model y : ℕ) → Latest (suc y) (refreshedBy rows model y) (refreshAt rows model y)
   unfolding refreshedBy refreshAt
   refresh-last model y = go (refreshes model READ)
     where

@@ -3,3 +3,7 @@ pub mod Conflicts
 pub mod Chains
 pub mod Best
 pub mod Bench
+pub mod Scans
+pub mod Cells
+pub mod Passes
+pub mod Whole

@@ -61,7 +61,7 @@ least-is (suc n) s test = go (test s) refl (least-is n (suc s) test)
 -- ---- The verdict
 
 -- a race leads forward, into the trace
-race-out : (rows : List Row) (model x y : ℕ) → race rows model x y ≡ true → (x < y) × (y < length rows)
+pub race-out : (rows : List Row) (model x y : ℕ) → race rows model x y ≡ true → (x < y) × (y < length rows)
 unfolding race
 race-out rows model x y e =
     let a = and-out (ltb x y) _ e in

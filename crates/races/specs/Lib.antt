@@ -1,3 +1,5 @@
 pub mod Races
 pub mod Marks
 pub mod Search
+pub mod Scan
+pub mod Given

@@ -1,1 +1,272 @@
-// Conflicts, chains and races of a trace, by the definitions of specs/Races.antt.
+// The verdict on a trace under a model: free, or its first race.
+ghost use mathlib.Core.Path.{_≡_};
+ghost use mathlib.Core.List.{List};
+ghost use Prim.Native.Nat.{ℕ, suc, max, min, _+_, _*_, _-_, _<_, _≤_};
+ghost use lib.ListN.{length};
+ghost use lib.Dec.{leb, ltb, eqb};
+ghost use mathlib.Core.Bool.{_&&_};
+ghost use Rattle.models.specs.Table.{refreshes};
+ghost use Rattle.trace.specs.Rows.{rowsIn};
+ghost use Rattle.order.specs.Order.{rowAt, countsOf};
+ghost use Rattle.order.specs.Clock.{rowIn, cellIn};
+ghost use Rattle.races.specs.Races.{conflict, verdictOf};
+ghost use Rattle.races.specs.Search.{refreshAt};
+ghost use Rattle.races.specs.Scan.{noted, lastNoted, inOrder, raceAt, processesIn, judgeable, foundOf, answerOf, countsAfter};
+ghost use Rattle.races.specs.Given.{Given};
+
+// Free, the numbers of the earlier and the later row of the first race, or that the input is none to judge.
+pub enum Found {
+    Free,
+    Race(u32, u32),
+    Refused,
+}
+
+// The verdict on the first n rows under a model. It fills the counts, and refuses, changing nothing, where a limit or the model is past its
+// largest value, a slice is too short or a row's process is not below the limit.
+pub fn verdict(rows: &[u32], n: u32, process_limit: u32, model: u32, counts: &mut [u16]) -> Found
+    ensures answer { λ r. ⌜ r ≡ answerOf (judgeable n «process_limit» model (now (rows .entry)) (length (now (counts .entry)))) (now (rows .entry)) n model ⌝ }
+    ensures left { λ r. ⌜ now (counts .exit) ≡ countsAfter (judgeable n «process_limit» model (now (rows .entry)) (length (now (counts .entry)))) n «process_limit» (now (rows .entry)) (now (counts .entry)) ⌝ }
+{
+    if models::MODELS <= model {
+        return Found::Refused;
+    }
+    if !order::slices_fit(n, process_limit, rows.len(), counts.len()) {
+        return Found::Refused;
+    }
+    if !processes_in(rows, n as usize, process_limit) {
+        return Found::Refused;
+    }
+    order::fill_counts(rows, n, process_limit, counts);
+    first_race(rows, n as usize, process_limit as usize, model, counts)
+}
+
+// Every process of the first n rows is below the limit.
+fn processes_in(rows: &[u32], n: usize, process_limit: u32) -> bool
+    requires { ⌜ n * 6 ≤ length (now rows) ⌝ }
+    ensures { λ r. ⌜ r ≡ processesIn n «process_limit» (now (rows .entry)) ⌝ }
+{
+    let mut i = n;
+    while 0 < i {
+        i -= 1;
+        let at = i * 6;
+        if process_limit <= rows[at] {
+            return false;
+        }
+    }
+    true
+}
+
+// The first race of the rows, by their counts.
+fn first_race(rows: &[u32], n: usize, processes: usize, model: u32, counts: &[u16]) -> Found
+    requires { ⌜ Given n processes model (now rows) (now counts) ⌝ }
+    ensures { λ r. ⌜ r ≡ foundOf (verdictOf (rowsIn n (now (rows .entry))) model) ⌝ }
+{
+    let mut y = 0;
+    while y < n {
+        let x = race_at(rows, n, processes, model, counts, y);
+        if 0 < x {
+            return Found::Race(x as u32, y as u32 + 1);
+        }
+        y += 1;
+    }
+    Found::Free
+}
+
+// Two data rows of one file and two processes that share a byte, one of them a write.
+fn is_conflict(rows: &[u32], x: usize, y: usize) -> bool
+    requires { ⌜ (x * 6 + 6 ≤ length (now rows)) × (y * 6 + 6 ≤ length (now rows)) ⌝ }
+    ensures { λ r. ⌜ r ≡ conflict (rowIn (now (rows .entry)) x) (rowIn (now (rows .entry)) y) ⌝ }
+{
+    let a = x * 6;
+    let b = y * 6;
+    let first = rows[a + 1];
+    let second = rows[b + 1];
+    if 1 < first {
+        return false;
+    }
+    if 1 < second {
+        return false;
+    }
+    if rows[a + 2] != rows[b + 2] {
+        return false;
+    }
+    if !overlap(rows[a + 3], rows[a + 4], rows[b + 3], rows[b + 4]) {
+        return false;
+    }
+    if rows[a] == rows[b] {
+        return false;
+    }
+    if first == 1 {
+        return true;
+    }
+    second == 1
+}
+
+// Some byte lies in both ranges.
+fn overlap(a: u32, a_len: u32, b: u32, b_len: u32) -> bool
+    ensures { λ r. ⌜ r ≡ ltb (max a b) (min (a + «a_len») (b + «b_len»)) ⌝ }
+{
+    let start = larger(a as u64, b as u64);
+    let end = smaller(a as u64 + a_len as u64, b as u64 + b_len as u64);
+    start < end
+}
+
+fn larger(a: u64, b: u64) -> u64
+    ensures { λ r. ⌜ r ≡ max a b ⌝ }
+{
+    if a < b { b } else { a }
+}
+
+fn smaller(a: u64, b: u64) -> u64
+    ensures { λ r. ⌜ r ≡ min a b ⌝ }
+{
+    if a < b { a } else { b }
+}
+
+// The last row that refreshes for y, as its place and one; 0 where none does.
+fn refresh_at(rows: &[u32], n: usize, model: u32, y: usize) -> usize
+    requires { ⌜ (y < n) × (n * 6 ≤ length (now rows)) ⌝ }
+    ensures { λ r. ⌜ r ≡ refreshAt (rowsIn n (now (rows .entry))) model y ⌝ }
+{
+    if models::is_refresh(model, 0) {
+        return y + 1;
+    }
+    let to = y * 6;
+    let process = rows[to];
+    let file = rows[to + 2];
+    let mut i = y;
+    while 0 < i {
+        let at = (i - 1) * 6;
+        if refreshes_file(model, rows[at + 1], file, rows[at + 2], process, rows[at]) {
+            return i;
+        }
+        i -= 1;
+    }
+    0
+}
+
+// A row of this kind, file and process refreshes the file for the process.
+fn refreshes_file(
+    model: u32,
+    kind: u32,
+    file: u32,
+    other_file: u32,
+    process: u32,
+    other_process: u32,
+) -> bool
+    ensures { λ r. ⌜ r ≡ (refreshes model kind && (eqb file «other_file» && eqb process «other_process»)) ⌝ }
+{
+    if !models::is_refresh(model, kind) {
+        return false;
+    }
+    if file != other_file {
+        return false;
+    }
+    process == other_process
+}
+
+// The count of process p at row i is at most that at row j.
+fn counts_before(counts: &[u16], processes: usize, p: usize, i: usize, j: usize) -> bool
+    requires { ⌜ (p < processes) × (i * processes + processes ≤ length (now counts)) × (j * processes + processes ≤ length (now counts)) × (processes ≤ 64) ⌝ }
+    ensures { λ r. ⌜ r ≡ leb (cellIn processes (now (counts .entry)) i p) (cellIn processes (now (counts .entry)) j p) ⌝ }
+{
+    let from = i * processes + p;
+    let to = j * processes + p;
+    counts[from] <= counts[to]
+}
+
+// The smallest row that races with y, as its place and one; 0 where none does.
+fn race_at(rows: &[u32], n: usize, processes: usize, model: u32, counts: &[u16], y: usize) -> usize
+    requires { ⌜ Given n processes model (now rows) (now counts) ⌝ }
+    requires { ⌜ y < n ⌝ }
+    ensures { λ r. ⌜ r ≡ raceAt (rowsIn n (now (rows .entry))) model y ⌝ }
+{
+    let to = y * 6;
+    if 1 < rows[to + 1] {
+        return 0;
+    }
+    let refresh = refresh_at(rows, n, model, y);
+    let mut last = [0usize; 64];
+    let mut c = 0;
+    while c < y {
+        if is_noted(rows, n, processes, model, counts, y, refresh, c) {
+            let at = c * 6;
+            let p = rows[at] as usize;
+            last[p] = c + 1;
+        }
+        c += 1;
+    }
+    let mut x = 0;
+    while x < y {
+        if is_conflict(rows, x, y) {
+            let at = x * 6;
+            let p = rows[at] as usize;
+            let noted = last[p];
+            if !is_in_order(rows, n, processes, model, counts, y, refresh, x, noted) {
+                return x + 1;
+            }
+        }
+        x += 1;
+    }
+    0
+}
+
+// Row c publishes the file of row y and happens before the refresh.
+fn is_noted(
+    rows: &[u32],
+    n: usize,
+    processes: usize,
+    model: u32,
+    counts: &[u16],
+    y: usize,
+    refresh: usize,
+    c: usize,
+) -> bool
+    requires { ⌜ Given n processes model (now rows) (now counts) ⌝ }
+    requires { ⌜ (y < n) × (c < n) × (refresh ≤ n) ⌝ }
+    ensures { λ r. ⌜ (0 < refresh → r ≡ noted (rowsIn n (now (rows .entry))) model y (refresh - 1) c) ⌝ }
+{
+    if refresh == 0 {
+        return false;
+    }
+    let at = c * 6;
+    let to = y * 6;
+    if !models::is_publish(model, rows[at + 1]) {
+        return false;
+    }
+    if rows[to + 2] != rows[at + 2] {
+        return false;
+    }
+    counts_before(counts, processes, rows[at] as usize, c, refresh - 1)
+}
+
+// Row x before row y is properly synchronized; `last` is its process's last noted row.
+fn is_in_order(
+    rows: &[u32],
+    n: usize,
+    processes: usize,
+    model: u32,
+    counts: &[u16],
+    y: usize,
+    refresh: usize,
+    x: usize,
+    last: usize,
+) -> bool
+    requires { ⌜ Given n processes model (now rows) (now counts) ⌝ }
+    requires { ⌜ (y < n) × (x < n) × (refresh ≡ refreshAt (rowsIn n (now rows)) model y) × (refresh ≤ n) ⌝ }
+    requires { ⌜ (0 < refresh → last ≡ lastNoted (rowsIn n (now rows)) model y (refresh - 1) (rowAt (rowsIn n (now rows)) x .process) y) ⌝ }
+    ensures { λ r. ⌜ r ≡ inOrder (rowsIn n (now (rows .entry))) model x y ⌝ }
+{
+    let at = x * 6;
+    let p = rows[at] as usize;
+    if rows[at + 1] != 1 {
+        return counts_before(counts, processes, p, x, y);
+    }
+    if refresh == 0 {
+        return false;
+    }
+    if models::is_publish(model, 1) {
+        return counts_before(counts, processes, p, x, refresh - 1);
+    }
+    x + 1 < last
+}

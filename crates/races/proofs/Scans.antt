@@ -1,0 +1,209 @@
+-- The scan finds the races, and the first of them is the verdict. Assumes nothing.
+use Prim.Native.Nat.{ℕ, suc, _+_, _-_, _≤_, _<_}
+use native.Mathlib.Omega.{arith}
+use mathlib.Core.Path.{_≡_, refl, sym, ap, _∙_}
+use mathlib.Core.Bool.{Bool, true, false, cond, not, _&&_, false≢true}
+use mathlib.Core.List.{List}
+use lib.ListN.{length}
+use lib.Dec.{ltb, eqb}
+use borrow.Author.Tests.{lt-ltb, ltb-true, eq-eqb, eqb-true}
+use Rattle.models.specs.Operations.{WRITE}
+use Rattle.models.specs.Table.{publishes}
+use Rattle.trace.specs.declared.Row.{Row}
+use Rattle.order.specs.Order.{rowAt, edge, HB}
+use Rattle.order.proofs.Below.{and-out, same-test}
+use Rattle.order.proofs.Clocks.{edge-forward, HB-less, hb-iff}
+use Rattle.races.specs.Races.{sameFile, conflict, synchronized, race, leastFrom, free, racing, verdictOf}
+use Rattle.races.specs.Marks.{publishedBy, refreshedBy, tableChain}
+use Rattle.races.specs.Search.{lastBelow, isPublish, publishAt, refreshAt, bestChain}
+use Rattle.races.specs.Scan.{before, noted, lastNoted, inOrder, raceAt}
+use Rattle.races.proofs.Verdicts.{least-is, race-out, free-iff, racing-iff}
+use Rattle.races.proofs.Conflicts.{Conflict, conflict-iff}
+use Rattle.races.proofs.Chains.{two-iff, table-chain}
+use Rattle.races.proofs.Best.{Latest, last-is, refreshed, publish-first, refresh-last, best-chain, counts-tell}
+
+-- ---- A write: its chain and the last noted row
+
+module _ (rows : List Row) (model x y : ℕ) (h : x < y) (g : y < length rows) (c : Conflict (rowAt rows x) (rowAt rows y)) where
+  -- the test of a noted row of x's process
+  abbrev mark : ℕ → ℕ → Bool
+  mark o k = eqb (rowAt rows k .process) (rowAt rows x .process) && noted rows model y o k
+
+  -- x is published by itself, or by a noted row behind it
+  abbrev told : Bool → ℕ → Bool
+  told b o = cond b (before rows model (rowAt rows x .process) x o) (ltb (suc x) (lastBelow y (mark o)))
+
+  -- what publishes x and happens before row o, up to y, is told
+  chain-told : (b : Bool) (k o : ℕ) → o ≤ y → HB (edge rows) k o → cond b (eqb k x) (ltb x k && isPublish rows model (rowAt rows x) k) ≡ true →
+      told b o ≡ true
+  chain-told true k o l r e =
+      let q = eqb-true k x e in
+      let s : HB (edge rows) x o = rw q at r in
+      let d = HB-less (edge-forward rows) s in
+      sym (counts-tell rows x o (omega arith) (omega arith) (omega arith)) ∙ hb-iff (edge-forward rows) x o .1 s
+  chain-told false k o l r e =
+      let d = HB-less (edge-forward rows) r in
+      let i = and-out (ltb x k) _ e in
+      let j = and-out (publishes model (rowAt rows k .kind)) _ (i .1) in
+      let f = and-out (sameFile (rowAt rows x) (rowAt rows k)) _ (j .1) in
+      let b = ltb-true x k (i .0) in
+      let u = sym (counts-tell rows k o (omega arith) (omega arith) (omega arith)) ∙ hb-iff (edge-forward rows) k o .1 r in
+      let p = eq-eqb (rowAt rows k .process) (rowAt rows x .process) (sym (eqb-true _ _ (f .1))) in
+      let s = eq-eqb (rowAt rows y .file) (rowAt rows k .file) (sym (c .one-file) ∙ eqb-true _ _ (f .0)) in
+      let a = last-is y (mark o) .last k (omega arith) (rw (p, j .0, s) u) in
+      lt-ltb (suc x) _ (omega arith)
+
+  -- what is told is a row that publishes x and happens before row o, of y's process
+  told-chain : (b : Bool) (o : ℕ) → o ≤ y → rowAt rows y .process ≡ rowAt rows o .process → told b o ≡ true →
+      (k : ℕ) × (cond b (eqb k x) (ltb x k && isPublish rows model (rowAt rows x) k) ≡ true) × HB (edge rows) k o
+  told-chain true o l s e = (x, eq-eqb x x refl, hb-iff (edge-forward rows) x o .0 (counts-tell rows x o (omega arith) (omega arith) apart ∙ e))
+    where
+      apart : x ≡ o → ⊥
+      apart q = c .two-processes (ap (λ (k : ℕ). rowAt rows k .process) q ∙ sym s)
+  told-chain false o l s e = (k, t, hb-iff (edge-forward rows) k o .0 (counts-tell rows k o (omega (arith, low, high)) (omega arith) apart ∙ f .1))
+    where
+      r : Latest y (mark o) (lastBelow y (mark o))
+      r = last-is y (mark o)
+
+      k : ℕ
+      k = lastBelow y (mark o) - 1
+
+      low : suc x < lastBelow y (mark o)
+      low = ltb-true (suc x) _ e
+
+      high : lastBelow y (mark o) ≤ y
+      high = r .high
+
+      a : (eqb (rowAt rows k .process) (rowAt rows x .process) ≡ true) × (noted rows model y o k ≡ true)
+      a = and-out (eqb (rowAt rows k .process) (rowAt rows x .process)) (noted rows model y o k) (r .passes (omega (arith, low)))
+
+      d : (publishes model (rowAt rows k .kind) ≡ true)
+          × (sameFile (rowAt rows y) (rowAt rows k) && before rows model (rowAt rows k .process) k o ≡ true)
+      d = and-out (publishes model (rowAt rows k .kind)) _ (a .1)
+
+      f : (sameFile (rowAt rows y) (rowAt rows k) ≡ true) × (before rows model (rowAt rows k .process) k o ≡ true)
+      f = and-out (sameFile (rowAt rows y) (rowAt rows k)) _ (d .1)
+
+      p : rowAt rows k .process ≡ rowAt rows x .process
+      p = eqb-true _ _ (a .0)
+
+      t : ltb x k && isPublish rows model (rowAt rows x) k ≡ true
+      t =
+          rw (
+            lt-ltb x k (omega (arith, low)),
+            d .0,
+            eq-eqb (rowAt rows x .file) (rowAt rows k .file) (c .one-file ∙ eqb-true _ _ (f .0)),
+          )
+          (eq-eqb (rowAt rows x .process) (rowAt rows k .process) (sym p))
+
+      apart : k ≡ o → ⊥
+      apart q = c .two-processes (sym p ∙ ap (λ (i : ℕ). rowAt rows i .process) q ∙ sym s)
+
+  -- the chain of the table, by the last noted row
+  chain-scan : tableChain rows model x y ≡ ltb 0 (refreshAt rows model y) && told (publishes model WRITE) (refreshAt rows model y - 1)
+  unfolding tableChain publishedBy bestChain
+  chain-scan = same-test _ _ (λ e. there (sym (best-chain rows model x y (omega arith) g) ∙ e)) back
+    where
+      q : ℕ
+      q = refreshAt rows model y
+
+      r : Latest (suc y) (refreshedBy rows model y) q
+      r = refresh-last rows model y
+
+      there : bestChain rows model x y ≡ true → ltb 0 q && told (publishes model WRITE) (q - 1) ≡ true
+      there e =
+          let i = and-out (ltb (publishAt rows model x) (length rows)) _ e in
+          let j = and-out (ltb 0 q) _ (i .1) in
+          let t = publish-first rows model x (omega arith) .passes (ltb-true _ _ (i .0)) in
+          let s = hb-iff (edge-forward rows) (publishAt rows model x) (q - 1) .0 (j .1) in
+          rw (j .0) (chain-told (publishes model WRITE) (publishAt rows model x) (q - 1) (omega (arith, r .high)) s t)
+
+      back : ltb 0 q && told (publishes model WRITE) (q - 1) ≡ true → tableChain rows model x y ≡ true
+      back e =
+          let j = and-out (ltb 0 q) _ e in
+          let t = r .passes (ltb-true 0 q (j .0)) in
+          let l : q ≤ suc y = r .high in
+          let a = told-chain (publishes model WRITE) (q - 1) (omega arith) (refreshed rows model y (q - 1) t .1) (j .1) in
+          two-iff rows (length rows) (publishedBy rows model x) (refreshedBy rows model y) .1 (a .0, q - 1, a .1, omega arith, t, a .2)
+
+-- of a conflicting pair, the scan tells whether it is properly synchronized
+pub in-order : (rows : List Row) (model x y : ℕ) → model < 4 → x < y → y < length rows → conflict (rowAt rows x) (rowAt rows y) ≡ true →
+    synchronized rows model x y ≡ inOrder rows model x y
+unfolding synchronized inOrder lastNoted
+in-order rows model x y m h g c =
+    let k = conflict-iff (rowAt rows x) (rowAt rows y) .0 c in
+    let write = sym (table-chain rows x y model m (omega arith) g) ∙ chain-scan rows model x y h g k in
+    rw (write, counts-tell rows x y (omega arith) g (omega arith))
+
+-- ---- The races of a later row
+
+-- what the scan asks of an earlier row
+abbrev seen : List Row → ℕ → ℕ → ℕ → Bool
+seen rows model y x = conflict (rowAt rows x) (rowAt rows y) && not (inOrder rows model x y)
+
+-- it is a race
+race-seen : (rows : List Row) (model x y : ℕ) → model < 4 → x < y → y < length rows → race rows model x y ≡ seen rows model y x
+unfolding race
+race-seen rows model x y m h g = rw (lt-ltb x y h, lt-ltb y (length rows) g) (go (conflict (rowAt rows x) (rowAt rows y)) refl)
+  where
+    go : (b : Bool) → conflict (rowAt rows x) (rowAt rows y) ≡ b → b && not (synchronized rows model x y) ≡ b && not (inOrder rows model x y)
+    go true e = ap not (in-order rows model x y m h g e)
+    go false e = refl
+
+module _ (rows : List Row) (model y : ℕ) (m : model < 4) where
+  -- the smallest earlier row that is seen
+  abbrev smallest : ℕ
+  smallest = leastFrom y 0 (seen rows model y)
+
+  -- a race is no smaller
+  race-small : (x : ℕ) → race rows model x y ≡ true → (smallest ≤ x) × (x < y)
+  race-small x e =
+      let o = race-out rows model x y e in
+      let n = least-is y 0 (seen rows model y) .least x (omega arith) (sym (race-seen rows model x y m (o .0) (o .1)) ∙ e) in
+      (omega arith, o .0)
+
+  -- the scan found none
+  none-at : raceAt rows model y ≡ 0 → (x : ℕ) → race rows model x y ≡ true → ⊥
+  unfolding raceAt
+  none-at e x r = let s = race-small x r in go (ltb smallest y) refl e (omega arith)
+    where
+      go : (b : Bool) → ltb smallest y ≡ b → cond b (suc smallest) 0 ≡ 0 → smallest < y → ⊥
+      go true t e l = omega arith
+      go false t e l = false≢true (sym t ∙ lt-ltb smallest y l)
+
+  -- the scan found one
+  one-at : (x : ℕ) → raceAt rows model y ≡ suc x → (smallest ≡ x) × (smallest < y)
+  unfolding raceAt
+  one-at x e = go (ltb smallest y) refl e
+    where
+      go : (b : Bool) → ltb smallest y ≡ b → cond b (suc smallest) 0 ≡ suc x → (smallest ≡ x) × (smallest < y)
+      go true t e = (omega arith, ltb-true smallest y t)
+      go false t e = absurd (omega arith)
+
+-- no later row has a race: free
+pub none-found : (rows : List Row) (model : ℕ) → model < 4 → ((y : ℕ) → y < length rows → raceAt rows model y ≡ 0) → verdictOf rows model ≡ free
+none-found rows model m h = free-iff rows model .1 (λ x y e. none-at rows model y m (h y (race-out rows model x y e .1)) x e)
+
+-- the first later row that has one, with its smallest earlier row
+pub first-found : (rows : List Row) (model x y : ℕ) → model < 4 → y < length rows → ((k : ℕ) → k < y → raceAt rows model k ≡ 0) →
+    raceAt rows model y ≡ suc x → verdictOf rows model ≡ racing (suc x) (y + 1)
+first-found rows model x y m h g e =
+    racing-iff rows model (suc x) (y + 1) .1 (x, y, omega arith, refl, record { is-race = is; least-later = later; least-earlier = earlier })
+  where
+    s : ℕ
+    s = leastFrom y 0 (seen rows model y)
+
+    found : (s ≡ x) × (s < y)
+    found = one-at rows model y m x e
+
+    is : race rows model x y ≡ true
+    is =
+        let q = found .0 in
+        let l = found .1 in
+        race-seen rows model x y m (omega arith) h ∙ ap (seen rows model y) (sym q) ∙ least-is y 0 (seen rows model y) .passes (omega arith)
+
+    later : (x′ y′ : ℕ) → race rows model x′ y′ ≡ true → y ≤ y′
+    later x′ y′ r = let n : y′ < y → ⊥ = λ l. none-at rows model y′ m (g y′ l) x′ r in omega arith
+
+    earlier : (x′ : ℕ) → race rows model x′ y ≡ true → x ≤ x′
+    earlier x′ r = omega (arith, found .0, race-small rows model y m x′ r .0)

@@ -1,0 +1,124 @@
+-- `races::is_noted` meets its contract. Assumes nothing.
+use borrow.Author.Needs.{needs}
+use borrow.Author.Tests.{not-true, not-false}
+use native.Mathlib.Omega.{arith}
+use Prim.Native.Nat.{_-_, _<_}
+use Rattle.races.proofs.Passes.{process-low, asked, compared, no-publish, other-file, by-counts}
+use Rattle.races.proofs.is_noted.Statement.{statement}
+use Rattle.races.proofs.is_noted.Tie as tie
+use Rattle.races.proofs.is_noted.Reads as reads
+use Rattle.races.proofs.is_noted.Lts as lts
+use Rattle.models.proofs.is_publish.Reads as is-publish-reads
+use Rattle.races.proofs.counts_before.Reads as counts-before-reads
+
+returns : tie.Need-returns
+returns c = λ h. absurd (omega (arith, c .if1 .taken))
+
+mul-at : tie.Need-mul-at
+mul-at c = search needs
+
+mul-to : tie.Need-mul-to
+mul-to c = search needs
+
+add-is-publish : tie.Need-add-is-publish
+add-is-publish c = search needs
+
+mul-is-publish : tie.Need-mul-is-publish
+mul-is-publish c = search needs
+
+shared-slice-read-is-publish : tie.Need-shared-slice-read-is-publish
+shared-slice-read-is-publish c = search needs
+
+is-publish-requires : tie.Need-is-publish-requires
+is-publish-requires c κs = search needs
+
+returns-2 : tie.Need-returns-2
+returns-2 c =
+    let a = c .before .before .before .before .before .before .args in
+    let given = c .before .before .before .before .before .before .pre in
+    λ h. no-publish (given .0) (a .refresh - 1) (given .1 .0) (given .1 .1) (c .before .is-publish .ensures)
+    (not-true (c .before .is-publish .result) (c .if2 .taken))
+
+add-if3 : tie.Need-add-if3
+add-if3 c = search needs
+
+mul-if3 : tie.Need-mul-if3
+mul-if3 c = search needs
+
+shared-slice-read-if3 : tie.Need-shared-slice-read-if3
+shared-slice-read-if3 c = search needs
+
+add-if3-2 : tie.Need-add-if3-2
+add-if3-2 c = search needs
+
+mul-if3-2 : tie.Need-mul-if3-2
+mul-if3-2 c = search needs
+
+shared-slice-read-if3-2 : tie.Need-shared-slice-read-if3-2
+shared-slice-read-if3-2 c = search needs
+
+returns-3 : tie.Need-returns-3
+returns-3 c =
+    let a = c .before .before .before .before .before .before .before .before .before .args in
+    let given = c .before .before .before .before .before .before .before .before .before .pre in
+    let called = c .before .before .before .before .is-publish in
+    λ h. other-file (given .0) (a .refresh - 1) (given .1 .0) (given .1 .1) (called .ensures)
+    (not-false (called .result) (c .before .before .before .if2 .left)) (c .if3 .taken)
+
+mul-counts-before : tie.Need-mul-counts-before
+mul-counts-before c = search needs
+
+shared-slice-read-counts-before : tie.Need-shared-slice-read-counts-before
+shared-slice-read-counts-before c = search needs
+
+cast-counts-before : tie.Need-cast-counts-before
+cast-counts-before c =
+    let given = c .before .before .before .before .before .before .before .before .before .before .pre in
+    omega (arith, process-low (given .0) (given .1 .1), given .0 .few-processes)
+
+sub-counts-before : tie.Need-sub-counts-before
+sub-counts-before c = search needs
+
+counts-before-requires : tie.Need-counts-before-requires
+counts-before-requires c κs =
+    let a = c .before .before .before .before .before .before .before .before .before .before .args in
+    let given = c .before .before .before .before .before .before .before .before .before .before .pre in
+    let o : a .refresh - 1 < a .n = omega (arith, c .before .before .before .before .before .before .before .if1 .left, given .1 .2) in
+    asked (given .0) (given .1 .1) (given .1 .1) o
+
+returns-4 : tie.Need-returns-4
+returns-4 c =
+    let a = c .before .before .before .before .before .before .before .before .before .before .before .args in
+    let given = c .before .before .before .before .before .before .before .before .before .before .before .pre in
+    let called = c .before .before .before .before .before .before .is-publish in
+    λ h.
+    let o : a .refresh - 1 < a .n = omega (arith, h, given .1 .2) in
+    by-counts (given .0) (a .refresh - 1) (given .1 .0) (given .1 .1) (called .ensures)
+    (not-false (called .result) (c .before .before .before .before .before .if2 .left)) (c .before .before .if3 .left)
+    (compared (given .0) (given .1 .1) (given .1 .1) o (c .counts-before .ensures))
+
+pub is-noted-spec : {M : Type 1} → statement M
+is-noted-spec =
+    tie.close
+    (tie.spec
+    returns
+    mul-at
+    mul-to
+    add-is-publish
+    mul-is-publish
+    shared-slice-read-is-publish
+    is-publish-requires
+    returns-2
+    add-if3
+    mul-if3
+    shared-slice-read-if3
+    add-if3-2
+    mul-if3-2
+    shared-slice-read-if3-2
+    returns-3
+    mul-counts-before
+    shared-slice-read-counts-before
+    cast-counts-before
+    sub-counts-before
+    counts-before-requires
+    returns-4)

@@ -1,0 +1,73 @@
+-- How the verdict is found: for each later row one pass that notes, for each process, its last row that publishes and happens before the
+-- refresh, and one pass over the earlier rows. The law `race-scan` says that it finds the races.
+use Prim.Native.Nat.{ℕ, zero, suc, _+_, _-_, _*_}
+use mathlib.Core.Path.{_≡_}
+use mathlib.Core.Bool.{Bool, true, false, cond, not, _&&_}
+use mathlib.Core.List.{List, _++_}
+use lib.ListN.{length, getD}
+use lib.Dec.{leb, ltb, eqb}
+use Rattle.models.specs.Operations.{READ, WRITE}
+use Rattle.models.specs.Limits.{MODELS}
+use Rattle.models.specs.Table.{publishes, refreshes}
+use Rattle.trace.specs.declared.Row.{Row}
+use Rattle.trace.specs.Rows.{rowsIn}
+use Rattle.order.specs.Order.{rowAt, sameProcess, count, countsOf, fits, filledLeft}
+use Rattle.order.specs.Clock.{rowIn, cellIn}
+use Rattle.races.specs.Races.{isWrite, sameFile, conflict, leastFrom, race, Verdict, free, racing, verdictOf}
+use Rattle.races.specs.Search.{lastBelow, refreshAt}
+use Rattle.races.specs.declared.Found.{Found}
+use Rattle.races.specs.declared.Found.the-variants.{Free, Race, Refused}
+
+module _ (rows : List Row) (model : ℕ) where
+  -- row i, of process p, happens before row j or is it, by the counts
+  abbrev pub before : ℕ → ℕ → ℕ → Bool
+  before p i j = leb (count rows p i) (count rows p j)
+
+  -- row c publishes the file of row y and happens before row o
+  abbrev pub noted : ℕ → ℕ → ℕ → Bool
+  noted y o c =
+      publishes model (rowAt rows c .kind) && (sameFile (rowAt rows y) (rowAt rows c) && before (rowAt rows c .process) c o)
+
+  -- the last such row of process p below k, as its place and one
+  unfoldable pub lastNoted : ℕ → ℕ → ℕ → ℕ → ℕ
+  lastNoted y o p k = lastBelow k (λ c. eqb (rowAt rows c .process) p && noted y o c)
+
+  -- X before Y is properly synchronized: a read by the counts; a write, where there is a refresh, by itself or by its process's last noted row
+  unfoldable pub inOrder : ℕ → ℕ → Bool
+  inOrder x y =
+      let p = rowAt rows x .process in
+      cond (isWrite (rowAt rows x))
+      (ltb 0 (refreshAt rows model y)
+      && cond (publishes model WRITE) (before p x (refreshAt rows model y - 1)) (ltb (suc x) (lastNoted y (refreshAt rows model y - 1) p y)))
+      (before p x y)
+
+  -- the smallest x that races with y, as its place and one; 0 where none does
+  unfoldable pub raceAt : ℕ → ℕ
+  raceAt y =
+      let x = leastFrom y 0 (λ x. conflict (rowAt rows x) (rowAt rows y) && not (inOrder x y)) in
+      cond (ltb x y) (suc x) 0
+
+-- ---- What the call answers
+
+-- every process of the first n rows is below the limit
+unfoldable pub processesIn : ℕ → ℕ → List ℕ → Bool
+processesIn zero processLimit xs = true
+processesIn (suc n) processLimit xs = processesIn n processLimit xs && ltb (rowIn xs n .process) processLimit
+
+abbrev pub foundOf : Verdict → Found
+foundOf free = Free
+foundOf (racing earlier later) = Race earlier later
+
+-- a model, limits and slices that fit, and processes below the limit
+abbrev pub judgeable : ℕ → ℕ → ℕ → List ℕ → ℕ → Bool
+judgeable n processLimit model xs countsLength =
+    fits n processLimit (length xs) countsLength && (ltb model MODELS && processesIn n processLimit xs)
+
+abbrev pub answerOf : Bool → List ℕ → ℕ → ℕ → Found
+answerOf true xs n model = foundOf (verdictOf (rowsIn n xs) model)
+answerOf false xs n model = Refused
+
+-- the counts are filled where they fit
+abbrev pub countsAfter : Bool → ℕ → ℕ → List ℕ → List ℕ → List ℕ
+countsAfter true n processLimit xs counts = filledLeft true n processLimit xs counts
+countsAfter false n processLimit xs counts = counts
