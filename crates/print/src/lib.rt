@@ -1,0 +1,75 @@
+// Bytes and decimal numbers put into a lent slice from a place on. Where there is no room nothing is put, and the answer is the same place.
+ghost use Prim.Native.Nat.{_+_, _≤_};
+ghost use mathlib.Core.Path.{_≡_};
+ghost use lib.ListN.{length};
+ghost use Rattle.print.specs.Decimal.{digitsOf, widthOf, decimalOf};
+ghost use Rattle.print.specs.Puts.{lay, putIn, putEnd};
+
+// Puts bytes and answers the place behind them.
+pub fn put(out: &mut [u8], at: usize, bytes: &[u8]) -> usize
+    ensures answer { λ r. ⌜ r ≡ putEnd (now (out .entry)) at (now (bytes .entry)) ⌝ }
+    ensures left { λ r. ⌜ now (out .exit) ≡ putIn (now (out .entry)) at (now (bytes .entry)) ⌝ }
+{
+    if out.len() < bytes.len() {
+        return at;
+    }
+    if out.len() - bytes.len() < at {
+        return at;
+    }
+    let mut i = 0;
+    while i < bytes.len() {
+        out[at + i] = bytes[i];
+        i += 1;
+    }
+    at + bytes.len()
+}
+
+// Puts a number's decimal digits and answers the place behind them.
+pub fn put_number(out: &mut [u8], at: usize, n: u32) -> usize
+    ensures answer { λ r. ⌜ r ≡ putEnd (now (out .entry)) at (decimalOf n) ⌝ }
+    ensures left { λ r. ⌜ now (out .exit) ≡ putIn (now (out .entry)) at (decimalOf n) ⌝ }
+{
+    let width = width_of(n);
+    if out.len() < width {
+        return at;
+    }
+    if out.len() - width < at {
+        return at;
+    }
+    put_digits(out, at, n, width);
+    at + width
+}
+
+// How many digits a number has.
+fn width_of(n: u32) -> usize
+    ensures { λ r. ⌜ (r ≡ widthOf n) × (r ≤ 10) ⌝ }
+{
+    let mut width = 1;
+    let mut rest = n;
+    while 10 <= rest {
+        rest /= 10;
+        width += 1;
+    }
+    width
+}
+
+// Puts the last digits of a number.
+fn put_digits(out: &mut [u8], at: usize, n: u32, width: usize)
+    requires { ⌜ at + width ≤ length (now out) ⌝ }
+    ensures { λ _. ⌜ now (out .exit) ≡ lay (now (out .entry)) at (digitsOf width n) ⌝ }
+{
+    let mut i = width;
+    let mut rest = n;
+    while 0 < i {
+        i -= 1;
+        out[at + i] = digit(rest % 10);
+        rest /= 10;
+    }
+}
+
+fn digit(d: u32) -> u8
+    requires { ⌜ d ≤ 9 ⌝ }
+    ensures { λ r. ⌜ r ≡ 48 + d ⌝ }
+{
+    48 + d as u8
+}
