@@ -35,6 +35,8 @@ mod ffi {
             counts: *mut u16,
             counts_len: usize,
         ) -> u64;
+
+        pub fn kiqsaryn_report(text: *const u8, text_len: usize, out: *mut u8, out_len: usize) -> usize;
     }
 }
 
@@ -114,4 +116,13 @@ pub fn verdict(rows: &[u32], n: u32, process_limit: u32, model: u32, counts: &mu
         u64::MAX => Verdict::Refused,
         _ => Verdict::Race { earlier: (answer >> 32) as u32, later: answer as u32 },
     }
+}
+
+/// What the program `verdict` prints of a trace with header: a line for each model, or the refusal's line.
+pub fn report(text: &[u8]) -> Vec<u8> {
+    let mut out = vec![0; 256];
+    // Both slices are live for the call, and the one lent for writing is borrowed by it alone.
+    let n = unsafe { ffi::kiqsaryn_report(text.as_ptr(), text.len(), out.as_mut_ptr(), out.len()) };
+    out.truncate(n);
+    out
 }

@@ -4,6 +4,7 @@ ghost use lib.ListN.{length};
 ghost use Rattle.trace.specs.Questions.{checkTrace};
 ghost use Rattle.order.specs.Order.{fits};
 ghost use Rattle.races.specs.Scan.{judgeable};
+ghost use Rattle.checker.specs.Report.{reportLength, reportIn};
 ghost use Rattle.kiqsaryn.specs.Packing.{Gives, Fills, Judges};
 use order::Filled;
 use races::Found;
@@ -76,4 +77,14 @@ pub extern "C" fn kiqsaryn_verdict(
         Found::Race(earlier, later) => earlier as u64 * 4294967296 + later as u64,
         Found::Refused => 18446744073709551615,
     }
+}
+
+// What the program verdict prints of a trace with header, put at the front of a slice of 256 bytes or more, as checker::report does. The
+// answer is its length, and 0 for a shorter slice.
+#[no_mangle]
+pub extern "C" fn kiqsaryn_report(text: &[u8], out: &mut [u8]) -> usize
+    ensures answer { λ r. ⌜ r ≡ reportLength (now (text .entry)) (now (out .entry)) ⌝ }
+    ensures left { λ r. ⌜ now (out .exit) ≡ reportIn (now (text .entry)) (now (out .entry)) ⌝ }
+{
+    checker::report(text, out)
 }

@@ -3,3 +3,4 @@ pub mod Clocks
 pub mod Cells
 pub mod Joins
 pub mod Filling
+pub mod Sounds

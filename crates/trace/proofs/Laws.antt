@@ -8,7 +8,7 @@ use lib.ListN.{length, take, drop, replicate, length-append, length-drop}
 use lib.Seq.{take-add, append-snoc}
 use lib.Dec.{leb, eqb}
 use borrow.Author.Tests.{leb-true, ltb-true, eqb-true, eqb-false}
-use Rattle.csv.specs.Reading.{Records, Ending, all-read, at-malformed, at-limit}
+use Rattle.csv.specs.Reading.{Records, records, Ending, all-read, at-malformed, at-limit}
 use Rattle.models.specs.Limits.{PROCESSES, ROWS, FILES, MESSAGES, OFFSET-MAX}
 use Rattle.trace.specs.declared.Row.{Row}
 use Rattle.trace.specs.Rows.{KINDS, kindOf, usedBy, isPlain, value, valueFrom, isNumber, field, rowOf, numbers, six, rowHere, rowsIn}
@@ -289,6 +289,20 @@ legal header model rowLimit processLimit rowsLength countsLength e =
       known-model = ltb-true _ _ (model-in .0);
       header-word = leb-true _ _ (yes .1 .1 .0);
     }
+
+-- an accepted trace passed the questions 1 to 3, and its rows came of its records
+pub accepted-passed : (text : List ℕ) (header model R P limit a b : ℕ) (rows : List Row) → checkTrace text header model R P limit a b ≡ accepted rows →
+    Legal header model R P a b × (readTrace header R P (records text limit) ≡ accepted rows)
+unfolding checkTrace
+accepted-passed text header model R P limit a b rows e = go (eqb first 0) refl e
+  where
+    first : ℕ
+    first = firstNo (callQuestions header model R P a b)
+
+    go : (x : Bool) → eqb first 0 ≡ x → cond x (readTrace header R P (records text limit)) (refused first 0) ≡ accepted rows →
+        Legal header model R P a b × (readTrace header R P (records text limit) ≡ accepted rows)
+    go true q e = (legal header model R P a b (eqb-true first 0 q), e)
+    go false q e = let z : _≡_ {A = ℕ} 0 1 = cc in absurd (omega arith)
 
 -- ---- Rows and their numbers
 

@@ -1,0 +1,136 @@
+-- An accepted trace is one to judge, and what the whole call decides. Assumes nothing.
+use Prim.Native.Nat.{ℕ, zero, suc, _*_, _-_, _≤_, _<_}
+use native.Mathlib.Omega.{arith}
+use native.Mathlib.Nat.{mul-le-mul-right}
+use mathlib.Core.Path.{_≡_, refl, sym, ap, _∙_}
+use mathlib.Core.Bool.{Bool, true, false, cond, _&&_}
+use mathlib.Core.List.{List, [], _∷_, _++_}
+use lib.ListN.{length, replicate, length-append, length-replicate}
+use lib.Dec.{ltb, eqb}
+use borrow.Author.Tests.{le-leb, lt-ltb, eqb-true}
+use Rattle.models.specs.Limits.{MODELS}
+use Rattle.csv.specs.Reading.{records}
+use Rattle.trace.specs.declared.Row.{Row}
+use Rattle.trace.specs.declared.Checked.{Checked}
+use Rattle.trace.specs.declared.Checked.the-variants as checked
+use Rattle.trace.specs.Rows.{numbers, rowsIn}
+use Rattle.trace.specs.Questions.{Outcome, refused, accepted, firstNo, callQuestions, readTrace, checkTrace, rowsLeft, countsLeft, Leaves}
+use Rattle.trace.proofs.Laws.{accepted-passed, accepted-sound, length-numbers, rows-left-back}
+use Rattle.trace.proofs.Whole.{accepted-told, refused-told}
+use Rattle.order.specs.Order.{rowAt, countsOf, fits}
+use Rattle.order.specs.Clock.{rowIn}
+use Rattle.order.proofs.Below.{and-out}
+use Rattle.order.proofs.Filling.{row-in}
+use Rattle.order.proofs.Sounds.{sound-row}
+use Rattle.races.specs.declared.Found.{Found}
+use Rattle.races.specs.declared.Found.the-variants as found
+use Rattle.races.specs.Races.{Verdict, free, racing, verdictOf}
+use Rattle.races.specs.Scan.{processesIn, judgeable, foundOf, answerOf, countsAfter}
+use Rattle.checker.specs.declared.Judged.{Judged}
+use Rattle.checker.specs.declared.Judged.the-variants.{Free, Race, Refused}
+use Rattle.checker.specs.Judging.{judgedRows, Decides}
+
+-- ---- An accepted trace is one to judge
+
+-- rows whose processes are all below the limit pass the test
+processes-pass : (n P : ℕ) (xs : List ℕ) → ((k : ℕ) → k < n → rowIn xs k .process < P) → processesIn n P xs ≡ true
+unfolding processesIn
+processes-pass zero P xs h = refl
+processes-pass (suc n) P xs h = rw (processes-pass n P xs (λ k l. h k (omega arith)), lt-ltb (rowIn xs n .process) P (h n (omega arith)))
+
+-- what the test asks for is enough for it
+judgeable-of : (n P model : ℕ) (xs : List ℕ) (L : ℕ) → n ≤ 4096 → P ≤ 64 → 6 * n ≤ length xs → n * P ≤ L → model < 4 → processesIn n P xs ≡ true →
+    judgeable n P model xs L ≡ true
+judgeable-of n P model xs L a b c d m p =
+    rw (le-leb n 4096 a, le-leb P 64 b, le-leb (6 * n) (length xs) c, le-leb (n * P) L d, lt-ltb model 4 m, p)
+
+-- judged under one model, judged under every other
+pub judgeable-other : (n P model model′ : ℕ) (xs : List ℕ) (L L′ : ℕ) → judgeable n P model xs L ≡ true → model′ < 4 → L′ ≡ L →
+    judgeable n P model′ xs L′ ≡ true
+judgeable-other n P model model′ xs L L′ e m q =
+    let f = and-out (fits n P (length xs) L) (ltb model MODELS && processesIn n P xs) e in
+    let p = and-out (ltb model MODELS) (processesIn n P xs) (f .1) in
+    rw (q, f .0, lt-ltb model′ 4 m, p .1)
+
+-- ---- What the whole call decides
+
+-- the answer of the verdict with the row count
+abbrev pub judgedAs : ℕ → Found → Judged
+judgedAs n found.Free = Free n
+judgedAs n (found.Race earlier later) = Race n earlier later
+judgedAs n found.Refused = Refused 0 0
+
+-- so a verdict's answer becomes what the whole call is to answer
+judged-found : (n : ℕ) (v : Verdict) → judgedAs n (foundOf v) ≡ judgedRows n v
+judged-found n free = refl
+judged-found n (racing earlier later) = refl
+
+module _ (text : List ℕ) (header model R P limit : ℕ) (xs us : List ℕ) where
+  -- what the text comes to
+  abbrev pub outcome : Outcome
+  outcome = checkTrace text header model R P limit (length xs) (length us)
+
+  -- a refusal is the answer
+  pub decides-refused : {a : Checked} {ys vs : List ℕ} {k p : ℕ} → Leaves outcome a xs ys us vs → a ≡ checked.Refused k p →
+      Decides model P outcome (Refused k p) xs ys us vs
+  decides-refused l q =
+      let e = refused-told outcome (sym q ∙ l .answered) in
+      rw e
+      (record {
+        answered = refl;
+        rows-left = l .rows-left ∙ ap (λ (o : Outcome). rowsLeft o xs) e;
+        counts-left = l .counts-left ∙ ap (λ (o : Outcome). countsLeft o us) e;
+      })
+
+  module _ {a : Checked} {ys vs : List ℕ} {n : ℕ} (l : Leaves outcome a xs ys us vs) (q : a ≡ checked.Accepted n) where
+    -- the accepted rows
+    pub told : (rows : List Row) × (outcome ≡ accepted rows) × (n ≡ length rows)
+    told = accepted-told outcome (sym q ∙ l .answered)
+
+    -- the slice that is left holds them, then 0
+    rows-there : ys ≡ rowsLeft (accepted (told .0)) xs
+    rows-there = l .rows-left ∙ ap (λ (o : Outcome). rowsLeft o xs) (told .1)
+
+    -- they are read back from it
+    pub rows-again : rowsIn n ys ≡ told .0
+    rows-again = (λ i. rowsIn (told .2 i) (rows-there i)) ∙ rows-left-back (told .0) xs
+
+    -- they are rows to judge
+    judgeable-left : judgeable n P model ys (length us) ≡ true
+    judgeable-left =
+        let rows = told .0 in
+        let size : n ≡ length rows = told .2 in
+        let z : List ℕ = replicate (length xs - 6 * length rows) 0 in
+        let p = accepted-passed text header model R P limit (length xs) (length us) rows (told .1) in
+        let some : 0 < P = p .0 .some-processes in
+        let s = accepted-sound header R P (records text limit) rows some (p .1) in
+        let few : n ≤ R = omega (arith, s .0) in
+        judgeable-of n P model ys (length us) (omega (arith, p .0 .few-rows)) (p .0 .few-processes)
+        (omega (arith, ap length rows-there, length-append (numbers rows) z, length-numbers rows))
+        (omega (arith, mul-le-mul-right P few, p .0 .counts-fit)) (p .0 .known-model)
+        (processes-pass n P ys (λ k h. rw (sym (row-in n k ys h) ∙ ap (λ (x : List Row). rowAt x k) rows-again) (sound-row (s .1) k (omega arith) .process)))
+
+    -- the counts are as many as before
+    counts-length : length vs ≡ length us
+    counts-length = ap length (l .counts-left ∙ ap (λ (o : Outcome). countsLeft o us) (told .1)) ∙ length-replicate (length us) 0
+
+    -- so they are to judge with the counts that are left
+    pub judgeable-again : judgeable n P model ys (length vs) ≡ true
+    judgeable-again = rw counts-length judgeable-left
+
+    -- with the verdict's answer, whatever it is called, and its counts the whole call decides
+    pub decides : {f g : Found} {ws : List ℕ} →
+        (f ≡ answerOf (judgeable n P model ys (length vs)) ys n model) × (ws ≡ countsAfter (judgeable n P model ys (length vs)) n P ys vs) → f ≡ g →
+        Decides model P outcome (judgedAs n g) xs ys us ws
+    decides {f} {g} {ws} e h =
+        let rows = told .0 in
+        let answer : g ≡ foundOf (verdictOf rows model) =
+        sym h ∙ e .0 ∙ ap (λ (b : Bool). answerOf b ys n model) judgeable-again ∙ ap (λ (x : List Row). foundOf (verdictOf x model)) rows-again in
+        rw (told .1)
+        (record {
+          answered = (λ i. judgedAs (told .2 i) (answer i)) ∙ judged-found (length rows) (verdictOf rows model);
+          rows-left = rows-there;
+          counts-left =
+              e .1 ∙ ap (λ (b : Bool). countsAfter b n P ys vs) judgeable-again
+              ∙ (λ i. countsOf P (rows-again i) ++ replicate (counts-length i - told .2 i * P) 0);
+        })
