@@ -1,0 +1,44 @@
+-- Bytes and what a map holds for them. A cell is one number: twice a row number, and one more where the byte is unpublished; 0 where nothing
+-- was written.
+use Prim.Native.Nat.{ℕ, _+_, _*_, _/_, _%_}
+use mathlib.Core.Bool.{Bool, cond, _&&_}
+use lib.Dec.{leb, ltb, eqb}
+
+abbrev pub cellOf : ℕ → ℕ → ℕ
+cellOf number mark = number * 2 + mark
+
+abbrev pub numberIn : ℕ → ℕ
+numberIn c = c / 2
+
+abbrev pub markIn : ℕ → ℕ
+markIn c = c % 2
+
+abbrev pub unpublished : ℕ → Bool
+unpublished c = eqb (markIn c) 1
+
+-- the same row number, published
+abbrev pub cleared : ℕ → ℕ
+cleared c = cellOf (numberIn c) 0
+
+-- the cell of every byte
+abbrev pub Bytes : Type 0
+Bytes = ℕ → ℕ
+
+abbrev pub inRange : ℕ → ℕ → ℕ → Bool
+inRange start length b = leb start b && ltb b (start + length)
+
+-- a range gets a cell
+abbrev pub overwrite : ℕ → ℕ → ℕ → Bytes → Bytes
+overwrite start length c f b = cond (inRange start length b) c (f b)
+
+-- the published map after a view was published on it: it takes the unpublished bytes
+abbrev pub published : Bytes → Bytes → Bytes
+published view below b = cond (unpublished (view b)) (cleared (view b)) (below b)
+
+-- the view then: its bytes are marked published
+abbrev pub settled : Bytes → Bytes
+settled view b = cleared (view b)
+
+-- a view after a refresh: each byte that is not unpublished is taken from the published map
+abbrev pub refreshed : Bytes → Bytes → Bytes
+refreshed view below b = cond (unpublished (view b)) (view b) (below b)

@@ -1,0 +1,4 @@
+pub mod Cells
+pub mod Runs
+pub mod Maps
+pub mod Points

@@ -1,0 +1,1 @@
+// What a map of pieces means, byte by byte; no code.
