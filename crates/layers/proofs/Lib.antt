@@ -1,0 +1,4 @@
+pub mod Points
+pub mod Slices
+pub mod Stepping
+pub mod Tables
