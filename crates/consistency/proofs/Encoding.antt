@@ -1,0 +1,191 @@
+-- Runs of the machine and of the plain file in their slices are runs by the bytes: nothing is refused, and the slices hold the maps of what the
+-- bytes are. Assumes nothing.
+use Prim.Native.Nat.{ℕ, _+_, _*_, _≤_, _<_}
+use native.Mathlib.Omega.{arith}
+use mathlib.Core.Path.{_≡_, refl, ap, _∙_}
+use mathlib.Core.Logic.{_↔_, Iff·rfl, Iff·and}
+use mathlib.Core.Bool.{Bool, true, false, not, _&&_, _||_}
+use mathlib.Core.List.{List, [], _∷_}
+use lib.ListN.{length}
+use lib.Dec.{leb, eqb}
+use borrow.Author.Tests.{le-leb, lt-ltb, eq-eqb}
+use Rattle.models.specs.Limits.{MODELS, PROCESSES, ROWS, FILES, OFFSET-MAX}
+use Rattle.models.specs.Operations.{READ, WRITE}
+use Rattle.trace.specs.declared.Row.{Row}
+use Rattle.order.proofs.Below.{or-right}
+use Rattle.runs.specs.Cells.{Bytes, numberIn}
+use Rattle.runs.specs.Runs.{Run, piecesOf}
+use Rattle.layers.specs.Layers.{Layers, fresh, nothing, afterRow, afterPlain, piecesRead, ofFile}
+use Rattle.layers.specs.States.{Header, layersIn, layersTo, plainIn, plainTo}
+use Rattle.layers.specs.Steps.{makingQuestions, plainMakingQuestions, usesRange, rowAsked, Step, answered, stepOf, plainStepOf}
+use Rattle.layers.proofs.Points.{picked, Pointed, pointed-pieces, LayersPointed, PlainPointed, Writing}
+use Rattle.layers.proofs.Points.{fresh-pointed, plain-pointed, row-pointed, plain-row-pointed}
+use Rattle.layers.proofs.Slices.{held-fit, to-in, layers-held, fresh-to, plain-in, plain-held, fresh-plain}
+use Rattle.layers.proofs.Stepping.{AllYes, step-held, plain-step-held}
+use Rattle.consistency.specs.Orders.{In}
+use Rattle.consistency.specs.Files.{Numbered, Agree, runFrom, plainRunFrom, Level, Lent, freshMachine, freshPlain}
+use Rattle.consistency.proofs.Meaning.{layersRun, plainRun, ReadsSame}
+use Rattle.consistency.proofs.Answers.{same-iff}
+
+-- a header that passes the questions of making
+pub record Made (h : Header) : Type 0 where
+  pub is-model : h .model < MODELS
+  pub some-process : 1 ≤ h .processes
+  pub few-processes : h .processes ≤ PROCESSES
+  pub is-file : h .file < FILES
+
+-- a row that passes the questions before 16, the ends of whose range, if it writes, are among the points
+pub record Fit (h : Header) (points : List ℕ) (x : Numbered) : Type 0 where
+  pub of-file : ofFile (h .file) (x .row) ≡ true
+  pub numbered : 1 ≤ x .number
+  pub number-most : x .number ≤ ROWS
+  pub by-process : x .row .process < h .processes
+  pub range-end : usesRange (x .row) ≡ true → x .row .offset + x .row .length ≤ OFFSET-MAX
+  pub at-points : x .row .kind ≡ WRITE → In (x .row .offset) points × In (x .row .offset + x .row .length) points
+
+abbrev pub AllFit : Header → List ℕ → List Numbered → Type 0
+AllFit h points [] = Unit {0}
+AllFit h points (x ∷ l) = Fit h points x × AllFit h points l
+
+-- ---- No question says No
+
+-- the questions of making, for the machine and for the plain file
+made-yes : {h : Header} {xs ys out : List ℕ} → Made h → Lent h xs ys out → AllYes (makingQuestions h (length xs))
+unfolding makingQuestions
+made-yes made lent = (
+  le-leb _ _ (lent .for-machine),
+  (
+    (λ i. lt-ltb _ _ (made .is-model) i && (le-leb _ _ (made .some-process) i && le-leb _ _ (made .few-processes) i)),
+    (lt-ltb _ _ (made .is-file), tt),
+  ),
+)
+
+plain-made-yes : {h : Header} {xs ys out : List ℕ} → Made h → Lent h xs ys out → AllYes (plainMakingQuestions h (length ys))
+unfolding plainMakingQuestions
+plain-made-yes made lent = (
+  le-leb _ _ (lent .for-plain),
+  ((λ i. le-leb _ _ (made .some-process) i && le-leb _ _ (made .few-processes) i), (lt-ltb _ _ (made .is-file), tt)),
+)
+
+-- a test that is asked of some rows only
+where-asked : (x y : Bool) → (x ≡ true → y ≡ true) → not x || y ≡ true
+where-asked true y f = f refl
+where-asked false y f = refl
+
+module _ {h : Header} {points : List ℕ} {x : Numbered} (fit : Fit h points x) where
+  -- those of a row
+  row-yes : AllYes (rowAsked h (x .row) (x .number))
+  unfolding rowAsked
+  row-yes = (
+    fit .of-file,
+    (
+      (λ i. le-leb _ _ (fit .numbered) i && le-leb _ _ (fit .number-most) i),
+      (
+        (λ i. lt-ltb _ _ (fit .by-process) i && where-asked (usesRange (x .row)) _ inside i),
+        (where-asked (usesRange (x .row)) _ (λ e. le-leb _ _ (fit .range-end e)), tt),
+      ),
+    ),
+  )
+    where
+      inside : usesRange (x .row) ≡ true → leb (x .row .offset) OFFSET-MAX && leb (x .row .length) OFFSET-MAX ≡ true
+      inside e =
+          let m = fit .range-end e in
+          λ i. le-leb (x .row .offset) OFFSET-MAX (omega arith) i && le-leb (x .row .length) OFFSET-MAX (omega arith) i
+
+  -- its range ends at points
+  row-writing : Writing points (x .row) (x .number)
+  row-writing =
+      record {
+        numbered = fit .numbered;
+        number-most = fit .number-most;
+        range-end = λ e. fit .range-end (or-right (eqb (x .row .kind) READ) _ (eq-eqb _ _ e));
+        at-points = fit .at-points;
+      }
+
+-- ---- Rows one after the other
+
+module _ (h : Header) {points : List ℕ} where
+  -- files after all rows change at points
+  run-pointed : (l : List Numbered) → AllFit h points l → {s : Layers} → LayersPointed points s → LayersPointed points (layersRun (h .model) l s)
+  unfolding layersRun
+  run-pointed [] fits k = k
+  run-pointed (x ∷ l) (fit, fits) k = run-pointed l fits (row-pointed (row-writing fit) (h .model) k)
+
+  plain-run-pointed : (l : List Numbered) → AllFit h points l → {f : Bytes} → PlainPointed points f → PlainPointed points (plainRun l f)
+  unfolding plainRun
+  plain-run-pointed [] fits k = k
+  plain-run-pointed (x ∷ l) (fit, fits) k = plain-run-pointed l fits (plain-row-pointed (row-writing fit) k)
+
+module _ {h : Header} (made : Made h) {points : List ℕ} (enough : length points ≤ h .space) {xs ys out : List ℕ} (lent : Lent h xs ys out) where
+  -- an answer slice has room for a row's pieces
+  pieces-fit : (r : Row) {f : Bytes} → Pointed points f → 3 * length (piecesRead r f) ≤ length out
+  pieces-fit r {f} k =
+      picked (λ (ps : List Run). 3 * length ps ≤ length out) (eqb (r .kind) READ) (piecesOf f (r .offset) (r .length)) []
+      (λ _. omega (arith, pointed-pieces k (r .offset) (r .length), enough, lent .for-answers)) (omega arith)
+
+  module _ {x : Numbered} (fit : Fit h points x) where
+    -- one step of the machine and one of the plain file
+    machine-step : {s : Layers} → LayersPointed points s →
+        let t = afterRow (h .model) (x .row) (x .number) s in
+        stepOf h (layersTo h s xs) (x .row) (x .number) out
+        ≡ answered (x .row) (piecesRead (x .row) (t .view (x .row .process))) (layersTo h t xs) out
+    machine-step k =
+        let after = row-pointed (row-writing fit) (h .model) k in
+        step-held h (layers-held h enough k) xs (made-yes made lent) (x .row) (x .number) (row-yes fit) out (held-fit h (layers-held h enough after))
+        (pieces-fit (x .row) (after .view (x .row .process)))
+
+    plain-step : {f : Bytes} → PlainPointed points f →
+        let g = afterPlain (x .row) (x .number) f in
+        plainStepOf h (plainTo h f ys) (x .row) (x .number) out ≡ answered (x .row) (piecesRead (x .row) g) (plainTo h g ys) out
+    plain-step k =
+        let after = plain-row-pointed (row-writing fit) k in
+        plain-step-held h (plain-held h enough k) ys (plain-made-yes made lent) (x .row) (x .number) (row-yes fit) out
+        (le-leb _ _ (plain-held h enough after .bytes .fit)) (pieces-fit (x .row) (after .bytes))
+
+  -- every row gets the same from both exactly when every read finds the same numbers
+  agree-from : (l : List Numbered) → AllFit h points l → {s : Layers} {f : Bytes} → LayersPointed points s → PlainPointed points f →
+      Agree h out l (layersTo h s xs) (plainTo h f ys) ↔ ReadsSame (h .model) l s f
+  agree-from [] fits k m = (λ a. tt, λ a. tt)
+  agree-from (x ∷ l) (fit, fits) k m =
+      rw (machine-step fit k, plain-step fit m)
+      (Iff·and (same-iff (x .row) _ _ _ _ out)
+      (agree-from l fits (row-pointed (row-writing fit) (h .model) k) (plain-row-pointed (row-writing fit) m)))
+
+  -- the slices after all rows hold the files after them
+  run-to : (l : List Numbered) → AllFit h points l → {s : Layers} → LayersPointed points s →
+      runFrom h out l (layersTo h s xs) ≡ layersTo h (layersRun (h .model) l s) xs
+  unfolding runFrom layersRun
+  run-to [] fits k = refl
+  run-to (x ∷ l) (fit, fits) k =
+      ap (λ (s : Step). runFrom h out l (s .maps)) (machine-step fit k) ∙ run-to l fits (row-pointed (row-writing fit) (h .model) k)
+
+  plain-run-to : (l : List Numbered) → AllFit h points l → {f : Bytes} → PlainPointed points f →
+      plainRunFrom h out l (plainTo h f ys) ≡ plainTo h (plainRun l f) ys
+  unfolding plainRunFrom plainRun
+  plain-run-to [] fits k = refl
+  plain-run-to (x ∷ l) (fit, fits) k =
+      ap (λ (s : Step). plainRunFrom h out l (s .maps)) (plain-step fit k) ∙ plain-run-to l fits (plain-row-pointed (row-writing fit) k)
+
+module _ (h : Header) (made : Made h) (points : List ℕ) (enough : length points ≤ h .space) where
+  module _ (xs ys out : List ℕ) (lent : Lent h xs ys out) (l : List Numbered) (fit : AllFit h points l) where
+    -- every row gets the same from both exactly when every read finds the same numbers
+    pub agree-iff : Agree h out l (freshMachine h xs) (freshPlain h ys) ↔ ReadsSame (h .model) l fresh nothing
+    agree-iff = rw (fresh-to h xs, fresh-plain h ys) (agree-from made enough lent l fit fresh-pointed plain-pointed)
+
+    -- the published bytes after all rows, and the plain ones
+    run-bytes : layersIn h (runFrom h out l (freshMachine h xs)) .shared ≡ layersRun (h .model) l fresh .shared
+    run-bytes =
+        ap (λ (zs : List ℕ). layersIn h (runFrom h out l zs) .shared) (fresh-to h xs)
+        ∙ ap (λ (zs : List ℕ). layersIn h zs .shared) (run-to made enough lent l fit fresh-pointed)
+        ∙ to-in h (layers-held h enough (run-pointed h l fit fresh-pointed)) xs .shared
+
+    plain-run-bytes : plainIn h (plainRunFrom h out l (freshPlain h ys)) ≡ plainRun l nothing
+    plain-run-bytes =
+        ap (λ (zs : List ℕ). plainIn h (plainRunFrom h out l zs)) (fresh-plain h ys)
+        ∙ ap (plainIn h) (plain-run-to made enough lent l fit plain-pointed)
+        ∙ plain-in h (plain-held h enough (plain-run-pointed h l fit plain-pointed)) ys
+
+    -- the published file is the plain one exactly when the bytes are
+    pub level-iff : Level h (runFrom h out l (freshMachine h xs)) (plainRunFrom h out l (freshPlain h ys))
+        ↔ ((b : ℕ) → b < OFFSET-MAX → numberIn (layersRun (h .model) l fresh .shared b) ≡ numberIn (plainRun l nothing b))
+    level-iff = rw (run-bytes, plain-run-bytes) Iff·rfl

@@ -1,0 +1,16 @@
+pub mod Byte
+pub mod Core
+pub mod Holding
+pub mod Freedom
+pub mod Runs
+pub mod Selections
+pub mod Witness
+pub mod Meaning
+pub mod Answers
+pub mod Encoding
+pub mod Views
+pub mod Bytewise
+pub mod Orderings
+pub mod Chains
+pub mod Bridges
+pub mod Theorems

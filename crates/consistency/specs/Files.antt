@@ -1,0 +1,129 @@
+-- Whole runs of the layered and the plain file, and what it means that they are equal.
+use Prim.Native.Nat.{ℕ, zero, suc, _+_, _*_, _≤_, _<_}
+use mathlib.Core.Path.{_≡_}
+use mathlib.Core.Logic.{_↔_}
+use mathlib.Core.Bool.{Bool, true, cond}
+use mathlib.Core.List.{List, [], _∷_, _++_}
+use lib.ListN.{length}
+use lib.Dec.{eqb}
+use Rattle.models.specs.Limits.{ROWS, FILES, OFFSET-MAX}
+use Rattle.models.specs.Operations.{WRITE, COMMIT, COMMIT-MODEL}
+use Rattle.trace.specs.declared.Row.{Row}
+use Rattle.order.specs.Order.{rowAt}
+use Rattle.runs.specs.Cells.{numberIn}
+use Rattle.layers.specs.Layers.{ofFile}
+use Rattle.layers.specs.States.{Header, mapsLength, layersIn, plainIn}
+use Rattle.layers.specs.Steps.{Answer, refusing, done, listed, Step, stepOf, plainStepOf, madeTo}
+use Rattle.consistency.specs.Orders.{In, Once, Allowed}
+
+-- ---- What is put to both files
+
+-- a row under its number
+pub record Numbered : Type 0 where
+  pub row : Row
+  pub number : ℕ
+
+-- the file's rows in this order, each under its number in the trace; rows that name another file or none only bind the order
+unfoldable pub rowsFor : List Row → ℕ → List ℕ → List Numbered
+rowsFor rows file [] = []
+rowsFor rows file (k ∷ order) =
+    cond (ofFile file (rowAt rows k)) (record { row = rowAt rows k; number = suc k } ∷ rowsFor rows file order) (rowsFor rows file order)
+
+-- a row of a kind of the file by a process, under any number
+pub record End : Type 0 where
+  pub process : ℕ
+  pub number : ℕ
+
+unfoldable pub endRows : ℕ → ℕ → List End → List Numbered
+endRows kind file [] = []
+endRows kind file (e ∷ ends) =
+    record { row = record { process = e .process; kind = kind; file = file; offset = 0; length = 0; message = 0 }; number = e .number }
+    ∷ endRows kind file ends
+
+-- one by each process below the limit, in any sequence, under row numbers 1 to 4,096
+unfoldable pub processesOf : List End → List ℕ
+processesOf [] = []
+processesOf (e ∷ ends) = e .process ∷ processesOf ends
+
+abbrev pub NumbersIn : List End → Type 0
+NumbersIn [] = Unit {0}
+NumbersIn (e ∷ ends) = (1 ≤ e .number) × (e .number ≤ ROWS) × NumbersIn ends
+
+pub record ByAll (processes : ℕ) (ends : List End) : Type 0 where
+  pub every : (p : ℕ) → (p < processes) ↔ In p (processesOf ends)
+  pub once : Once (processesOf ends)
+  pub numbered : NumbersIn ends
+
+-- ---- Runs: each row meets the state the row before it left
+
+-- neither refuses, and both answer the same: for a read its count and pieces
+pub record Same (s t : Step) : Type 0 where
+  pub accepted : (number : ℕ) → s .answer ≡ refusing number → ⊥
+  pub plainly-accepted : (number : ℕ) → t .answer ≡ refusing number → ⊥
+  pub answers : s .answer ≡ t .answer
+  pub pieces : s .out ≡ t .out
+
+module _ (h : Header) (out : List ℕ) where
+  -- every row gets the same from both, from the slices of the machine and of the plain file on
+  abbrev pub Agree : List Numbered → List ℕ → List ℕ → Type 0
+  Agree [] xs ys = Unit {0}
+  Agree (x ∷ l) xs ys =
+      Same (stepOf h xs (x .row) (x .number) out) (plainStepOf h ys (x .row) (x .number) out)
+      × Agree l (stepOf h xs (x .row) (x .number) out .maps) (plainStepOf h ys (x .row) (x .number) out .maps)
+
+  -- the slices after all rows
+  unfoldable pub runFrom : List Numbered → List ℕ → List ℕ
+  runFrom [] xs = xs
+  runFrom (x ∷ l) xs = runFrom l (stepOf h xs (x .row) (x .number) out .maps)
+
+  unfoldable pub plainRunFrom : List Numbered → List ℕ → List ℕ
+  plainRunFrom [] ys = ys
+  plainRunFrom (x ∷ l) ys = plainRunFrom l (plainStepOf h ys (x .row) (x .number) out .maps)
+
+-- the published file has the plain file's row number at every byte
+abbrev pub Level : Header → List ℕ → List ℕ → Type 0
+Level h xs ys = (b : ℕ) → b < OFFSET-MAX → numberIn (layersIn h xs .shared b) ≡ numberIn (plainIn h ys b)
+
+-- ---- Equal files
+
+-- how many rows write
+unfoldable pub writesIn : List Row → ℕ
+writesIn [] = 0
+writesIn (r ∷ rows) = cond (eqb (r .kind) WRITE) 1 0 + writesIn rows
+
+-- maps have space for twice the trace's writes
+abbrev pub headerFor : ℕ → ℕ → ℕ → List Row → Header
+headerFor model processes file rows = record { model = model; processes = processes; file = file; space = 2 * writesIn rows }
+
+-- fresh files in slices that have room, and an answer slice with room for one piece more than twice the writes
+pub record Lent (h : Header) (xs ys out : List ℕ) : Type 0 where
+  pub for-machine : mapsLength h ≤ length xs
+  pub for-plain : 4 * h .space ≤ length ys
+  pub for-answers : 3 * (h .space + 1) ≤ length out
+
+abbrev pub freshMachine : Header → List ℕ → List ℕ
+freshMachine h xs = madeTo 0 (mapsLength h) xs
+
+abbrev pub freshPlain : Header → List ℕ → List ℕ
+freshPlain h ys = madeTo 0 (4 * h .space) ys
+
+-- Every row of every allowed order of every closed set is accepted by both, and every read returns what one plain file would.
+abbrev pub ReadsPlain : ℕ → ℕ → List Row → Type 0
+ReadsPlain model processes rows =
+    (file : ℕ) → file < FILES → (order : List ℕ) → Allowed rows order → (xs ys out : List ℕ) → Lent (headerFor model processes file rows) xs ys out →
+    let h = headerFor model processes file rows in
+    Agree h out (rowsFor rows file order) (freshMachine h xs) (freshPlain h ys)
+
+-- Layered and plain file are equal under a model whose processes end with rows of a kind: so it is for those rows too, and at the end the
+-- published file has the plain file's row number at every byte.
+abbrev pub EqualWith : ℕ → ℕ → ℕ → List Row → Type 0
+EqualWith kind model processes rows =
+    (file : ℕ) → file < FILES → (order : List ℕ) → Allowed rows order → (ends : List End) → ByAll processes ends →
+    (xs ys out : List ℕ) → Lent (headerFor model processes file rows) xs ys out →
+    let h = headerFor model processes file rows in
+    let l = rowsFor rows file order ++ endRows kind file ends in
+    Agree h out l (freshMachine h xs) (freshPlain h ys) × Level h (runFrom h out l (freshMachine h xs)) (plainRunFrom h out l (freshPlain h ys))
+
+-- demand 3: with one commit by each process
+abbrev pub Equal : ℕ → List Row → Type 0
+Equal processes rows = EqualWith COMMIT COMMIT-MODEL processes rows

@@ -1,0 +1,28 @@
+-- Orders of rows, as lists of places with the first row first.
+use Prim.Native.Nat.{ℕ, _<_}
+use mathlib.Core.Path.{_≡_}
+use mathlib.Core.Logic.{_⊎_}
+use mathlib.Core.Bool.{true}
+use mathlib.Core.List.{List, [], _∷_}
+use lib.ListN.{length}
+pub use Rattle.runs.specs.Points.{In}
+use Rattle.trace.specs.declared.Row.{Row}
+use Rattle.order.specs.Order.{edge, HB}
+
+-- each number stands once
+abbrev pub Once : List ℕ → Type 0
+Once [] = Unit {0}
+Once (a ∷ l) = (In a l → ⊥) × Once l
+
+-- a stands before b
+abbrev pub Stands : ℕ → ℕ → List ℕ → Type 0
+Stands a b [] = ⊥
+Stands a b (c ∷ l) = ((a ≡ c) × In b l) ⊎ Stands a b l
+
+-- A set of rows that with each row holds every row that happens before it, in an allowed order: it keeps each process's rows in order and each
+-- recv after its send.
+pub record Allowed (rows : List Row) (order : List ℕ) : Type 0 where
+  pub of-trace : (k : ℕ) → In k order → k < length rows
+  pub once : Once order
+  pub closed : (i j : ℕ) → HB (edge rows) i j → In j order → In i order
+  pub in-order : (i j : ℕ) → edge rows i j ≡ true → In i order → In j order → Stands i j order
