@@ -306,12 +306,25 @@ unfolding endRows
 ends-read kind model file [] n s f = tt
 ends-read kind model file (e ∷ ends) n s f = (λ q. absurd (n (eqb-true kind READ q)), ends-read kind model file ends n _ _)
 
--- under commit they publish, one process after the other
+-- a row that publishes and does nothing else publishes each byte
+row-at : (model : ℕ) (r : Row) (number : ℕ) → (r .kind ≡ WRITE → ⊥) → publishes model (r .kind) ≡ true → refreshes model (r .kind) ≡ false →
+    {s : Layers} {b : ℕ} {c : Byte} → At s b c → At (afterRow model r number s) b (publishByte (r .process) c)
+unfolding afterRow
+row-at model r number n u f a = rw (ne-eqb (r .kind) WRITE n, u, f) (publish-at a (r .process))
+
+-- rows of such a kind publish, one process after the other
+pub ends-at : (kind model file : ℕ) → (kind ≡ WRITE → ⊥) → publishes model kind ≡ true → refreshes model kind ≡ false →
+    (ends : List End) (s : Layers) (b : ℕ) (c : Byte) → At s b c → At (layersRun model (endRows kind file ends) s) b (publishAll (processesOf ends) c)
+unfolding layersRun endRows publishAll processesOf
+ends-at kind model file n u f [] s b c a = a
+ends-at kind model file n u f (e ∷ ends) s b c a =
+    ends-at kind model file n u f ends _ b (publishByte (e .process) c) (row-at model _ (e .number) n u f a)
+
+-- so commits do under commit
 pub commits-at : (file : ℕ) (ends : List End) (s : Layers) (b : ℕ) (c : Byte) → At s b c →
     At (layersRun COMMIT-MODEL (endRows COMMIT file ends) s) b (publishAll (processesOf ends) c)
-unfolding layersRun endRows publishAll processesOf afterRow publishes refreshes
-commits-at file [] s b c a = a
-commits-at file (e ∷ ends) s b c a = commits-at file ends (publishing (e .process) s) b (publishByte (e .process) c) (publish-at a (e .process))
+unfolding publishes refreshes
+commits-at file = ends-at COMMIT COMMIT-MODEL file (λ q. absurd (omega (arith, q))) refl refl
 
 -- ---- Runs in two parts
 

@@ -106,12 +106,12 @@ module _ {h : Header} {points : List ℕ} {x : Numbered} (fit : Fit h points x) 
 
 module _ (h : Header) {points : List ℕ} where
   -- files after all rows change at points
-  run-pointed : (l : List Numbered) → AllFit h points l → {s : Layers} → LayersPointed points s → LayersPointed points (layersRun (h .model) l s)
+  pub run-pointed : (l : List Numbered) → AllFit h points l → {s : Layers} → LayersPointed points s → LayersPointed points (layersRun (h .model) l s)
   unfolding layersRun
   run-pointed [] fits k = k
   run-pointed (x ∷ l) (fit, fits) k = run-pointed l fits (row-pointed (row-writing fit) (h .model) k)
 
-  plain-run-pointed : (l : List Numbered) → AllFit h points l → {f : Bytes} → PlainPointed points f → PlainPointed points (plainRun l f)
+  pub plain-run-pointed : (l : List Numbered) → AllFit h points l → {f : Bytes} → PlainPointed points f → PlainPointed points (plainRun l f)
   unfolding plainRun
   plain-run-pointed [] fits k = k
   plain-run-pointed (x ∷ l) (fit, fits) k = plain-run-pointed l fits (plain-row-pointed (row-writing fit) k)
@@ -152,14 +152,14 @@ module _ {h : Header} (made : Made h) {points : List ℕ} (enough : length point
       (agree-from l fits (row-pointed (row-writing fit) (h .model) k) (plain-row-pointed (row-writing fit) m)))
 
   -- the slices after all rows hold the files after them
-  run-to : (l : List Numbered) → AllFit h points l → {s : Layers} → LayersPointed points s →
+  pub run-to : (l : List Numbered) → AllFit h points l → {s : Layers} → LayersPointed points s →
       runFrom h out l (layersTo h s xs) ≡ layersTo h (layersRun (h .model) l s) xs
   unfolding runFrom layersRun
   run-to [] fits k = refl
   run-to (x ∷ l) (fit, fits) k =
       ap (λ (s : Step). runFrom h out l (s .maps)) (machine-step fit k) ∙ run-to l fits (row-pointed (row-writing fit) (h .model) k)
 
-  plain-run-to : (l : List Numbered) → AllFit h points l → {f : Bytes} → PlainPointed points f →
+  pub plain-run-to : (l : List Numbered) → AllFit h points l → {f : Bytes} → PlainPointed points f →
       plainRunFrom h out l (plainTo h f ys) ≡ plainTo h (plainRun l f) ys
   unfolding plainRunFrom plainRun
   plain-run-to [] fits k = refl

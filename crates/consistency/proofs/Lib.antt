@@ -14,3 +14,5 @@ pub mod Orderings
 pub mod Chains
 pub mod Bridges
 pub mod Theorems
+pub mod Benches
+pub mod Sessions

@@ -40,7 +40,7 @@ pointsOf [] = []
 pointsOf (r ∷ rows) = cond (eqb (r .kind) WRITE) (r .offset ∷ ((r .offset + r .length) ∷ pointsOf rows)) (pointsOf rows)
 
 -- two for each write
-points-length : (rows : List Row) → length (pointsOf rows) ≤ 2 * writesIn rows
+pub points-length : (rows : List Row) → length (pointsOf rows) ≤ 2 * writesIn rows
 unfolding pointsOf writesIn
 points-length [] = omega arith
 points-length (r ∷ rows) = go (eqb (r .kind) WRITE) (points-length rows)
@@ -74,7 +74,7 @@ last-first : (l : List ℕ) (y : ℕ) → reverse (l ++ (y ∷ [])) ≡ y ∷ re
 last-first l y = reverse-append l (y ∷ [])
 
 -- rows of two parts pass where both do
-fit-append : (h : Header) (points : List ℕ) (l m : List Numbered) → AllFit h points l → AllFit h points m → AllFit h points (l ++ m)
+pub fit-append : (h : Header) (points : List ℕ) (l m : List Numbered) → AllFit h points l → AllFit h points m → AllFit h points (l ++ m)
 fit-append h points [] m a b = b
 fit-append h points (x ∷ l) m a b = (a .0, fit-append h points l m (a .1) b)
 
@@ -92,7 +92,7 @@ module _ (rows : List Row) (P : ℕ) (sound : Sound P rows) (few : length rows �
     made = record { is-model = m; some-process = some; few-processes = most; is-file = f }
 
     -- every row of an order passes the questions before 16
-    order-fits : (order : List ℕ) → ((k : ℕ) → In k order → k < length rows) → AllFit h (pointsOf rows) (rowsFor rows file order)
+    pub order-fits : (order : List ℕ) → ((k : ℕ) → In k order → k < length rows) → AllFit h (pointsOf rows) (rowsFor rows file order)
     unfolding rowsFor
     order-fits [] i = tt
     order-fits (k ∷ order) i = go (ofFile file (rowAt rows k)) refl (order-fits order (λ j e. i j (inr e)))
@@ -114,9 +114,9 @@ module _ (rows : List Row) (P : ℕ) (sound : Sound P rows) (few : length rows �
         go false e rest = rest
 
     -- and so does a row of another kind at the end
-    ends-fit : (kind : ℕ) → kind < SEND → (usesRange (record { process = 0; kind = kind; file = file; offset = 0; length = 0; message = 0 }) ≡ false) →
-        (kind ≡ WRITE → ⊥) → (ends : List End) → ((p : ℕ) → In p (processesOf ends) → p < P) → NumbersIn ends →
-        AllFit h (pointsOf rows) (endRows kind file ends)
+    pub ends-fit : (kind : ℕ) → kind < SEND →
+        (usesRange (record { process = 0; kind = kind; file = file; offset = 0; length = 0; message = 0 }) ≡ false) → (kind ≡ WRITE → ⊥) →
+        (ends : List End) → ((p : ℕ) → In p (processesOf ends) → p < P) → NumbersIn ends → AllFit h (pointsOf rows) (endRows kind file ends)
     unfolding endRows processesOf
     ends-fit kind s u w [] i n = tt
     ends-fit kind s u w (e ∷ ends) i n = (
@@ -271,10 +271,42 @@ module _ (rows : List Row) (P : ℕ) (sound : Sound P rows) (few : length rows �
           let inside : b < rowAt rows x .offset + rowAt rows x .length = range-end (rowAt rows x .offset) (rowAt rows x .length) b (at .in-earlier) in
           not-shown equal file b (w .file) (omega (arith, inside, w .end)) (s .0) (s .1) (s .2)
 
+  -- ---- Orders alone
+
+  -- an order of a free trace shows nothing
+  free-unshown : verdictOf rows COMMIT-MODEL ≡ free → (file b : ℕ) (h : List ℕ) → Ok (byteTrace rows COMMIT-MODEL file b) h →
+      Shown (byteTrace rows COMMIT-MODEL file b) h → ⊥
+  free-unshown e file b h ok (by-read y l q r n) =
+      let t = byteTrace rows COMMIT-MODEL file b in
+      n (ap (λ (z : List ℕ). run t z .view (rowAt rows y .process)) q
+      ∙ reads-plain t (free-at rows COMMIT-MODEL (omega arith) e file b) y l (subst (Ok t) q ok) r)
+  free-unshown e file b h ok (at-end p k i w n) =
+      let t = byteTrace rows COMMIT-MODEL file b in
+      let below : p < P = subst (λ (z : ℕ). z < P) w (well k (row-of t ok k i) .process) in
+      let a = all-last P p below in
+      n (a .0) (a .4)
+      (subst (λ (z : List ℕ). publishAll z (run t h) .published ≡ plain t h) (a .3)
+      (published-plain t (free-at rows COMMIT-MODEL (omega arith) e file b) h ok (processesOf (a .1))
+      (λ j m. a .2 .every (rowAt rows j .process) .0 (well j (row-of t ok j m) .process))))
+
+  -- The trace is free under commit exactly when no allowed order of any closed set shows a difference at any byte. Orders are all that is asked,
+  -- so it does not matter which of them was recorded.
+  pub free-by-orders : (verdictOf rows COMMIT-MODEL ≡ free)
+      ↔ ((file b : ℕ) (h : List ℕ) → Ok (byteTrace rows COMMIT-MODEL file b) h → Shown (byteTrace rows COMMIT-MODEL file b) h → ⊥)
+  free-by-orders = (
+    free-unshown,
+    λ none. free-iff rows COMMIT-MODEL .1
+        (λ x y r.
+        let found = race-at rows COMMIT-MODEL x y (omega arith) r in
+        let s = race-shown (byteTrace rows COMMIT-MODEL (rowAt rows x .file) (found .0)) (commits rows (rowAt rows x .file) (found .0)) x y
+        (found .1 .conflicts) (found .1 .unsynchronized) in
+        none (rowAt rows x .file) (found .0) (s .0) (s .1) (s .2)),
+  )
+
 -- ---- The demands, from the text on
 
 module _ (text : List ℕ) (header model R P limit a b : ℕ) (rows : List Row) (taken : checkTrace text header model R P limit a b ≡ accepted rows) where
-  sound-trace : Sound P rows × (length rows ≤ ROWS) × (1 ≤ P) × (P ≤ PROCESSES)
+  pub sound-trace : Sound P rows × (length rows ≤ ROWS) × (1 ≤ P) × (P ≤ PROCESSES)
   sound-trace =
       let p = accepted-passed text header model R P limit a b rows taken in
       let s = accepted-sound header R P (records text limit) rows (p .0 .some-processes) (p .1) in

@@ -144,7 +144,9 @@ verdicts (accepted rows) = verdictOf rows 0 ∷ (verdictOf rows 1 ∷ (verdictOf
 pub judged : Bench → List Verdict
 judged t = verdicts (checkTrace (t .text) (t .header) 0 128 8 8192 768 1024)
 
-pub bench-verdicts : map judged traces ≡
+-- the verdicts of A to J and L
+abbrev pub expected : List (List Verdict)
+expected =
     (free ∷ free ∷ free ∷ free ∷ [])  -- A
     ∷ (free ∷ free ∷ racing 1 5 ∷ racing 1 5 ∷ [])  -- B
     ∷ (free ∷ racing 1 4 ∷ racing 1 4 ∷ racing 1 4 ∷ [])  -- C
@@ -157,5 +159,7 @@ pub bench-verdicts : map judged traces ≡
     ∷ (racing 1 2 ∷ racing 1 2 ∷ racing 1 2 ∷ racing 1 2 ∷ [])  -- J
     ∷ (free ∷ free ∷ free ∷ free ∷ [])  -- L
     ∷ []
+
+pub bench-verdicts : map judged traces ≡ expected
 unfolding records recordsFrom onFound readAt fieldsFrom onStop prepend fieldAt quotedTo quotes afterQuote afterCR stopOf run isText isQuoted contentOf undouble sameBytes wordOf sameFields usedBy allDigits startsPlain valueFrom rowOf firstNo callQuestions filledAsUsed numbersInRange any messageInOrder fieldQuestions rowQuestions judgeRows judgeHeader readTrace checkTrace anyBelow edge hbWithin shareByte conflict chainPosix chainCommit chainSession chainMpiIo chain synchronized race leastFrom verdictOf verdicts judged traces inText l-head l-write-ten l-commit l-send l-recv l-read-ten l-read-behind l-close l-open l-read-first l-write-there l-own-read l-write-one l-other-write l-write-none a b c d e f g h i j l
 bench-verdicts = refl

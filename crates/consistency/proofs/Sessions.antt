@@ -1,0 +1,230 @@
+-- The trace whose race under session no order shows. Assumes nothing.
+use Prim.Native.Nat.{ℕ, zero, suc, _<_}
+use native.Mathlib.Omega.{arith}
+use mathlib.Core.Path.{_≡_, refl, sym, ap, subst, _∙_}
+use mathlib.Core.Logic.{inl, inr}
+use mathlib.Core.Bool.{Bool, true, false, cond, _&&_, _||_, false≢true}
+use mathlib.Core.List.{List, [], _∷_, _++_}
+use lib.Dec.{ltb, eqb}
+use Rattle.models.specs.Limits.{FILES}
+use Rattle.models.specs.Operations.{WRITE, COMMIT, CLOSE, SEND, RECV, COMMIT-MODEL, SESSION}
+use Rattle.models.specs.Table.{publishes, refreshes}
+use Rattle.csv.specs.Reading.{records, recordsFrom, onFound, readAt, fieldsFrom, onStop, prepend, fieldAt}
+use Rattle.csv.specs.Reading.{afterCR, stopOf, run as runText, isText, contentOf, sameBytes}
+use Rattle.trace.specs.declared.Row.{Row}
+use Rattle.trace.specs.Rows.{wordOf, usedBy, allDigits, startsPlain, valueFrom, rowOf}
+use Rattle.trace.specs.Questions.{firstNo, callQuestions, filledAsUsed, numbersInRange, any, messageInOrder, fieldQuestions, rowQuestions}
+use Rattle.trace.specs.Questions.{judgeRows, readTrace, checkTrace, accepted}
+use Rattle.order.specs.Counting.{anyBelow}
+use Rattle.order.specs.Order.{rowAt, edge, hbWithin}
+use Rattle.order.proofs.Clocks.{edge-forward}
+use Rattle.races.specs.Races.{shareByte, conflict, chainCommit, chainSession, chain, synchronized, race}
+use Rattle.races.specs.Races.{leastFrom, free, racing, verdictOf}
+use Rattle.runs.specs.Cells.{numberIn}
+use Rattle.layers.specs.Layers.{Layers, fresh, nothing, ofFile}
+use Rattle.layers.specs.States.{Header}
+use Rattle.consistency.specs.Orders.{In, Allowed}
+use Rattle.consistency.specs.Files.{Numbered, rowsFor, End, endRows, processesOf, ByAll, headerFor, EqualWith}
+use Rattle.consistency.proofs.Byte.{Byte, stepByte}
+use Rattle.consistency.proofs.Core.{Trace, run, plain, Ok, none, next, publishAll}
+use Rattle.consistency.proofs.Freedom.{row-of, published-plain}
+use Rattle.consistency.proofs.Meaning.{layersRun, plainRun, ReadsSame, covers, byteTrace}
+use Rattle.consistency.proofs.Encoding.{Made, AllFit, agree-iff, level-iff}
+use Rattle.consistency.proofs.Bytewise.{layers-at, plain-at, reads-in, ends-plain, ends-read, ends-at}
+use Rattle.consistency.proofs.Bytewise.{layers-append, plain-append, reads-append}
+use Rattle.consistency.proofs.Bridges.{allowed-ok, free-at}
+use Rattle.consistency.proofs.Theorems.{pointsOf, points-length, order-fits, ends-fit, fit-append, sound-trace}
+use Rattle.consistency.proofs.Benches.{row}
+
+-- ---- Session: 0 writes, closes, sends; 1 receives, writes the same byte, closes
+
+abbrev pub sRows : List Row
+sRows =
+    row 0 WRITE 1 0 1 0
+    ∷ (row 0 CLOSE 1 0 0 0 ∷ (row 0 SEND 0 0 0 7 ∷ (row 1 RECV 0 0 0 7 ∷ (row 1 WRITE 1 0 1 0 ∷ (row 1 CLOSE 1 0 0 0 ∷ [])))))
+
+-- 0,write,1,0,1,  0,close,1,,,  0,send,,,,7  1,recv,,,,7  1,write,1,0,1,  1,close,1,,,
+abbrev pub sText : List ℕ
+sText =
+    (48 ∷ 44 ∷ 119 ∷ 114 ∷ 105 ∷ 116 ∷ 101 ∷ 44 ∷ 49 ∷ 44 ∷ 48 ∷ 44 ∷ 49 ∷ 44 ∷ 13 ∷ 10 ∷ [])
+    ++ ((48 ∷ 44 ∷ 99 ∷ 108 ∷ 111 ∷ 115 ∷ 101 ∷ 44 ∷ 49 ∷ 44 ∷ 44 ∷ 44 ∷ 13 ∷ 10 ∷ [])
+    ++ ((48 ∷ 44 ∷ 115 ∷ 101 ∷ 110 ∷ 100 ∷ 44 ∷ 44 ∷ 44 ∷ 44 ∷ 55 ∷ 13 ∷ 10 ∷ [])
+    ++ ((49 ∷ 44 ∷ 114 ∷ 101 ∷ 99 ∷ 118 ∷ 44 ∷ 44 ∷ 44 ∷ 44 ∷ 55 ∷ 13 ∷ 10 ∷ [])
+    ++ ((49 ∷ 44 ∷ 119 ∷ 114 ∷ 105 ∷ 116 ∷ 101 ∷ 44 ∷ 49 ∷ 44 ∷ 48 ∷ 44 ∷ 49 ∷ 44 ∷ 13 ∷ 10 ∷ [])
+    ++ (49 ∷ 44 ∷ 99 ∷ 108 ∷ 111 ∷ 115 ∷ 101 ∷ 44 ∷ 49 ∷ 44 ∷ 44 ∷ 44 ∷ 13 ∷ 10 ∷ [])))))
+
+-- it races under session, yet no order shows a difference, with closes at the end
+pub record SessionRace : Type 0 where
+  pub taken : checkTrace sText 0 SESSION 6 2 8192 36 12 ≡ accepted sRows
+  pub judged : verdictOf sRows SESSION ≡ racing 1 5
+  pub equal : EqualWith CLOSE SESSION 2 sRows
+
+-- ---- From the text to the verdict
+
+-- the text is read as these rows
+s-taken : checkTrace sText 0 SESSION 6 2 8192 36 12 ≡ accepted sRows
+unfolding records recordsFrom onFound readAt fieldsFrom onStop prepend fieldAt afterCR stopOf runText isText contentOf sameBytes wordOf usedBy
+    allDigits startsPlain valueFrom rowOf firstNo callQuestions filledAsUsed numbersInRange any messageInOrder fieldQuestions rowQuestions judgeRows
+    readTrace checkTrace
+s-taken = refl
+
+-- rows 1 and 5 race
+s-judged : verdictOf sRows SESSION ≡ racing 1 5
+unfolding anyBelow edge shareByte conflict chainSession chain synchronized race leastFrom verdictOf
+s-judged = refl
+
+-- ---- With commits for its closes it is free under commit
+
+-- the rows with commits for closes
+abbrev cRows : List Row
+cRows =
+    row 0 WRITE 1 0 1 0
+    ∷ (row 0 COMMIT 1 0 0 0 ∷ (row 0 SEND 0 0 0 7 ∷ (row 1 RECV 0 0 0 7 ∷ (row 1 WRITE 1 0 1 0 ∷ (row 1 COMMIT 1 0 0 0 ∷ [])))))
+
+-- they are free
+c-judged : verdictOf cRows COMMIT-MODEL ≡ free
+unfolding anyBelow edge hbWithin shareByte conflict chainCommit chain synchronized race leastFrom verdictOf
+c-judged = refl
+
+-- ---- And every byte sees both alike
+
+-- what a byte of a file and the edges see of a row under a model
+record Seen : Type 0 where
+  process : ℕ
+  message : ℕ
+  sends : Bool
+  receives : Bool
+  writes : Bool
+  publishes : Bool
+  refreshes : Bool
+
+abbrev seen : ℕ → ℕ → ℕ → Row → Seen
+seen model file b r =
+    record {
+      process = r .process;
+      message = r .message;
+      sends = eqb (r .kind) SEND;
+      receives = eqb (r .kind) RECV;
+      writes = covers WRITE file b r;
+      publishes = ofFile file r && publishes model (r .kind);
+      refreshes = ofFile file r && refreshes model (r .kind);
+    }
+
+module _ (file b : ℕ) where
+  -- the rows, and those with commits
+  abbrev t : Trace
+  t = byteTrace sRows SESSION file b
+
+  abbrev u : Trace
+  u = byteTrace cRows COMMIT-MODEL file b
+
+  -- each row is seen alike, does not read, and is of process 0 or 1
+  alike : (k : ℕ) → k < 6 →
+      (seen SESSION file b (rowAt sRows k) ≡ seen COMMIT-MODEL file b (rowAt cRows k)) × (t .reads k ≡ false) × (u .process k < 2)
+  unfolding publishes refreshes
+  alike zero l = (refl, refl, omega arith)
+  alike (suc zero) l = (refl, refl, omega arith)
+  alike (suc (suc zero)) l = (refl, refl, omega arith)
+  alike (suc (suc (suc zero))) l = (refl, refl, omega arith)
+  alike (suc (suc (suc (suc zero)))) l = (refl, refl, omega arith)
+  alike (suc (suc (suc (suc (suc zero))))) l = (refl, refl, omega arith)
+  alike (suc (suc (suc (suc (suc (suc k)))))) l = absurd (omega arith)
+
+  -- so an edge between those with commits is one between the rows
+  edge-alike : (k y : ℕ) → y < 6 → edge cRows k y ≡ true → edge sRows k y ≡ true
+  unfolding edge
+  edge-alike k y l e =
+      let m : k < y = edge-forward cRows k y e in
+      let p = alike k (omega arith) .0 in
+      let q = alike y l .0 in
+      (λ i. ltb k y
+      && (ltb y 6 && (eqb (p i .process) (q i .process) || (p i .sends && (q i .receives && eqb (p i .message) (q i .message))))))
+      ∙ e
+
+  -- so an allowed order of the rows is one of those, and leaves the same
+  run-alike : {h : List ℕ} → Ok t h → Ok u h × (run t h ≡ run u h) × (plain t h ≡ plain u h)
+  unfolding run plain
+  run-alike none = (none, refl, refl)
+  run-alike (next {y} {h} l n es ok) =
+      let w = run-alike ok in
+      let e = alike y l .0 in (
+        next l n (λ k d. es k (edge-alike k y l d)) (w .0),
+        (λ i. stepByte (e i .writes) (e i .publishes) (e i .refreshes) (e i .process) (suc y) (w .1 i)),
+        (λ i. cond (e i .writes) (suc y) (w .2 i)),
+      )
+
+  -- after a publishing by both processes the published byte is the plain one
+  published-last : {h : List ℕ} → Ok t h → (ps : List ℕ) → ((p : ℕ) → p < 2 → In p ps) → publishAll ps (run t h) .published ≡ plain t h
+  published-last {h} ok ps m =
+      let w = run-alike ok in
+      ap (λ (s : Byte). publishAll ps s .published) (w .1)
+      ∙ published-plain u (free-at cRows COMMIT-MODEL (omega arith) c-judged file b) h (w .0) ps
+      (λ k i. m (u .process k) (alike k (row-of u (w .0) k i) .2))
+      ∙ sym (w .2)
+
+-- ---- So no order shows a difference
+
+-- what stands in the middle of a list stands in it
+in-middle : (y : ℕ) (l m : List ℕ) → In y (l ++ (y ∷ m))
+in-middle y [] m = inl refl
+in-middle y (x ∷ l) m = inr (in-middle y l m)
+
+module _ (file : ℕ) (f : file < FILES) (order : List ℕ) (allowed : Allowed sRows order) (ends : List End) (all : ByAll 2 ends) where
+  -- the header, the rows in this order, the closes at the end
+  abbrev h : Header
+  h = headerFor SESSION 2 file sRows
+
+  abbrev l : List Numbered
+  l = rowsFor sRows file order
+
+  abbrev final : List Numbered
+  final = endRows CLOSE file ends
+
+  -- the header passes the questions of making
+  made : Made h
+  made = record { is-model = omega arith; some-process = omega arith; few-processes = omega arith; is-file = f }
+
+  -- the rows and the closes pass those before 16
+  whole-fits : AllFit h (pointsOf sRows) (l ++ final)
+  whole-fits =
+      let s = sound-trace sText 0 SESSION 6 2 8192 36 12 sRows s-taken in
+      fit-append h (pointsOf sRows) l final
+      (order-fits sRows 2 (s .0) (s .1) (s .2) (s .3) SESSION file (omega arith) f order (allowed .of-trace))
+      (ends-fit sRows 2 (s .0) (s .1) (s .2) (s .3) SESSION file (omega arith) f CLOSE (omega arith) refl (λ q. absurd (omega (arith, q))) ends
+      (λ p i. all .every p .1 i) (all .numbered))
+
+  -- there are no reads
+  whole-reads : ReadsSame SESSION (l ++ final) fresh nothing
+  whole-reads =
+      reads-append SESSION l final fresh nothing
+      (reads-in sRows SESSION file order
+      (λ first y rest q b r.
+      let i = subst (In y) (sym q) (in-middle y first rest) in
+      absurd (false≢true (sym (alike file b y (allowed .of-trace y i) .1) ∙ r))))
+      (ends-read CLOSE SESSION file ends (λ q. absurd (omega (arith, q))) _ _)
+
+  -- what the published file holds at the end is what the plain file holds
+  whole-level : (b : ℕ) → numberIn (layersRun SESSION (l ++ final) fresh .shared b) ≡ numberIn (plainRun (l ++ final) nothing b)
+  unfolding publishes refreshes
+  whole-level b =
+      let n : CLOSE ≡ WRITE → ⊥ = λ q. absurd (omega (arith, q)) in
+      ap (λ (s : Layers). numberIn (s .shared b)) (layers-append SESSION l final fresh)
+      ∙ ends-at CLOSE SESSION file n refl refl ends (layersRun SESSION l fresh) b _ (layers-at sRows SESSION file b order) .shared
+      ∙ published-last file b (allowed-ok sRows SESSION file b order allowed) (processesOf ends) (λ p i. all .every p .0 i)
+      ∙ sym (plain-at sRows SESSION file b order)
+      ∙ ap (λ (g : ℕ → ℕ). numberIn (g b)) (sym (plain-append l final nothing ∙ ends-plain CLOSE file ends n (plainRun l nothing)))
+
+-- the layered file and the plain file are equal
+equal-always : EqualWith CLOSE SESSION 2 sRows
+equal-always file f order allowed ends all xs ys out lent =
+    let h = headerFor SESSION 2 file sRows in
+    let rows = rowsFor sRows file order ++ endRows CLOSE file ends in
+    let m = made file f order allowed ends all in
+    let fit = whole-fits file f order allowed ends all in (
+      agree-iff h m (pointsOf sRows) (points-length sRows) xs ys out lent rows fit .1 (whole-reads file f order allowed ends all),
+      level-iff h m (pointsOf sRows) (points-length sRows) xs ys out lent rows fit .1 (λ b _. whole-level file f order allowed ends all b),
+    )
+
+-- the trace whose race no order shows
+pub session-race : SessionRace
+session-race = record { taken = s-taken; judged = s-judged; equal = equal-always }
