@@ -4,3 +4,4 @@ pub mod Passes
 pub mod Trips
 pub mod Threes
 pub mod Rules
+pub mod Sides

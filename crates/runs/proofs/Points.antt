@@ -140,3 +140,26 @@ unfolding piecesOf
 few-pieces f ps s n k =
     let g : Bytes = λ b. suc (numberIn (f b)) in
     rw (count-starts n s g) (few-more n s 0 g ps (λ b l u d. k b l u (λ e. d (ap suc e))))
+
+-- ---- A function of cells
+
+-- equal cells stay equal, and 0 stays 0: no byte starts a run that did not before
+news-by : (h : ℕ → ℕ) → h 0 ≡ 0 → (w c : ℕ) → news (h w) (h c) ≤ news w c
+news-by h z w c = go (ℕ-discrete w 0) (ℕ-discrete w c)
+  where
+    go : Dec (w ≡ 0) → Dec (w ≡ c) → news (h w) (h c) ≤ news w c
+    go (yes e) d = omega (arith, news-zero (h w) (h c) (ap h e ∙ z))
+    go (no e) (yes q) = omega (arith, news-same (h w) (h c) (ap h q))
+    go (no e) (no q) = omega (arith, news-one w c e q, news-most (h w) (h c))
+
+starts-by : (h : ℕ → ℕ) → h 0 ≡ 0 → (n s c : ℕ) (f : Bytes) → starts n s (h c) (λ b. h (f b)) ≤ starts n s c f
+unfolding starts
+starts-by h z zero s c f = omega arith
+starts-by h z (suc n) s c f = omega (arith, news-by h z (f s) c, starts-by h z n (suc s) (f s) f)
+
+-- so there are no more runs
+pub runs-by : (h : ℕ → ℕ) → h 0 ≡ 0 → (f : Bytes) → length (runsOf (λ b. h (f b))) ≤ length (runsOf f)
+unfolding runsOf
+runs-by h z f =
+    let e : starts OFFSET-MAX 0 (h 0) (λ b. h (f b)) ≡ starts OFFSET-MAX 0 0 (λ b. h (f b)) = ap (λ (c : ℕ). starts OFFSET-MAX 0 c (λ b. h (f b))) z in
+    omega (arith, starts-by h z OFFSET-MAX 0 0 f, e, count-starts OFFSET-MAX 0 (λ b. h (f b)), count-starts OFFSET-MAX 0 f)
