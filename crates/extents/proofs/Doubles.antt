@@ -1,0 +1,527 @@
+-- What the entries for a view and the published map answer and leave, from what they test. Assumes nothing.
+use Prim.Native.Nat.{ℕ, zero, suc, _+_, _*_, _-_, _/_, _≤_, _<_}
+use native.Mathlib.Omega.{arith}
+use native.Mathlib.Decide.{decLt}
+use mathlib.Core.Path.{_≡_, refl, sym, ap, _∙_}
+use mathlib.Core.Logic.{inl, inr}
+use mathlib.Core.Bool.{Bool, true, false, cond, not, _&&_, and-false, false≢true}
+use mathlib.Core.List.{List, [], _∷_, _++_}
+use lib.ListN.{length}
+use lib.Dec.{leb, eqb}
+use borrow.Author.Tests.{le-leb, lt-leb, eqb-true, eqb-false, eq-eqb, ne-eqb}
+use Rattle.models.specs.Limits.{ROWS, OFFSET-MAX}
+use Rattle.trace.specs.Questions.{firstNo}
+use Rattle.runs.specs.Cells.{Bytes, cellOf, numberIn, markIn, unpublished, cleared, overwrite, published, settled, refreshed, inRange}
+use Rattle.runs.specs.Runs.{Run, cellAt, runsFrom, runsOf, piecesOf, Lawful}
+use Rattle.runs.specs.Maps.{mapOf, mapFor, spaceIn, bytesOf, runs, lawful, lawfulPublished, mapAt, withMap}
+use Rattle.runs.proofs.Longest.{same-from, runs-same, runs-back, runs-mean, runs-lawful, lawful-fine, Fine, pieces-same, range-in, range-before, range-behind}
+use Rattle.runs.proofs.Trips.{Map, lawful-map, length-map, map-lawful, map-back}
+use Rattle.runs.proofs.Points.{runs-by}
+use Rattle.runs.proofs.Passes.{over-before, over-behind}
+use Rattle.runs.proofs.Sides.{with-length, at-same, at-other, with-same, with-comm, with-over}
+use Rattle.extents.specs.declared.Answer.{Answer}
+use Rattle.extents.specs.declared.Answer.the-variants.{Done, Listed, Refused}
+use Rattle.extents.specs.Mixes.{PUBLISH, SETTLE, REFRESH, READ-MAP, READ-FRESH, mixed, mix}
+use Rattle.extents.specs.Entries.{twoMaps, orRefused, orKept, viewOf, belowOf, bothMaps, publishRefusal, publishedMaps, refreshRefusal, refreshedMaps}
+use Rattle.extents.specs.Entries.{syncRefusal, syncedMaps, readRefusal, postRefusal, postedMaps, listedIn, countOf}
+use Rattle.extents.proofs.Entering.{refused, accepted}
+use Rattle.extents.proofs.Pairing.{Told, two-told, map-space}
+
+-- the two maps stand at two places
+pub two-apart : (space view below : ℕ) (xs : List ℕ) → twoMaps space view below xs ≡ true → view ≡ below → ⊥
+two-apart space view below xs e q = false≢true (sym (rw (eq-eqb view below q)) ∙ e)
+
+-- no byte lies in an empty range
+empty-range : (b : ℕ) → inRange 0 0 b ≡ false
+empty-range b = range-behind 0 0 b (omega arith)
+
+-- a cell without its mark is as fine as before
+clear-fine : (c : ℕ) → Fine c → Fine (cleared c)
+clear-fine c (inl e) = inl (rw e)
+clear-fine c (inr f) = inr (omega (arith, f .0), omega (arith, f .1))
+
+-- ---- The mixes of the walk
+
+-- all runs of a mix, counted from the first byte to the last
+counted : (f g : Bytes) {r : ℕ} → ((b : ℕ) → f b ≡ g b) → r ≡ length (runsFrom (4294967295 - 0) 0 f) → r ≡ length (runsOf g)
+unfolding runsOf
+counted f g h e = e ∙ ap (λ (l : List Run). length l) (same-from 4294967295 0 f g (λ b l k. h b))
+
+pub mix-publish : (v w : Bytes) (b : ℕ) → mix PUBLISH 0 0 0 v w b ≡ published v w b
+unfolding mixed
+mix-publish v w b = rw (empty-range b)
+
+pub mix-refresh : (v w : Bytes) (b : ℕ) → mix REFRESH 0 0 0 v w b ≡ refreshed v w b
+unfolding mixed
+mix-refresh v w b = refl
+
+-- ---- Two lawful maps
+
+module _ (space view below : ℕ) (xs : List ℕ) where
+  abbrev own : Bytes
+  own = viewOf space view below xs
+
+  abbrev base : Bytes
+  base = belowOf space view below xs
+
+  module _ (two : twoMaps space view below xs ≡ true) where
+    told : Told space view below xs
+    told = two-told space view below xs two
+
+    apart : view ≡ below → ⊥
+    apart = two-apart space view below xs two
+
+    -- the maps that are there fit
+    view-fits : length (runsOf own) ≤ space
+    view-fits =
+        let m = lawful-map (mapAt space view xs) (told .view-law) in
+        let e : length (runsOf own) ≡ length (runs (mapAt space view xs)) = ap (λ (l : List Run). length l) (runs-back (runs (mapAt space view xs)) (m .lawful-runs)) in
+        omega (arith, e, m .fit, map-space space view xs (told .view-in))
+
+    below-fits : length (runsOf base) ≤ space
+    below-fits =
+        let m = lawful-map (mapAt space below xs) (told .below-law) in
+        let e : length (runsOf base) ≡ length (runs (mapAt space below xs)) = ap (λ (l : List Run). length l) (runs-back (runs (mapAt space below xs)) (m .lawful-runs)) in
+        omega (arith, e, m .fit, map-space space below xs (told .below-in))
+
+    -- marked published, a view fits too
+    pub settled-fits : length (runsOf (settled own)) ≤ space
+    settled-fits = omega (arith, runs-by cleared refl own, view-fits)
+
+    -- the published map is what its bytes write
+    below-whole : mapFor space base ≡ mapAt space below xs
+    below-whole =
+        let m = lawful-map (mapAt space below xs) (told .below-law) in
+        (λ i. mapOf (sym (map-space space below xs (told .below-in)) i) (runs-back (runs (mapAt space below xs)) (m .lawful-runs) i)) ∙ sym (m .whole)
+
+    -- maps put at both places, the view's last
+    pub both-last : (v w : Bytes) → length (runsOf v) ≤ space → length (runsOf w) ≤ space →
+        withMap space view (mapFor space v) (withMap space below (mapFor space w) xs) ≡ bothMaps space view below xs v w
+    unfolding bothMaps
+    both-last v w a b =
+        with-comm space view below (mapFor space v) (mapFor space w) xs apart (length-map space (runsOf v) a) (length-map space (runsOf w) b) (told .view-in)
+        (told .below-in)
+
+    -- maps put at the view's place alone
+    pub view-alone : (v : Bytes) → length (runsOf v) ≤ space → withMap space view (mapFor space v) xs ≡ bothMaps space view below xs v base
+    unfolding bothMaps
+    view-alone v a =
+        let ys = withMap space view (mapFor space v) xs in
+        let size = length-map space (runsOf v) a in
+        let there : mapAt space below ys ≡ mapFor space base = at-other space view (mapFor space v) xs size (told .view-in) below (λ q. apart (sym q)) ∙ sym below-whole in
+        sym (with-same space below ys (omega (arith, told .below-in, with-length space view (mapFor space v) xs size (told .view-in))))
+        ∙ ap (λ (m : List ℕ). withMap space below m ys) there
+
+    -- where the other map was put, the view's map is as it was
+    module _ (w : Bytes) (b : length (runsOf w) ≤ space) where
+      abbrev shared : List ℕ
+      shared = withMap space below (mapFor space w) xs
+
+      pub shared-length : length shared ≡ length xs
+      shared-length = with-length space below (mapFor space w) xs (length-map space (runsOf w) b) (told .below-in)
+
+      pub shared-view : mapAt space view shared ≡ mapAt space view xs
+      shared-view = at-other space below (mapFor space w) xs (length-map space (runsOf w) b) (told .below-in) view apart
+
+      pub shared-below : mapAt space below shared ≡ mapFor space w
+      shared-below = at-same space below (mapFor space w) xs (length-map space (runsOf w) b) (told .below-in)
+
+  -- ---- Publishing
+
+  publish-asks : publishRefusal space view below xs ≡
+      cond (twoMaps space view below xs) (cond (leb (length (runsOf (settled own))) space && leb (length (runsOf (published own base))) space) 0 16) 13
+  unfolding publishRefusal firstNo
+  publish-asks = refl
+
+  pub publish-unlawful : twoMaps space view below xs ≡ false → publishRefusal space view below xs ≡ 13
+  publish-unlawful e = publish-asks ∙ rw e
+
+  pub publish-count : {r : ℕ} → r ≡ length (runsFrom (4294967295 - 0) 0 (mix PUBLISH 0 (0 - 0) 0 own base)) → r ≡ length (runsOf (published own base))
+  publish-count e = counted (mix PUBLISH 0 0 0 own base) (published own base) (mix-publish own base) e
+
+  sync-asks : syncRefusal space view below xs ≡
+      cond (twoMaps space view below xs)
+      (cond (leb (length (runsOf (refreshed (settled own) (published own base)))) space && leb (length (runsOf (published own base))) space) 0 16) 13
+  unfolding syncRefusal firstNo
+  sync-asks = refl
+
+  pub sync-unlawful : twoMaps space view below xs ≡ false → syncRefusal space view below xs ≡ 13
+  sync-unlawful e = sync-asks ∙ rw e
+
+  module _ (two : twoMaps space view below xs ≡ true) where
+    pub sync-full : space < length (runsOf (published own base)) → syncRefusal space view below xs ≡ 16
+    sync-full h = sync-asks ∙ rw (two, lt-leb (length (runsOf (published own base))) space h, and-false)
+
+    pub publish-full : space < length (runsOf (published own base)) → publishRefusal space view below xs ≡ 16
+    publish-full h = publish-asks ∙ rw (two, lt-leb (length (runsOf (published own base))) space h, and-false)
+
+    module _ (fit : length (runsOf (published own base)) ≤ space) where
+      pub publish-fits : publishRefusal space view below xs ≡ 0
+      publish-fits = publish-asks ∙ rw (two, le-leb (length (runsOf (settled own))) space (settled-fits two), le-leb (length (runsOf (published own base))) space fit)
+
+      -- what sharing leaves, said by publishing
+      same-runs : runsOf (mix PUBLISH 0 0 0 own base) ≡ runsOf (published own base)
+      same-runs = runs-same (mix PUBLISH 0 0 0 own base) (published own base) (λ b l. mix-publish own base b)
+
+      pub share-fits : length (runsOf (mix PUBLISH 0 (0 - 0) (cellOf 0 0) own base)) ≤ space
+      share-fits = omega (arith, fit, ap (λ (l : List Run). length l) same-runs)
+
+      module _ {ys : List ℕ} (y : ys ≡ withMap space below (mapFor space (mix PUBLISH 0 (0 - 0) (cellOf 0 0) own base)) xs) where
+        pub after-share : ys ≡ shared two (published own base) fit
+        after-share = y ∙ ap (λ (l : List Run). withMap space below (mapOf space l) xs) same-runs
+
+        pub view-in-after : (view + 1) * (4 * space) ≤ length ys
+        view-in-after = omega (arith, told two .view-in, ap length after-share, shared-length two (published own base) fit)
+
+        pub below-in-after : (below + 1) * (4 * space) ≤ length ys
+        below-in-after = omega (arith, told two .below-in, ap length after-share, shared-length two (published own base) fit)
+
+        view-after : mapAt space view ys ≡ mapAt space view xs
+        view-after = ap (mapAt space view) after-share ∙ shared-view two (published own base) fit
+
+        pub view-law-after : lawful (mapAt space view ys) ≡ true
+        view-law-after = ap lawful view-after ∙ told two .view-law
+
+        pub publish-done : {zs : List ℕ} → zs ≡ withMap space view (mapFor space (settled (bytesOf (mapAt space view ys)))) ys →
+            (Done ≡ orRefused (publishRefusal space view below xs) Done)
+            × (zs ≡ orKept (publishRefusal space view below xs) (publishedMaps space view below xs) xs)
+        unfolding publishedMaps
+        publish-done z =
+            accepted Done (bothMaps space view below xs (settled own) (published own base)) xs publish-fits
+            (z ∙ (λ i. withMap space view (mapFor space (settled (bytesOf (view-after i)))) (after-share i))
+            ∙ both-last two (settled own) (published own base) (settled-fits two) fit)
+
+      -- a view without marks is the published map after a refresh
+      synced-runs : runsOf (refreshed (settled own) (published own base)) ≡ runsOf (published own base)
+      synced-runs =
+          runs-same (refreshed (settled own) (published own base)) (published own base)
+          (λ b l. rw (ne-eqb (markIn (settled own b)) 1 (omega arith)))
+
+      sync-fits : syncRefusal space view below xs ≡ 0
+      sync-fits = sync-asks ∙ rw (two, ap (λ (l : List Run). length l) synced-runs, le-leb (length (runsOf (published own base))) space fit)
+
+      module _ {ys : List ℕ} (y : ys ≡ withMap space below (mapFor space (mix PUBLISH 0 (0 - 0) (cellOf 0 0) own base)) xs) where
+        -- publishing, then refreshing: the view is the published map then
+        pub sync-done : {zs : List ℕ} → zs ≡ withMap space view (mapAt space below ys) ys →
+            (Done ≡ orRefused (syncRefusal space view below xs) Done)
+            × (zs ≡ orKept (syncRefusal space view below xs) (syncedMaps space view below xs) xs)
+        unfolding syncedMaps
+        sync-done z =
+            accepted Done (bothMaps space view below xs (refreshed (settled own) (published own base)) (published own base)) xs sync-fits
+            (z ∙ (λ i. withMap space view (mapAt space below (after-share y i)) (after-share y i))
+            ∙ ap (λ (m : List ℕ). withMap space view m (shared two (published own base) fit)) (shared-below two (published own base) fit)
+            ∙ ap (λ (l : List Run). withMap space view (mapOf space l) (shared two (published own base) fit)) (sym synced-runs)
+            ∙ both-last two (refreshed (settled own) (published own base)) (published own base) (omega (arith, fit, ap (λ (l : List Run). length l) synced-runs)) fit)
+
+  -- ---- Refreshing
+
+  refresh-asks : refreshRefusal space view below xs ≡
+      cond (twoMaps space view below xs) (cond (leb (length (runsOf (refreshed own base))) space && leb (length (runsOf base)) space) 0 16) 13
+  unfolding refreshRefusal firstNo
+  refresh-asks = refl
+
+  pub refresh-unlawful : twoMaps space view below xs ≡ false → refreshRefusal space view below xs ≡ 13
+  refresh-unlawful e = refresh-asks ∙ rw e
+
+  pub refresh-count : {r : ℕ} → r ≡ length (runsFrom (4294967295 - 0) 0 (mix REFRESH 0 (0 - 0) 0 own base)) → r ≡ length (runsOf (refreshed own base))
+  refresh-count e = counted (mix REFRESH 0 0 0 own base) (refreshed own base) (mix-refresh own base) e
+
+  module _ (two : twoMaps space view below xs ≡ true) where
+    pub refresh-full : space < length (runsOf (refreshed own base)) → refreshRefusal space view below xs ≡ 16
+    refresh-full h = refresh-asks ∙ rw (two, lt-leb (length (runsOf (refreshed own base))) space h)
+
+    module _ (fit : length (runsOf (refreshed own base)) ≤ space) where
+      refresh-fits : refreshRefusal space view below xs ≡ 0
+      refresh-fits = refresh-asks ∙ rw (two, le-leb (length (runsOf (refreshed own base))) space fit, le-leb (length (runsOf base)) space (below-fits two))
+
+      pub refresh-done : {zs : List ℕ} → zs ≡ withMap space view (mapFor space (refreshed own base)) xs →
+          (Done ≡ orRefused (refreshRefusal space view below xs) Done)
+          × (zs ≡ orKept (refreshRefusal space view below xs) (refreshedMaps space view below xs) xs)
+      unfolding refreshedMaps
+      refresh-done z = accepted Done (bothMaps space view below xs (refreshed own base) base) xs refresh-fits (z ∙ view-alone two (refreshed own base) fit)
+
+      -- what a refresh leaves of the view
+      module _ {ys : List ℕ} (y : ys ≡ withMap space view (mapFor space (refreshed own base)) xs) where
+        pub view-in-fresh : (view + 1) * (4 * space) ≤ length ys
+        view-in-fresh =
+            omega (
+              arith,
+              told two .view-in,
+              ap length y,
+              with-length space view (mapFor space (refreshed own base)) xs (length-map space (runsOf (refreshed own base)) fit) (told two .view-in),
+            )
+
+        view-fresh : mapAt space view ys ≡ mapFor space (refreshed own base)
+        view-fresh =
+            ap (mapAt space view) y
+            ∙ at-same space view (mapFor space (refreshed own base)) xs (length-map space (runsOf (refreshed own base)) fit) (told two .view-in)
+
+        fresh-lawful : Lawful (runsOf (refreshed own base))
+        fresh-lawful = runs-lawful (refreshed own base) (λ b l. go b (unpublished (own b)))
+          where
+            go : (b : ℕ) (x : Bool) → Fine (cond x (own b) (base b))
+            go b true = lawful-fine (runs (mapAt space view xs)) (lawful-map (mapAt space view xs) (told two .view-law) .lawful-runs) b
+            go b false = lawful-fine (runs (mapAt space below xs)) (lawful-map (mapAt space below xs) (told two .below-law) .lawful-runs) b
+
+        pub view-law-fresh : lawful (mapAt space view ys) ≡ true
+        view-law-fresh = ap lawful view-fresh ∙ map-lawful space (runsOf (refreshed own base)) fresh-lawful fit
+
+        -- its pieces are those of the refreshed bytes
+        pub pieces-fresh : (start n : ℕ) → start + n ≤ OFFSET-MAX →
+            piecesOf (bytesOf (mapAt space view ys)) start (start + n - start) ≡ piecesOf (refreshed own base) start n
+        pieces-fresh start n end =
+            let q : start + n - start ≡ n = omega arith in
+            (λ i. piecesOf (bytesOf (view-fresh i)) start (q i))
+            ∙ pieces-same (bytesOf (mapFor space (refreshed own base))) (refreshed own base) start n
+            (λ b l h. ap numberIn
+            (ap (λ (rs : List Run). cellAt rs b) (map-back space (runsOf (refreshed own base)) fresh-lawful fit) ∙ runs-mean (refreshed own base) b (omega (arith, h, end))))
+
+  -- ---- Refreshing, then listing
+
+  module _ (start n room : ℕ) where
+    abbrev listed : List Run
+    listed = piecesOf (refreshed own base) start n
+
+    read-asks : start ≤ OFFSET-MAX → n ≤ OFFSET-MAX → readRefusal space view below xs start n room ≡
+        cond (twoMaps space view below xs)
+        (cond (leb (start + n) OFFSET-MAX)
+        (cond (leb (length (runsOf (refreshed own base))) space && leb (length (runsOf base)) space) (cond (leb (3 * length listed) room) 0 17) 16) 11) 13
+    unfolding readRefusal firstNo
+    read-asks s l = rw (le-leb start OFFSET-MAX s, le-leb n OFFSET-MAX l)
+
+    pub read-count : {r : ℕ} → r ≡ length (runsFrom (start + n - start) start (mix READ-FRESH 0 (0 - 0) 0 own base)) → r ≡ length listed
+    unfolding mixed piecesOf
+    read-count e =
+        let q : start + n - start ≡ n = omega arith in
+        e ∙ ap (λ (k : ℕ). length (runsFrom k start (λ b. suc (numberIn (refreshed own base b))))) q
+
+    module _ (s : start ≤ OFFSET-MAX) (l : n ≤ OFFSET-MAX) where
+      pub read-unlawful : twoMaps space view below xs ≡ false → readRefusal space view below xs start n room ≡ 13
+      read-unlawful e = read-asks s l ∙ rw e
+
+      module _ (two : twoMaps space view below xs ≡ true) where
+        pub read-past : OFFSET-MAX < start + n → readRefusal space view below xs start n room ≡ 11
+        read-past h = read-asks s l ∙ rw (two, lt-leb (start + n) OFFSET-MAX h)
+
+        module _ (end : start + n ≤ OFFSET-MAX) where
+          pub read-full : space < length (runsOf (refreshed own base)) → readRefusal space view below xs start n room ≡ 16
+          read-full h = read-asks s l ∙ rw (two, le-leb (start + n) OFFSET-MAX end, lt-leb (length (runsOf (refreshed own base))) space h)
+
+          module _ (fit : length (runsOf (refreshed own base)) ≤ space) where
+            pub read-long : room < 3 * length listed → readRefusal space view below xs start n room ≡ 17
+            read-long h =
+                read-asks s l ∙ rw (two, le-leb (start + n) OFFSET-MAX end, le-leb (length (runsOf (refreshed own base))) space fit, le-leb (length (runsOf base)) space (below-fits two), lt-leb (3 * length listed) room h)
+
+            pub read-fits : 3 * length listed ≤ room → readRefusal space view below xs start n room ≡ 0
+            read-fits h =
+                read-asks s l ∙ rw (two, le-leb (start + n) OFFSET-MAX end, le-leb (length (runsOf (refreshed own base))) space fit, le-leb (length (runsOf base)) space (below-fits two), le-leb (3 * length listed) room h)
+
+            -- the maps, the count and the pieces
+            pub read-done : (out : List ℕ) → 3 * length listed ≤ room → {k : ℕ} {zs us : List ℕ} → k ≡ length listed → zs ≡ withMap space view (mapFor space (refreshed own base)) xs →
+                us ≡ listedIn listed out →
+                (Listed k ≡ orRefused (readRefusal space view below xs start n room) (countOf listed))
+                × ((zs ≡ orKept (readRefusal space view below xs start n room) (refreshedMaps space view below xs) xs)
+                × (us ≡ orKept (readRefusal space view below xs start n room) (listedIn listed out) out))
+            unfolding refreshedMaps
+            read-done out h q z u = rw (read-fits h) (ap Listed q, (z ∙ view-alone two (refreshed own base) fit, u))
+
+  -- ---- Writing a range, then publishing
+
+  module _ (start n number : ℕ) where
+    abbrev wrote : Bytes
+    wrote = overwrite start n (cellOf number 1) own
+
+    -- the walk's mixes say the same at every byte, the range in or not
+    mix-post : (b : ℕ) → mix PUBLISH start n (cellOf number 0) own base b ≡ published wrote base b
+    unfolding mixed
+    mix-post b = go (inRange start n b)
+      where
+        go : (x : Bool) → cond x (cellOf number 0) (cond (unpublished (own b)) (cleared (own b)) (base b)) ≡
+            cond (unpublished (cond x (cellOf number 1) (own b))) (cleared (cond x (cellOf number 1) (own b))) (base b)
+        go true =
+            let q : cellOf number 0 ≡ cleared (cellOf number 1) = omega arith in
+            rw (eq-eqb (markIn (cellOf number 1)) 1 (omega arith)) q
+        go false = refl
+
+    mix-settle : (b : ℕ) → mix SETTLE start n (cellOf number 0) own base b ≡ settled wrote b
+    unfolding mixed
+    mix-settle b = go (inRange start n b)
+      where
+        go : (x : Bool) → cond x (cellOf number 0) (cleared (own b)) ≡ cleared (cond x (cellOf number 1) (own b))
+        go true = omega arith
+        go false = refl
+
+    -- a range laid on the settled view is the settled view of the write
+    lay-settled : (b : ℕ) → overwrite start n (cellOf number 0) (settled own) b ≡ settled wrote b
+    lay-settled b = go (inRange start n b)
+      where
+        go : (x : Bool) → cond x (cellOf number 0) (cleared (own b)) ≡ cleared (cond x (cellOf number 1) (own b))
+        go true = omega arith
+        go false = refl
+
+    there : start + n - start ≡ n
+    there = omega arith
+
+    module _ {cell : ℕ} (q : cell ≡ cellOf number 0) where
+      pub post-count : {r : ℕ} → r ≡ length (runsFrom (4294967295 - 0) 0 (mix PUBLISH start (start + n - start) cell own base)) → r ≡ length (runsOf (published wrote base))
+      post-count e =
+          counted (mix PUBLISH start n (cellOf number 0) own base) (published wrote base) mix-post
+          (e ∙ (λ i. length (runsFrom (4294967295 - 0) 0 (mix PUBLISH start (there i) (q i) own base))))
+
+      pub settle-count : {r : ℕ} → r ≡ length (runsFrom (4294967295 - 0) 0 (mix SETTLE start (start + n - start) cell own base)) → r ≡ length (runsOf (settled wrote))
+      settle-count e =
+          counted (mix SETTLE start n (cellOf number 0) own base) (settled wrote) mix-settle
+          (e ∙ (λ i. length (runsFrom (4294967295 - 0) 0 (mix SETTLE start (there i) (q i) own base))))
+
+    post-asks : start ≤ OFFSET-MAX → n ≤ OFFSET-MAX → postRefusal space view below xs start n number ≡
+        cond (twoMaps space view below xs)
+        (cond (leb 1 number && leb number ROWS)
+        (cond (leb (start + n) OFFSET-MAX) (cond (leb (length (runsOf (settled wrote))) space && leb (length (runsOf (published wrote base))) space) 0 16) 11) 14) 13
+    unfolding postRefusal firstNo
+    post-asks s l = rw (le-leb start OFFSET-MAX s, le-leb n OFFSET-MAX l)
+
+    module _ (s : start ≤ OFFSET-MAX) (l : n ≤ OFFSET-MAX) where
+      pub post-unlawful : twoMaps space view below xs ≡ false → postRefusal space view below xs start n number ≡ 13
+      post-unlawful e = post-asks s l ∙ rw e
+
+      module _ (two : twoMaps space view below xs ≡ true) where
+        pub post-low : number < 1 → postRefusal space view below xs start n number ≡ 14
+        post-low h = post-asks s l ∙ rw (two, lt-leb 1 number h)
+
+        pub post-high : ROWS < number → postRefusal space view below xs start n number ≡ 14
+        post-high h = post-asks s l ∙ rw (two, lt-leb number ROWS h, and-false)
+
+        module _ (low : 1 ≤ number) (high : number ≤ ROWS) where
+          pub post-past : OFFSET-MAX < start + n → postRefusal space view below xs start n number ≡ 11
+          post-past h = post-asks s l ∙ rw (two, le-leb 1 number low, le-leb number ROWS high, lt-leb (start + n) OFFSET-MAX h)
+
+          module _ (end : start + n ≤ OFFSET-MAX) where
+            pub post-full : space < length (runsOf (published wrote base)) → postRefusal space view below xs start n number ≡ 16
+            post-full h =
+                post-asks s l
+                ∙ rw (two, le-leb 1 number low, le-leb number ROWS high, le-leb (start + n) OFFSET-MAX end, lt-leb (length (runsOf (published wrote base))) space h, and-false)
+
+            pub post-view-full : space < length (runsOf (settled wrote)) → postRefusal space view below xs start n number ≡ 16
+            post-view-full h =
+                post-asks s l
+                ∙ rw (two, le-leb 1 number low, le-leb number ROWS high, le-leb (start + n) OFFSET-MAX end, lt-leb (length (runsOf (settled wrote))) space h)
+
+            module _ (fit : length (runsOf (published wrote base)) ≤ space) (view-fit : length (runsOf (settled wrote)) ≤ space) where
+              post-fits : postRefusal space view below xs start n number ≡ 0
+              post-fits =
+                  post-asks s l
+                  ∙ rw (
+                    two,
+                    le-leb 1 number low,
+                    le-leb number ROWS high,
+                    le-leb (start + n) OFFSET-MAX end,
+                    le-leb (length (runsOf (settled wrote))) space view-fit,
+                    le-leb (length (runsOf (published wrote base))) space fit,
+                  )
+
+              posted-runs : runsOf (mix PUBLISH start (start + n - start) (cellOf number 0) own base) ≡ runsOf (published wrote base)
+              posted-runs =
+                  (λ i. runsOf (mix PUBLISH start (there i) (cellOf number 0) own base))
+                  ∙ runs-same (mix PUBLISH start n (cellOf number 0) own base) (published wrote base) (λ b l. mix-post b)
+
+              pub post-share : length (runsOf (mix PUBLISH start (start + n - start) (cellOf number 0) own base)) ≤ space
+              post-share = omega (arith, fit, ap (λ (l : List Run). length l) posted-runs)
+
+              module _ {ys : List ℕ} (y : ys ≡ withMap space below (mapFor space (mix PUBLISH start (start + n - start) (cellOf number 0) own base)) xs) where
+                posted : ys ≡ shared two (published wrote base) fit
+                posted = y ∙ ap (λ (l : List Run). withMap space below (mapOf space l) xs) posted-runs
+
+                pub view-in-posted : (view + 1) * (4 * space) ≤ length ys
+                view-in-posted = omega (arith, told two .view-in, ap length posted, shared-length two (published wrote base) fit)
+
+                view-posted : mapAt space view ys ≡ mapAt space view xs
+                view-posted = ap (mapAt space view) posted ∙ shared-view two (published wrote base) fit
+
+                pub view-law-posted : lawful (mapAt space view ys) ≡ true
+                view-law-posted = ap lawful view-posted ∙ told two .view-law
+
+                module _ {zs : List ℕ} (z : zs ≡ withMap space view (mapFor space (settled (bytesOf (mapAt space view ys)))) ys) where
+                  settled-there : zs ≡ withMap space view (mapFor space (settled own)) (shared two (published wrote base) fit)
+                  settled-there = z ∙ (λ i. withMap space view (mapFor space (settled (bytesOf (view-posted i)))) (posted i))
+
+                  own-size : length (mapFor space (settled own)) ≡ 4 * space
+                  own-size = length-map space (runsOf (settled own)) (settled-fits two)
+
+                  view-in-shared : (view + 1) * (4 * space) ≤ length (shared two (published wrote base) fit)
+                  view-in-shared = omega (arith, told two .view-in, shared-length two (published wrote base) fit)
+
+                  -- nothing to lay: the range is empty
+                  pub post-empty : start + n ≤ start → (Done ≡ orRefused (postRefusal space view below xs start n number) Done)
+                      × (zs ≡ orKept (postRefusal space view below xs start n number) (postedMaps space view below xs start n number) xs)
+                  unfolding postedMaps
+                  post-empty h =
+                      let same : runsOf (settled own) ≡ runsOf (settled wrote) = runs-same (settled own) (settled wrote)
+                      (λ b l. ap cleared (sym (untouched b))) in
+                      accepted Done (bothMaps space view below xs (settled wrote) (published wrote base)) xs post-fits
+                      (settled-there ∙ ap (λ (l : List Run). withMap space view (mapOf space l) (shared two (published wrote base) fit)) same
+                      ∙ both-last two (settled wrote) (published wrote base) view-fit fit)
+                    where
+                      untouched : (b : ℕ) → wrote b ≡ own b
+                      untouched b = go (decLt b start)
+                        where
+                          go : Dec (b < start) → wrote b ≡ own b
+                          go (yes k) = over-before start n (cellOf number 1) own b k
+                          go (no k) = over-behind start n (cellOf number 1) own b (omega (arith, h, k))
+
+                  -- the range laid on the settled view
+                  view-settled : mapAt space view zs ≡ mapFor space (settled own)
+                  view-settled =
+                      ap (mapAt space view) settled-there
+                      ∙ at-same space view (mapFor space (settled own)) (shared two (published wrote base) fit) own-size view-in-shared
+
+                  own-lawful : Lawful (runsOf (settled own))
+                  own-lawful =
+                      runs-lawful (settled own)
+                      (λ b l. clear-fine (own b) (lawful-fine (runs (mapAt space view xs)) (lawful-map (mapAt space view xs) (told two .view-law) .lawful-runs) b))
+
+                  pub view-in-settled : (view + 1) * (4 * space) ≤ length zs
+                  view-in-settled =
+                      omega (arith, view-in-shared, ap length settled-there, with-length space view (mapFor space (settled own)) (shared two (published wrote base) fit) own-size view-in-shared)
+
+                  pub view-law-settled : lawful (mapAt space view zs) ≡ true
+                  view-law-settled = ap lawful view-settled ∙ map-lawful space (runsOf (settled own)) own-lawful (settled-fits two)
+
+                  laid-runs : runsOf (overwrite start (start + n - start) (cellOf number 0) (bytesOf (mapAt space view zs))) ≡ runsOf (settled wrote)
+                  laid-runs =
+                      (λ i. runsOf (overwrite start (there i) (cellOf number 0) (bytesOf (view-settled i))))
+                      ∙ runs-same (overwrite start n (cellOf number 0) (bytesOf (mapFor space (settled own)))) (settled wrote)
+                      (λ b l. ap (λ (c : ℕ). cond (inRange start n b) (cellOf number 0) c)
+                      (ap (λ (rs : List Run). cellAt rs b) (map-back space (runsOf (settled own)) own-lawful (settled-fits two)) ∙ runs-mean (settled own) b l)
+                      ∙ lay-settled b)
+
+                  pub post-lay : {cell : ℕ} → cell ≡ cellOf number 0 →
+                      length (runsOf (overwrite start (start + n - start) cell (bytesOf (mapAt space view zs)))) ≤ space
+                  post-lay q =
+                      omega (
+                        arith,
+                        view-fit,
+                        ap (λ (c : ℕ). length (runsOf (overwrite start (start + n - start) c (bytesOf (mapAt space view zs))))) q,
+                        ap (λ (l : List Run). length l) laid-runs,
+                      )
+
+                  pub post-done : {cell : ℕ} {us : List ℕ} → cell ≡ cellOf number 0 →
+                      us ≡ withMap space view (mapFor space (overwrite start (start + n - start) cell (bytesOf (mapAt space view zs)))) zs →
+                      (Done ≡ orRefused (postRefusal space view below xs start n number) Done)
+                      × (us ≡ orKept (postRefusal space view below xs start n number) (postedMaps space view below xs start n number) xs)
+                  unfolding postedMaps
+                  post-done q u =
+                      accepted Done (bothMaps space view below xs (settled wrote) (published wrote base)) xs post-fits
+                      (u ∙ (λ i. withMap space view (mapFor space (overwrite start (start + n - start) (q i) (bytesOf (mapAt space view zs)))) zs)
+                      ∙ (λ i. withMap space view (mapOf space (laid-runs i)) (settled-there i))
+                      ∙ with-over space view (mapFor space (settled wrote)) (mapFor space (settled own)) (shared two (published wrote base) fit)
+                      (length-map space (runsOf (settled wrote)) view-fit) own-size view-in-shared
+                      ∙ both-last two (settled wrote) (published wrote base) view-fit fit)
+
+-- a refusal that leaves both slices
+pub refused-both : (k : ℕ) {r : ℕ} (a : Answer) (ys xs vs us : List ℕ) → r ≡ k → 0 < k →
+    (Refused k ≡ orRefused r a) × ((xs ≡ orKept r ys xs) × (us ≡ orKept r vs us))
+refused-both k a ys xs vs us e h = rw (e, ne-eqb k 0 (omega arith)) (refl, (refl, refl))
+
+-- a row number's published cell
+pub cell-zero : (number : ℕ) → number * 2 ≡ cellOf number 0
+cell-zero number = omega arith

@@ -1,0 +1,171 @@
+-- What the entries answer and leave, from what they test. Assumes nothing.
+use Prim.Native.Nat.{ℕ, zero, suc, _+_, _*_, _-_, _/_, _≤_, _<_}
+use native.Mathlib.Omega.{arith}
+use native.Mathlib.Decide.{decLt}
+use mathlib.Core.Path.{_≡_, refl, sym, ap, _∙_}
+use mathlib.Core.Logic.{_⊎_, inr}
+use mathlib.Core.Bool.{Bool, true, false, cond, not, _&&_, and-false}
+use mathlib.Core.List.{List, [], _∷_, _++_}
+use lib.ListN.{length}
+use lib.Dec.{leb, eqb}
+use borrow.Author.Tests.{le-leb, lt-leb, leb-true, leb-false, eq-eqb, ne-eqb, eqb-true, eqb-false}
+use Rattle.models.specs.Limits.{ROWS, OFFSET-MAX}
+use Rattle.trace.specs.Questions.{firstNo}
+use Rattle.runs.specs.Cells.{Bytes, cellOf, numberIn, unpublished, cleared, overwrite, published, settled, refreshed, inRange}
+use Rattle.runs.specs.Runs.{Run, runsFrom, runsOf, piecesOf}
+use Rattle.runs.specs.Maps.{mapOf, mapFor, spaceIn, bytesOf, runs, lawful, lawfulPublished, mapAt, withMap}
+use Rattle.runs.proofs.Longest.{same-from, runs-same, runs-back}
+use Rattle.runs.proofs.Trips.{Map, lawful-map}
+use Rattle.runs.proofs.Points.{count-starts}
+use Rattle.runs.proofs.Passes.{over-before, over-behind}
+use Rattle.extents.proofs.Counting.{starts-most}
+use Rattle.extents.specs.declared.Answer.{Answer}
+use Rattle.extents.specs.declared.Answer.the-variants.{Done, Listed, Refused}
+use Rattle.extents.specs.Mixes.{PUBLISH, SETTLE, REFRESH, READ-MAP, READ-FRESH, mixed, mix}
+use Rattle.extents.specs.Entries.{orRefused, orKept, listedIn, countOf, markOf, writeRefusal, writtenMap, listRefusal}
+
+-- ---- Answers
+
+-- a refusal, and what it leaves
+pub refused : (k : ℕ) {r : ℕ} (a : Answer) (ys xs : List ℕ) → r ≡ k → 0 < k → (Refused k ≡ orRefused r a) × (xs ≡ orKept r ys xs)
+refused k a ys xs e h = rw (e, ne-eqb k 0 (omega arith)) (refl, refl)
+
+-- an acceptance
+pub accepted : {r : ℕ} (a : Answer) (ys xs : List ℕ) {zs : List ℕ} → r ≡ 0 → zs ≡ ys → (a ≡ orRefused r a) × (zs ≡ orKept r ys xs)
+accepted a ys xs e q = rw e (refl, q)
+
+-- ---- Writing one map
+
+module _ (xs : List ℕ) (start n number : ℕ) (mark : Bool) where
+  abbrev anew : Bytes
+  anew = overwrite start n (cellOf number (markOf mark)) (bytesOf xs)
+
+  -- the questions one after the other
+  write-asks : start ≤ OFFSET-MAX → n ≤ OFFSET-MAX → writeRefusal xs start n number mark ≡
+      cond (lawful xs) (cond (leb 1 number && leb number ROWS) (cond (leb (start + n) OFFSET-MAX) (cond (leb (length (runsOf anew)) (spaceIn xs)) 0 16) 11) 14) 13
+  unfolding writeRefusal firstNo
+  write-asks s l = rw (le-leb start OFFSET-MAX s, le-leb n OFFSET-MAX l)
+
+  module _ (s : start ≤ OFFSET-MAX) (l : n ≤ OFFSET-MAX) where
+    pub write-unlawful : lawful xs ≡ false → writeRefusal xs start n number mark ≡ 13
+    write-unlawful e = write-asks s l ∙ rw e
+
+    module _ (law : lawful xs ≡ true) where
+      pub write-low : number < 1 → writeRefusal xs start n number mark ≡ 14
+      write-low h = write-asks s l ∙ rw (law, lt-leb 1 number h)
+
+      pub write-high : ROWS < number → writeRefusal xs start n number mark ≡ 14
+      write-high h = write-asks s l ∙ rw (law, lt-leb number ROWS h, and-false)
+
+      module _ (low : 1 ≤ number) (high : number ≤ ROWS) where
+        pub write-past : OFFSET-MAX < start + n → writeRefusal xs start n number mark ≡ 11
+        write-past h = write-asks s l ∙ rw (law, le-leb 1 number low, le-leb number ROWS high, lt-leb (start + n) OFFSET-MAX h)
+
+        module _ (end : start + n ≤ OFFSET-MAX) where
+          pub write-full : leb (length (runsOf anew)) (spaceIn xs) ≡ false → writeRefusal xs start n number mark ≡ 16
+          write-full e = write-asks s l ∙ rw (law, le-leb 1 number low, le-leb number ROWS high, le-leb (start + n) OFFSET-MAX end, e)
+
+          pub write-fits : leb (length (runsOf anew)) (spaceIn xs) ≡ true → writeRefusal xs start n number mark ≡ 0
+          write-fits e = write-asks s l ∙ rw (law, le-leb 1 number low, le-leb number ROWS high, le-leb (start + n) OFFSET-MAX end, e)
+
+          -- a range of no bytes changes nothing
+          pub write-none : n ≡ 0 → (Done ≡ orRefused (writeRefusal xs start n number mark) Done)
+              × (xs ≡ orKept (writeRefusal xs start n number mark) (writtenMap xs start n number mark) xs)
+          unfolding writtenMap
+          write-none z =
+              let m = lawful-map xs law in
+              let same : runsOf anew ≡ runs xs = runs-same anew (bytesOf xs) (λ b h. kept b) ∙ runs-back (runs xs) (m .lawful-runs) in
+              accepted Done (mapFor (spaceIn xs) anew) xs (write-fits (rw same (le-leb (length (runs xs)) (spaceIn xs) (m .fit))))
+              (m .whole ∙ sym (ap (mapOf (spaceIn xs)) same))
+            where
+              kept : (b : ℕ) → anew b ≡ bytesOf xs b
+              kept b = go (decLt b start)
+                where
+                  go : Dec (b < start) → anew b ≡ bytesOf xs b
+                  go (yes h) = over-before start n (cellOf number (markOf mark)) (bytesOf xs) b h
+                  go (no h) = over-behind start n (cellOf number (markOf mark)) (bytesOf xs) b (omega (arith, z))
+
+          -- what laying a cell answers and leaves
+          module _ {r : Bool} {cell : ℕ} {zs : List ℕ} (q : cell ≡ cellOf number (markOf mark))
+              (answer : r ≡ leb (length (runsOf (overwrite start (start + n - start) cell (bytesOf xs)))) (spaceIn xs))
+              (left : zs ≡ cond r (mapFor (spaceIn xs) (overwrite start (start + n - start) cell (bytesOf xs))) xs) where
+            there : overwrite start (start + n - start) cell (bytesOf xs) ≡ anew
+            there = let e : start + n - start ≡ n = omega arith in λ i. overwrite start (e i) (q i) (bytesOf xs)
+
+            pub write-done : r ≡ true → (Done ≡ orRefused (writeRefusal xs start n number mark) Done)
+                × (zs ≡ orKept (writeRefusal xs start n number mark) (writtenMap xs start n number mark) xs)
+            unfolding writtenMap
+            write-done e =
+                accepted Done (mapFor (spaceIn xs) anew) xs
+                (write-fits (ap (λ (f : Bytes). leb (length (runsOf f)) (spaceIn xs)) (sym there) ∙ sym answer ∙ e))
+                (left ∙ ap (λ (b : Bool). cond b (mapFor (spaceIn xs) (overwrite start (start + n - start) cell (bytesOf xs))) xs) e
+                ∙ ap (mapFor (spaceIn xs)) there)
+
+            pub write-not : r ≡ false → (Refused 16 ≡ orRefused (writeRefusal xs start n number mark) Done)
+                × (zs ≡ orKept (writeRefusal xs start n number mark) (writtenMap xs start n number mark) xs)
+            write-not e =
+                let none = refused 16 Done (writtenMap xs start n number mark) xs
+                (write-full (ap (λ (f : Bytes). leb (length (runsOf f)) (spaceIn xs)) (sym there) ∙ sym answer ∙ e)) (omega arith) in (
+                  none .0,
+                  left ∙ ap (λ (b : Bool). cond b (mapFor (spaceIn xs) (overwrite start (start + n - start) cell (bytesOf xs))) xs) e ∙ none .1,
+                )
+
+-- the cell of a row number has it
+pub cell-fine : (number : ℕ) (mark : Bool) → 1 ≤ number → number ≤ 4096 → {cell : ℕ} → cell ≡ cellOf number (markOf mark) →
+    (cell ≡ 0) ⊎ ((1 ≤ numberIn cell) × (numberIn cell ≤ 4096))
+cell-fine number mark l h {cell} q = inr (go mark q)
+  where
+    go : (m : Bool) → cell ≡ cellOf number (markOf m) → (1 ≤ numberIn cell) × (numberIn cell ≤ 4096)
+    go true e = (omega arith, omega arith)
+    go false e = (omega arith, omega arith)
+
+-- ---- Listing the pieces of a range
+
+module _ (xs : List ℕ) (start n room : ℕ) where
+  abbrev pieces : List Run
+  pieces = piecesOf (bytesOf xs) start n
+
+  list-asks : start ≤ OFFSET-MAX → n ≤ OFFSET-MAX → listRefusal xs start n room ≡
+      cond (lawful xs) (cond (leb (start + n) OFFSET-MAX) (cond (leb (3 * length pieces) room) 0 17) 11) 13
+  unfolding listRefusal firstNo
+  list-asks s l = rw (le-leb start OFFSET-MAX s, le-leb n OFFSET-MAX l)
+
+  module _ (s : start ≤ OFFSET-MAX) (l : n ≤ OFFSET-MAX) where
+    pub list-unlawful : lawful xs ≡ false → listRefusal xs start n room ≡ 13
+    list-unlawful e = list-asks s l ∙ rw e
+
+    module _ (law : lawful xs ≡ true) where
+      pub list-past : OFFSET-MAX < start + n → listRefusal xs start n room ≡ 11
+      list-past h = list-asks s l ∙ rw (law, lt-leb (start + n) OFFSET-MAX h)
+
+      module _ (end : start + n ≤ OFFSET-MAX) where
+        pub list-full : room < 3 * length pieces → listRefusal xs start n room ≡ 17
+        list-full h = list-asks s l ∙ rw (law, le-leb (start + n) OFFSET-MAX end, lt-leb (3 * length pieces) room h)
+
+        pub list-fits : 3 * length pieces ≤ room → listRefusal xs start n room ≡ 0
+        list-fits h = list-asks s l ∙ rw (law, le-leb (start + n) OFFSET-MAX end, le-leb (3 * length pieces) room h)
+
+-- the walk counts the pieces
+pub counted-pieces : (xs ys : List ℕ) (start n : ℕ) {r : ℕ} →
+    r ≡ length (runsFrom (start + n - start) start (mix READ-MAP 0 0 0 (bytesOf xs) (bytesOf ys))) → r ≡ length (piecesOf (bytesOf xs) start n)
+unfolding mixed piecesOf
+counted-pieces xs ys start n e =
+    let q : start + n - start ≡ n = omega arith in
+    e ∙ ap (λ (k : ℕ). length (runsFrom k start (λ b. suc (numberIn (bytesOf xs b))))) q
+
+-- there are no more pieces than bytes
+pub pieces-most : (f : Bytes) (start n : ℕ) → length (piecesOf f start n) ≤ n
+unfolding piecesOf
+pieces-most f start n =
+    omega (arith, count-starts n start (λ b. suc (numberIn (f b))), starts-most n start 0 (λ b. suc (numberIn (f b))))
+
+-- the pieces of the same range, said by its end
+pub pieces-there : (f : Bytes) (start n : ℕ) → piecesOf f start (start + n - start) ≡ piecesOf f start n
+pieces-there f start n = let q : start + n - start ≡ n = omega arith in ap (piecesOf f start) q
+
+-- the pieces and their count
+pub accepted-list : (xs : List ℕ) (start n : ℕ) (out : List ℕ) {k r : ℕ} {zs : List ℕ} → r ≡ 0 → k ≡ length (piecesOf (bytesOf xs) start n) →
+    zs ≡ listedIn (piecesOf (bytesOf xs) start (start + n - start)) out →
+    (Listed k ≡ orRefused r (countOf (piecesOf (bytesOf xs) start n))) × (zs ≡ orKept r (listedIn (piecesOf (bytesOf xs) start n) out) out)
+accepted-list xs start n out e q z =
+    rw e (ap Listed q, z ∙ ap (λ (l : List Run). listedIn l out) (pieces-there (bytesOf xs) start n))

@@ -1,0 +1,25 @@
+-- `extents::share::cell_behind` meets its contract. Assumes nothing.
+use borrow.Author.Needs.{needs}
+use native.Mathlib.Omega.{arith}
+use mathlib.Core.Path.{sym}
+use denote.Ref.{now}
+use Rattle.extents.proofs.Parts.{bytes-fit}
+use Rattle.extents.proofs.share.cell_behind.Statement.{statement}
+use Rattle.extents.proofs.share.cell_behind.Tie as tie
+
+returns : tie.Need-returns
+returns c =
+    let c1 = c .before .before in
+    let a = c1 .args in
+    sym (bytes-fit (now (a .map)) (c1 .pre) .good .ends (a .x) (omega arith))
+
+see-requires : tie.Need-see-requires
+see-requires c κs = search needs
+
+returns-2 : tie.Need-returns-2
+returns-2 c =
+    let c1 = c .before .before .before in
+    sym (c .see .ensures .cells (c1 .args .x) (omega arith) (c .see .ensures .on))
+
+pub cell-behind-spec : {M : Type 1} → statement M
+cell-behind-spec = tie.close (tie.spec returns see-requires returns-2)

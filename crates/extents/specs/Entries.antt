@@ -1,0 +1,146 @@
+-- The entries of the map of pieces: their questions in sequence, and what they answer and leave.
+use Prim.Native.Nat.{ℕ, suc, _+_, _*_}
+use mathlib.Core.Bool.{Bool, true, false, cond, not, _&&_}
+use mathlib.Core.List.{List, [], _∷_, _++_}
+use lib.ListN.{length, drop}
+use lib.Dec.{leb, eqb}
+use Rattle.models.specs.Limits.{ROWS, OFFSET-MAX}
+use Rattle.trace.specs.Questions.{Question, firstNo}
+use Rattle.runs.specs.Cells.{Bytes, cellOf, overwrite, published, settled, refreshed}
+use Rattle.runs.specs.Runs.{Run, runsOf, piecesOf}
+use Rattle.runs.specs.Maps.{mapFor, threes, spaceIn, bytesOf, lawful, lawfulPublished, mapAt, withMap}
+use Rattle.extents.specs.declared.Answer.{Answer}
+use Rattle.extents.specs.declared.Answer.the-variants.{Done, Listed, Refused}
+
+-- ---- Questions
+
+-- 13, of one map; of a view and of the published map, which stand at two places of one slice
+abbrev pub twoMaps : ℕ → ℕ → ℕ → List ℕ → Bool
+twoMaps space view below xs =
+    not (eqb view below)
+    && (leb ((view + 1) * (4 * space)) (length xs)
+    && (leb ((below + 1) * (4 * space)) (length xs) && (lawful (mapAt space view xs) && lawfulPublished (mapAt space below xs))))
+
+abbrev pub asksLaw : Bool → Question
+asksLaw law = record { number = 13; yes = law }
+
+-- 14, of a row number
+abbrev pub asksNumber : ℕ → Question
+asksNumber number = record { number = 14; yes = leb 1 number && leb number ROWS }
+
+-- 10 and 11, of a range
+abbrev pub asksRange : ℕ → ℕ → List Question
+asksRange start length =
+    record { number = 10; yes = leb start OFFSET-MAX && leb length OFFSET-MAX }
+    ∷ (record { number = 11; yes = leb (start + length) OFFSET-MAX } ∷ [])
+
+-- 16, of what a map is to hold
+abbrev pub asksSpace : ℕ → Bytes → Question
+asksSpace space f = record { number = 16; yes = leb (length (runsOf f)) space }
+
+-- 17, of pieces and the answer slice
+abbrev pub asksRoom : List Run → ℕ → Question
+asksRoom pieces room = record { number = 17; yes = leb (3 * length pieces) room }
+
+-- ---- Answers
+
+-- a refusal's number, or the answer where there is none
+abbrev pub orRefused : ℕ → Answer → Answer
+orRefused refusal a = cond (eqb refusal 0) a (Refused refusal)
+
+-- a refusal changes nothing
+abbrev pub orKept : ℕ → List ℕ → List ℕ → List ℕ
+orKept refusal left xs = cond (eqb refusal 0) left xs
+
+-- pieces at the front of the answer slice, which keeps the rest
+abbrev pub listedIn : List Run → List ℕ → List ℕ
+listedIn pieces out = threes pieces ++ drop (length (threes pieces)) out
+
+abbrev pub countOf : List Run → Answer
+countOf pieces = Listed (length pieces)
+
+abbrev pub markOf : Bool → ℕ
+markOf true = 1
+markOf false = 0
+
+-- ---- One map
+
+-- write a range
+unfoldable pub writeRefusal : List ℕ → ℕ → ℕ → ℕ → Bool → ℕ
+writeRefusal xs start length number mark =
+    firstNo
+    (asksLaw (lawful xs)
+    ∷ (asksNumber number
+    ∷ (asksRange start length
+    ++ (asksSpace (spaceIn xs) (overwrite start length (cellOf number (markOf mark)) (bytesOf xs)) ∷ []))))
+
+unfoldable pub writtenMap : List ℕ → ℕ → ℕ → ℕ → Bool → List ℕ
+writtenMap xs start length number mark = mapFor (spaceIn xs) (overwrite start length (cellOf number (markOf mark)) (bytesOf xs))
+
+-- list the pieces of a range
+unfoldable pub listRefusal : List ℕ → ℕ → ℕ → ℕ → ℕ
+listRefusal xs start length room =
+    firstNo (asksLaw (lawful xs) ∷ (asksRange start length ++ (asksRoom (piecesOf (bytesOf xs) start length) room ∷ [])))
+
+-- ---- A view and the published map
+
+module _ (space view below : ℕ) (xs : List ℕ) where
+  abbrev pub viewOf : Bytes
+  viewOf = bytesOf (mapAt space view xs)
+
+  abbrev pub belowOf : Bytes
+  belowOf = bytesOf (mapAt space below xs)
+
+  -- the slice with both maps anew
+  unfoldable pub bothMaps : Bytes → Bytes → List ℕ
+  bothMaps v w = withMap space below (mapFor space w) (withMap space view (mapFor space v) xs)
+
+  -- both maps at the end of an entry fit; nothing is asked of what lies between
+  abbrev pub asksBoth : Bytes → Bytes → List Question
+  asksBoth v w = record { number = 16; yes = leb (length (runsOf v)) space && leb (length (runsOf w)) space } ∷ []
+
+  -- publish the view
+  unfoldable pub publishRefusal : ℕ
+  publishRefusal = firstNo (asksLaw (twoMaps space view below xs) ∷ asksBoth (settled viewOf) (published viewOf belowOf))
+
+  unfoldable pub publishedMaps : List ℕ
+  publishedMaps = bothMaps (settled viewOf) (published viewOf belowOf)
+
+  -- refresh it
+  unfoldable pub refreshRefusal : ℕ
+  refreshRefusal = firstNo (asksLaw (twoMaps space view below xs) ∷ asksBoth (refreshed viewOf belowOf) belowOf)
+
+  unfoldable pub refreshedMaps : List ℕ
+  refreshedMaps = bothMaps (refreshed viewOf belowOf) belowOf
+
+  -- publish, then refresh
+  unfoldable pub syncRefusal : ℕ
+  syncRefusal =
+      firstNo
+      (asksLaw (twoMaps space view below xs)
+      ∷ asksBoth (refreshed (settled viewOf) (published viewOf belowOf)) (published viewOf belowOf))
+
+  unfoldable pub syncedMaps : List ℕ
+  syncedMaps = bothMaps (refreshed (settled viewOf) (published viewOf belowOf)) (published viewOf belowOf)
+
+  module _ (start length : ℕ) where
+    -- write a range, then publish
+    abbrev pub writing : ℕ → Bytes
+    writing number = overwrite start length (cellOf number 1) viewOf
+
+    unfoldable pub postRefusal : ℕ → ℕ
+    postRefusal number =
+        firstNo
+        (asksLaw (twoMaps space view below xs)
+        ∷ (asksNumber number ∷ (asksRange start length ++ asksBoth (settled (writing number)) (published (writing number) belowOf))))
+
+    unfoldable pub postedMaps : ℕ → List ℕ
+    postedMaps number = bothMaps (settled (writing number)) (published (writing number) belowOf)
+
+    -- refresh, then list the pieces of a range
+    unfoldable pub readRefusal : ℕ → ℕ
+    readRefusal room =
+        firstNo
+        (asksLaw (twoMaps space view below xs)
+        ∷ (asksRange start length
+        ++ (asksBoth (refreshed viewOf belowOf) belowOf ++ (asksRoom (piecesOf (refreshed viewOf belowOf) start length) room ∷ []))))

@@ -1,0 +1,48 @@
+-- The unpublished runs of a view packed at the end of its map, and what a merge with the published map makes of them.
+use Prim.Native.Nat.{ℕ, _+_, _*_, _≤_}
+use mathlib.Core.Path.{_≡_}
+use mathlib.Core.Logic.{_⊎_}
+use mathlib.Core.Bool.{true, cond}
+use mathlib.Core.List.{List, [], _∷_, _++_}
+use lib.ListN.{length, take, drop}
+use Rattle.runs.specs.Cells.{Bytes, unpublished, refreshed}
+use Rattle.runs.specs.Runs.{Run, runsOf}
+use Rattle.runs.specs.Maps.{runs, bytesOf, lawful, lawfulPublished}
+
+-- the unpublished ones of some runs
+unfoldable pub marked : List Run → List Run
+marked [] = []
+marked (r ∷ rs) = cond (unpublished (r .cell)) (r ∷ marked rs) (marked rs)
+
+-- all of them are
+abbrev pub Marked : List Run → Type 0
+Marked [] = Unit {0}
+Marked (r ∷ rs) = (unpublished (r .cell) ≡ true) × Marked rs
+
+-- the map of a space from place p on
+abbrev pub partAt : ℕ → ℕ → List ℕ → List ℕ
+partAt space p xs = take (4 * space) (drop p xs)
+
+-- the slice with another map there
+abbrev pub withPart : ℕ → ℕ → List ℕ → List ℕ → List ℕ
+withPart space p m xs = (take p xs ++ m) ++ drop (p + 4 * space) xs
+
+-- the packed runs: those of the map at v from run `first` on
+abbrev pub packedIn : ℕ → ℕ → ℕ → List ℕ → List ℕ
+packedIn space v first xs = drop (4 * first) (partAt space v xs)
+
+-- they, and in the gaps the published map at w
+abbrev pub mergedOf : ℕ → ℕ → ℕ → ℕ → List ℕ → Bytes
+mergedOf space v w first xs = refreshed (bytesOf (packedIn space v first xs)) (bytesOf (partAt space w xs))
+
+-- two maps of a space at two places, packed runs up to the end of the first of them, and a merge of both that fits
+pub record Packed (space v w others first : ℕ) (xs : List ℕ) : Type 0 where
+  pub apart : (w + 4 * space ≤ v) ⊎ (v + 4 * space ≤ w)
+  pub inside : v + 4 * space ≤ length xs
+  pub below-inside : w + 4 * space ≤ length xs
+  pub own : lawful (packedIn space v first xs) ≡ true
+  pub own-all : first + length (runs (packedIn space v first xs)) ≡ space
+  pub own-marked : Marked (runs (packedIn space v first xs))
+  pub below-law : lawfulPublished (partAt space w xs) ≡ true
+  pub below-all : others ≡ length (runs (partAt space w xs))
+  pub fits : length (runsOf (mergedOf space v w first xs)) ≤ space

@@ -1,0 +1,172 @@
+// Publishing a view on the published map and refreshing a view from it, both maps in one slice, and marking a view published.
+ghost use Prim.Native.Nat.{ℕ, _+_, _*_, _-_, _≤_, _<_};
+ghost use mathlib.Core.Path.{_≡_};
+ghost use mathlib.Core.Bool.{true, _&&_};
+ghost use mathlib.Core.List.{[], _∷_, _++_};
+ghost use lib.ListN.{length, getD, take, drop, replicate};
+ghost use lib.Dec.{eqb};
+ghost use Rattle.models.specs.Limits.{ROWS};
+ghost use Rattle.runs.specs.Cells.{numberIn, cellOf, settled, refreshed};
+ghost use Rattle.runs.specs.Runs.{runsOf};
+ghost use Rattle.runs.specs.Maps.{fours, mapFor, spaceIn, runs, bytesOf, lawful, mapAt, withMap};
+ghost use Rattle.extents.specs.Mixes.{PUBLISH, mix};
+ghost use Rattle.extents.specs.Entries.{twoMaps, viewOf, belowOf};
+ghost use Rattle.extents.specs.Packing.{marked, withPart, mergedOf, Packed};
+
+// Marks every run of a map published, and joins neighbours that then have the same cell, from the front: a run is held while those behind it
+// touch it with the same row, and then put behind those put before.
+pub fn settle(map: &mut [u32])
+    requires { ⌜ lawful (now map) ≡ true ⌝ }
+    ensures { λ _. ⌜ now (map .exit) ≡ mapFor (spaceIn (now (map .entry))) (settled (bytesOf (now (map .entry)))) ⌝ }
+{
+    let all = crate::splice::runs_in(map);
+    if all == 0 {
+        return;
+    }
+    let mut start = map[0];
+    let mut size = map[1];
+    let mut number = map[2];
+    let mut n = 0;
+    let mut i = 1;
+    while i < all {
+        let at = i * 4;
+        let next_start = map[at];
+        let next_size = map[at + 1];
+        let next_number = map[at + 2];
+        i += 1;
+        if touches(start + size, next_start, number, next_number) {
+            size += next_size;
+        } else {
+            put_run(map, n * 4, start, size, number, 0);
+            n += 1;
+            start = next_start;
+            size = next_size;
+            number = next_number;
+        }
+    }
+    put_run(map, n * 4, start, size, number, 0);
+    clear_from(map, n * 4 + 4, all * 4);
+}
+
+// Does a run that starts at a byte follow an end at once, with the same row?
+fn touches(end: u32, start: u32, last: u32, number: u32) -> bool
+    ensures { λ r. ⌜ r ≡ eqb end start && eqb last number ⌝ }
+{
+    end == start && last == number
+}
+
+// Puts the four numbers of a run at a place.
+fn put_run(map: &mut [u32], at: usize, start: u32, size: u32, number: u32, mark: u32)
+    requires { ⌜ at + 4 ≤ length (now map) ⌝ }
+    ensures { λ _. ⌜ now (map .exit) ≡
+        (take at (now (map .entry)) ++ (start ∷ (size ∷ (number ∷ (mark ∷ []))))) ++ drop (at + 4) (now (map .entry)) ⌝ }
+{
+    map[at] = start;
+    map[at + 1] = size;
+    map[at + 2] = number;
+    map[at + 3] = mark;
+}
+
+// Puts 0 from a place up to another.
+fn clear_from(map: &mut [u32], from: usize, to: usize)
+    requires { ⌜ (from ≤ to) × (to ≤ length (now map)) ⌝ }
+    ensures { λ _. ⌜ now (map .exit) ≡ (take from (now (map .entry)) ++ replicate (to - from) 0) ++ drop to (now (map .entry)) ⌝ }
+{
+    let mut i = from;
+    while i < to {
+        map[i] = 0;
+        i += 1;
+    }
+}
+
+// Takes the unpublished runs of a view to the end of its map, and answers where they start.
+fn pack(map: &mut [u32], all: usize) -> usize
+    requires { ⌜ (lawful (now map) ≡ true) × (all ≡ length (runs (now map))) ⌝ }
+    ensures { λ r. ⌜ (r + length (marked (runs (now (map .entry)))) ≡ spaceIn (now (map .entry)))
+        × (drop (4 * r) (now (map .exit)) ≡ fours (marked (runs (now (map .entry))))) ⌝ }
+{
+    let mut i = all;
+    let mut to = map.len() / 4;
+    while 0 < i {
+        i -= 1;
+        let at = i * 4;
+        if map[at + 3] == 1 {
+            to -= 1;
+            let start = map[at];
+            let size = map[at + 1];
+            let number = map[at + 2];
+            put_run(map, to * 4, start, size, number, 1);
+        }
+    }
+    to
+}
+
+// Refreshes a view that fits then: its unpublished runs, and the published ones in the gaps.
+pub fn refresh(maps: &mut [u32], space: usize, view: usize, below: usize)
+    requires { ⌜ twoMaps space view below (now maps) ≡ true ⌝ }
+    requires { ⌜ length (runsOf (refreshed (viewOf space view below (now maps)) (belowOf space view below (now maps)))) ≤ space ⌝ }
+    ensures { λ _. ⌜ now (maps .exit) ≡ withMap space view
+        (mapFor space (refreshed (viewOf space view below (now (maps .entry))) (belowOf space view below (now (maps .entry))))) (now (maps .entry)) ⌝ }
+{
+    let size = space * 4;
+    let v = view * size;
+    let w = below * size;
+    let all = crate::splice::runs_in(&maps[v..v + size]);
+    let others = crate::splice::runs_in(&maps[w..w + size]);
+    let first = pack(&mut maps[v..v + size], all);
+    interleave(maps, v, w, space, others, first);
+}
+
+// Writes the refreshed view from the front of its map at v: its unpublished runs, packed there from run `first` on, and those of the published
+// map at w, clipped to the gaps. A run is read before its place is written, since every packed run still gives a run.
+fn interleave(maps: &mut [u32], v: usize, w: usize, space: usize, others: usize, first: usize)
+    requires { ⌜ Packed space v w others first (now maps) ⌝ }
+    ensures { λ _. ⌜ now (maps .exit) ≡ withPart space v (mapFor space (mergedOf space v w first (now (maps .entry)))) (now (maps .entry)) ⌝ }
+{
+    let mut j = first;
+    let mut n = 0;
+    let mut i = 0;
+    let mut x = 0;
+    while x < 4294967295 {
+        let gap = start_of(maps, v, j, space);
+        if gap == x {
+            let from = v + j * 4;
+            let size = maps[from + 1];
+            let number = maps[from + 2];
+            put_run(maps, v + n * 4, x, size, number, 1);
+            j += 1;
+            n += 1;
+            x += size;
+        } else if others <= i {
+            x = gap;
+        } else {
+            let from = w + i * 4;
+            let start = maps[from];
+            let end = start + maps[from + 1];
+            if end <= x {
+                i += 1;
+            } else if gap <= start {
+                x = gap;
+            } else {
+                let s = crate::scan::most(start, x);
+                let e = crate::scan::least(end, gap);
+                let number = maps[from + 2];
+                put_run(maps, v + n * 4, s, e - s, number, 0);
+                n += 1;
+                x = e;
+            }
+        }
+    }
+    clear_from(maps, v + n * 4, v + space * 4);
+}
+
+// Where run j starts, and the end of all bytes where there is none.
+fn start_of(maps: &[u32], v: usize, j: usize, space: usize) -> u32
+    requires { ⌜ (j < space → v + j * 4 < length (now maps)) ⌝ }
+    ensures { λ r. ⌜ (space ≤ j → r ≡ 4294967295) × (j < space → r ≡ getD (now (maps .entry)) (v + j * 4) 0) ⌝ }
+{
+    if space <= j {
+        return 4294967295;
+    }
+    maps[v + j * 4]
+}

@@ -1,0 +1,131 @@
+// One or two maps of a slice that has several, by their numbers.
+ghost use Prim.Native.Nat.{ℕ, _+_, _*_, _-_, _≤_, _<_};
+ghost use mathlib.Core.Path.{_≡_};
+ghost use mathlib.Core.Bool.{true};
+ghost use mathlib.Core.Logic.{_⊎_};
+ghost use lib.ListN.{length};
+ghost use lib.Dec.{leb};
+ghost use Rattle.runs.specs.Cells.{numberIn, overwrite, settled};
+ghost use Rattle.runs.specs.Runs.{runsFrom, runsOf, piecesOf};
+ghost use Rattle.runs.specs.Maps.{mapFor, bytesOf, lawful, mapAt, withMap};
+ghost use Rattle.extents.specs.Mixes.{mix};
+ghost use Rattle.extents.specs.Entries.{twoMaps, viewOf, belowOf, listedIn};
+
+// Two lawful maps at two places of a slice, the second one published.
+pub fn two_maps(maps: &[u32], space: usize, view: usize, below: usize) -> bool
+    ensures { λ r. ⌜ r ≡ twoMaps space view below (now (maps .entry)) ⌝ }
+{
+    if view == below {
+        return false;
+    }
+    if !has_map(maps, space, view) {
+        return false;
+    }
+    if !has_map(maps, space, below) {
+        return false;
+    }
+    let size = 4 * space;
+    let v = view * size;
+    if !crate::scan::is_lawful(&maps[v..v + size]) {
+        return false;
+    }
+    let w = below * size;
+    crate::scan::is_published(&maps[w..w + size])
+}
+
+// The slice is long enough for map k.
+fn has_map(maps: &[u32], space: usize, k: usize) -> bool
+    ensures { λ r. ⌜ r ≡ leb ((k + 1) * (4 * space)) (length (now (maps .entry))) ⌝ }
+{
+    if space == 0 {
+        return true;
+    }
+    if maps.len() / 4 < space {
+        return false;
+    }
+    k < maps.len() / (4 * space)
+}
+
+// How many runs a mix of a view, the published map and a range has.
+pub fn count(
+    maps: &[u32],
+    space: usize,
+    view: usize,
+    below: usize,
+    mode: u32,
+    from: u32,
+    to: u32,
+    start: u32,
+    end: u32,
+    cell: u32,
+) -> usize
+    requires { ⌜ twoMaps space view below (now maps) ≡ true ⌝ }
+    requires { ⌜ (from ≤ to) × (start ≤ end) ⌝ }
+    ensures { λ r. ⌜ r ≡ length (runsFrom (to - from) from (mix mode start (end - start) cell (viewOf space view below (now (maps .entry))) (belowOf space view below (now (maps .entry))))) ⌝ }
+{
+    let size = 4 * space;
+    let v = view * size;
+    let w = below * size;
+    crate::scan::count(
+        &maps[v..v + size],
+        &maps[w..w + size],
+        mode,
+        from,
+        to,
+        start,
+        end,
+        cell,
+    )
+}
+
+// Marks a map published.
+pub fn settle(maps: &mut [u32], space: usize, k: usize)
+    requires { ⌜ (k + 1) * (4 * space) ≤ length (now maps) ⌝ }
+    requires { ⌜ lawful (mapAt space k (now maps)) ≡ true ⌝ }
+    ensures { λ _. ⌜ now (maps .exit) ≡ withMap space k (mapFor space (settled (bytesOf (mapAt space k (now (maps .entry)))))) (now (maps .entry)) ⌝ }
+{
+    let size = 4 * space;
+    let at = k * size;
+    crate::merge::settle(&mut maps[at..at + size]);
+}
+
+// Gives a range of a map a cell, where it fits then.
+pub fn lay(maps: &mut [u32], space: usize, k: usize, start: u32, end: u32, cell: u32)
+    requires { ⌜ (k + 1) * (4 * space) ≤ length (now maps) ⌝ }
+    requires { ⌜ lawful (mapAt space k (now maps)) ≡ true ⌝ }
+    requires { ⌜ (start < end) × ((cell ≡ 0) ⊎ ((1 ≤ numberIn cell) × (numberIn cell ≤ 4096))) ⌝ }
+    requires { ⌜ length (runsOf (overwrite start (end - start) cell (bytesOf (mapAt space k (now maps))))) ≤ space ⌝ }
+    ensures { λ _. ⌜ now (maps .exit) ≡ withMap space k (mapFor space (overwrite start (end - start) cell (bytesOf (mapAt space k (now (maps .entry)))))) (now (maps .entry)) ⌝ }
+{
+    let size = 4 * space;
+    let at = k * size;
+    crate::splice::lay(&mut maps[at..at + size], start, end, cell);
+}
+
+// Puts the pieces of a range of a map into a slice that has room for them.
+pub fn list(maps: &[u32], space: usize, k: usize, from: u32, to: u32, out: &mut [u32]) -> usize
+    requires { ⌜ (k + 1) * (4 * space) ≤ length (now maps) ⌝ }
+    requires { ⌜ (lawful (mapAt space k (now maps)) ≡ true) × (from ≤ to) ⌝ }
+    requires { ⌜ 3 * length (piecesOf (bytesOf (mapAt space k (now maps))) from (to - from)) ≤ length (now out) ⌝ }
+    ensures { λ r. ⌜ r ≡ length (piecesOf (bytesOf (mapAt space k (now (maps .entry)))) from (to - from)) ⌝ }
+    ensures { λ r. ⌜ now (out .exit) ≡ listedIn (piecesOf (bytesOf (mapAt space k (now (maps .entry)))) from (to - from)) (now (out .entry)) ⌝ }
+{
+    let size = 4 * space;
+    let at = k * size;
+    crate::list::list(&maps[at..at + size], from, to, out)
+}
+
+// Copies map j to the place of map k.
+pub fn copy(maps: &mut [u32], space: usize, j: usize, k: usize)
+    requires { ⌜ ((j + 1) * (4 * space) ≤ length (now maps)) × ((k + 1) * (4 * space) ≤ length (now maps)) × (j ≡ k → ⊥) ⌝ }
+    ensures { λ _. ⌜ now (maps .exit) ≡ withMap space k (mapAt space j (now (maps .entry))) (now (maps .entry)) ⌝ }
+{
+    let size = 4 * space;
+    let from = j * size;
+    let to = k * size;
+    let mut i = 0;
+    while i < size {
+        maps[to + i] = maps[from + i];
+        i += 1;
+    }
+}
