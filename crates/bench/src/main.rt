@@ -1,5 +1,6 @@
 // The bench lines that are not theorems: what the whole call answers to each text. What it writes is held to the file stdout.
 use checker::Judged;
+use extents::Answer;
 
 fn put(text: &[u8]) {
     io::write_all(1, text);
@@ -38,6 +39,133 @@ fn put_answer(text: &[u8], header: u32) {
     }
 }
 
+// The numbers of a map of three runs.
+fn put_map(map: &[u32; 12]) {
+    put_run(map[0], map[1], map[2], map[3]);
+    put_run(map[4], map[5], map[6], map[7]);
+    put_run(map[8], map[9], map[10], map[11]);
+    put(b"\n");
+}
+
+fn put_run(start: u32, length: u32, number: u32, mark: u32) {
+    put(b" (");
+    put_number(start);
+    put(b",");
+    put_number(length);
+    put(b",");
+    put_number(number);
+    put(b",");
+    put_number(mark);
+    put(b")");
+}
+
+// What an entry of the map answers.
+fn put_done(answer: Answer) {
+    match answer {
+        Answer::Done => put(b"done:"),
+        Answer::Listed(n) => {
+            put_number(n);
+            put(b" pieces:");
+        }
+        Answer::Refused(n) => {
+            put(b"refused ");
+            put_number(n);
+            put(b":");
+        }
+    }
+}
+
+// Small maps through the entries that serve one map.
+fn run_maps() {
+    let mut map = [0u32; 12];
+    put_done(extents::write(&mut map, 0, 10, 1, true));
+    put_map(&map);
+    put_done(extents::write(&mut map, 5, 5, 2, true));
+    put_map(&map);
+    put_done(extents::write(&mut map, 10, 5, 2, false));
+    put_map(&map);
+    put_done(extents::write(&mut map, 2, 1, 3, true));
+    put_map(&map);
+    put_done(extents::write(&mut map, 10, 5, 2, true));
+    put_map(&map);
+    put_done(extents::write(&mut map, 4294967295, 1, 1, true));
+    put_map(&map);
+    put_done(extents::write(&mut map, 20, 1, 4097, true));
+    put_map(&map);
+    let mut pieces = [7u32; 12];
+    put_done(extents::list_range(&map, 3, 15, &mut pieces));
+    put_map(&pieces);
+    let mut short = [7u32; 5];
+    put_done(extents::list_range(&map, 3, 15, &mut short));
+    put(b"\n");
+    map[11] = 1;
+    put_done(extents::write(&mut map, 0, 1, 1, true));
+    put_map(&map);
+}
+
+// Two maps of three runs each, the published one first.
+fn put_maps(maps: &[u32; 24]) {
+    put_run(maps[0], maps[1], maps[2], maps[3]);
+    put_run(maps[4], maps[5], maps[6], maps[7]);
+    put_run(maps[8], maps[9], maps[10], maps[11]);
+    put(b" |");
+    put_run(maps[12], maps[13], maps[14], maps[15]);
+    put_run(maps[16], maps[17], maps[18], maps[19]);
+    put_run(maps[20], maps[21], maps[22], maps[23]);
+    put(b"\n");
+}
+
+// A view and the published map through the entries that serve both.
+fn run_pairs() {
+    let mut maps = [
+        0,
+        5,
+        1,
+        0,
+        5,
+        5,
+        2,
+        0,
+        0,
+        0,
+        0,
+        0,
+        2,
+        4,
+        3,
+        1,
+        8,
+        1,
+        1,
+        0,
+        20,
+        1,
+        1,
+        0,
+    ];
+    put_done(extents::refresh(&mut maps, 3, 1, 0));
+    put_maps(&maps);
+    put_done(extents::publish(&mut maps, 3, 1, 0));
+    put_maps(&maps);
+    put_done(extents::refresh(&mut maps, 3, 1, 0));
+    put_maps(&maps);
+    put_done(extents::post(&mut maps, 3, 1, 0, 1, 1, 4));
+    put_maps(&maps);
+    put_done(extents::post(&mut maps, 3, 1, 0, 0, 4, 4));
+    put_maps(&maps);
+    maps[15] = 1;
+    put_done(extents::sync(&mut maps, 3, 1, 0));
+    put_maps(&maps);
+    let mut pieces = [7u32; 12];
+    put_done(extents::read(&mut maps, 3, 1, 0, 3, 9, &mut pieces));
+    put_map(&pieces);
+    put_maps(&maps);
+    put_done(extents::publish(&mut maps, 3, 1, 1));
+    put_maps(&maps);
+    put_done(extents::publish(&mut maps, 4, 1, 0));
+    put_maps(&maps);
+}
+
 fn main() {
     put(b"B with header word 1: ");
     put_answer(
@@ -65,4 +193,6 @@ fn main() {
     put_answer(b"0,write,1,4294967295,1,\r\n", 0);
     put(b"offset 4294967296: ");
     put_answer(b"0,write,1,4294967296,0,\r\n", 0);
+    run_maps();
+    run_pairs();
 }
