@@ -115,9 +115,9 @@ fn put_maps(maps: &[u32; 24]) {
     put(b"\n");
 }
 
-// A view and the published map through the entries that serve both.
-fn run_pairs() {
-    let mut maps = [
+// A published map, then a view that has written bytes 2 to 5 and not published them.
+fn two_maps() -> [u32; 24] {
+    [
         0,
         5,
         1,
@@ -142,7 +142,12 @@ fn run_pairs() {
         1,
         1,
         0,
-    ];
+    ]
+}
+
+// A view and the published map through the entries that serve both.
+fn run_pairs() {
+    let mut maps = two_maps();
     put_done(extents::refresh(&mut maps, 3, 1, 0));
     put_maps(&maps);
     put_done(extents::publish(&mut maps, 3, 1, 0));
