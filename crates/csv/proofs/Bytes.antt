@@ -1,5 +1,6 @@
 -- The tests of a byte are the grammar's rules. Assumes nothing.
 use Prim.Native.Nat.{ℕ, _≤_, _<_}
+use native.Mathlib.Decide.{decLt}
 use native.Mathlib.Omega.{arith}
 use mathlib.Core.Path.{_≡_, refl, sym}
 use mathlib.Core.Logic.{_↔_, _⊎_, inl, inr}
@@ -54,6 +55,18 @@ text-iff b = (to, from)
 -- what is no TEXTDATA fails the test
 pub not-text : (b : ℕ) → (TextData b → ⊥) → isText b ≡ false
 not-text b h = untrue (isText b) (λ e. h (text-iff b .0 e))
+
+-- the bytes between the bounds, the quote and the comma left out, are TEXTDATA
+pub bounds-text : {b : ℕ} → 0x20 ≤ b → b ≤ 0x7E → (b ≡ DQUOTE → ⊥) → (b ≡ COMMA → ⊥) → TextData b
+bounds-text {b} l h q c = low (decLt b 0x22)
+  where
+    high : Dec (b < 0x2C) → (b < 0x22 → ⊥) → TextData b
+    high (yes t) n = x23-2B (omega arith) (omega arith)
+    high (no t) n = x2D-7E (omega arith) (omega arith)
+
+    low : Dec (b < 0x22) → TextData b
+    low (yes t) = x20-21 l (omega arith)
+    low (no t) = high (decLt b 0x2C) t
 
 -- the bounds of TEXTDATA, in which the quote and the comma are left out
 pub text-bounds : {b : ℕ} → TextData b → (0x20 ≤ b) × (b ≤ 0x7E) × (b ≡ DQUOTE → ⊥) × (b ≡ COMMA → ⊥)

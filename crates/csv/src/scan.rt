@@ -30,14 +30,23 @@ pub(crate) struct Cell {
     pub stop: Stop,
 }
 
-// TEXTDATA = %x20-21 / %x23-2B / %x2D-7E
+// TEXTDATA = %x20-21 / %x23-2B / %x2D-7E: all from %x20 to %x7E but the quote and the comma.
 fn is_text(b: u8) -> bool
     ensures { λ r. ⌜ r ≡ isText b ⌝ }
 {
-    match b {
-        0x20..=0x21 | 0x23..=0x2B | 0x2D..=0x7E => true,
-        _ => false,
+    if b < 0x20 {
+        return false;
     }
+    if 0x7E < b {
+        return false;
+    }
+    if b == b'"' {
+        return false;
+    }
+    if b == b',' {
+        return false;
+    }
+    true
 }
 
 // TEXTDATA / COMMA / CR / LF
