@@ -1,30 +1,31 @@
 -- What the entries for a view and the published map answer and leave, from what they test. Assumes nothing.
-use Prim.Native.Nat.{ℕ, zero, suc, _+_, _*_, _-_, _/_, _≤_, _<_}
+use Prim.Native.Nat.{ℕ, suc, _+_, _*_, _-_, _≤_, _<_}
 use native.Mathlib.Omega.{arith}
 use native.Mathlib.Decide.{decLt}
 use mathlib.Core.Path.{_≡_, refl, sym, ap, _∙_}
 use mathlib.Core.Logic.{inl, inr}
 use mathlib.Core.Bool.{Bool, true, false, cond, not, _&&_, and-false, false≢true}
-use mathlib.Core.List.{List, [], _∷_, _++_}
+use mathlib.Core.List.{List}
 use lib.ListN.{length}
-use lib.Dec.{leb, eqb}
-use borrow.Author.Tests.{le-leb, lt-leb, eqb-true, eqb-false, eq-eqb, ne-eqb}
+use lib.Dec.{leb}
+use borrow.Author.Tests.{le-leb, lt-leb, leb-true, leb-false, eq-eqb, ne-eqb, not-true, not-false}
 use Rattle.models.specs.Limits.{ROWS, OFFSET-MAX}
 use Rattle.trace.specs.Questions.{firstNo}
 use Rattle.runs.specs.Cells.{Bytes, cellOf, numberIn, markIn, unpublished, cleared, overwrite, published, settled, refreshed, inRange}
 use Rattle.runs.specs.Runs.{Run, cellAt, runsFrom, runsOf, piecesOf, Lawful}
-use Rattle.runs.specs.Maps.{mapOf, mapFor, spaceIn, bytesOf, runs, lawful, lawfulPublished, mapAt, withMap}
-use Rattle.runs.proofs.Longest.{same-from, runs-same, runs-back, runs-mean, runs-lawful, lawful-fine, Fine, pieces-same, range-in, range-before, range-behind}
-use Rattle.runs.proofs.Trips.{Map, lawful-map, length-map, map-lawful, map-back}
+use Rattle.runs.specs.Maps.{mapOf, mapFor, bytesOf, runs, lawful, mapAt, withMap}
+use Rattle.runs.proofs.Longest.{same-from, runs-same, runs-back, runs-mean, runs-lawful, lawful-fine, Fine, pieces-same, range-behind}
+use Rattle.runs.proofs.Trips.{lawful-map, length-map, map-lawful, map-back}
 use Rattle.runs.proofs.Points.{runs-by}
 use Rattle.runs.proofs.Passes.{over-before, over-behind}
 use Rattle.runs.proofs.Sides.{with-length, at-same, at-other, with-same, with-comm, with-over}
 use Rattle.extents.specs.declared.Answer.{Answer}
 use Rattle.extents.specs.declared.Answer.the-variants.{Done, Listed, Refused}
-use Rattle.extents.specs.Mixes.{PUBLISH, SETTLE, REFRESH, READ-MAP, READ-FRESH, mixed, mix}
+use Rattle.maps.specs.Mixes.{PUBLISH, SETTLE, REFRESH, READ-FRESH, mixed, mix}
 use Rattle.extents.specs.Entries.{twoMaps, orRefused, orKept, viewOf, belowOf, bothMaps, publishRefusal, publishedMaps, refreshRefusal, refreshedMaps}
-use Rattle.extents.specs.Entries.{syncRefusal, syncedMaps, readRefusal, postRefusal, postedMaps, listedIn, countOf}
-use Rattle.extents.proofs.Entering.{refused, accepted}
+use Rattle.maps.specs.Pieces.{listedIn}
+use Rattle.extents.specs.Entries.{syncRefusal, syncedMaps, readRefusal, postRefusal, postedMaps, countOf}
+use Rattle.extents.proofs.Entering.{accepted}
 use Rattle.extents.proofs.Pairing.{Told, two-told, map-space}
 
 -- the two maps stand at two places
@@ -42,10 +43,19 @@ clear-fine c (inr f) = inr (omega (arith, f .0), omega (arith, f .1))
 
 -- ---- The mixes of the walk
 
--- all runs of a mix, counted from the first byte to the last
-counted : (f g : Bytes) {r : ℕ} → ((b : ℕ) → f b ≡ g b) → r ≡ length (runsFrom (4294967295 - 0) 0 f) → r ≡ length (runsOf g)
-unfolding runsOf
-counted f g h e = e ∙ ap (λ (l : List Run). length l) (same-from 4294967295 0 f g (λ b l k. h b))
+-- whether the runs of a mix fit a space, said of the bytes that it means
+module _ (f g : Bytes) (same : (b : ℕ) → f b ≡ g b) (space : ℕ) {r : Bool} (e : r ≡ leb (length (runsFrom (4294967295 - 0) 0 f)) space) where
+  told-of : r ≡ leb (length (runsOf g)) space
+  unfolding runsOf
+  told-of = e ∙ ap (λ (l : List Run). leb (length l) space) (same-from 4294967295 0 f g (λ b l k. same b))
+
+  -- they do
+  enough : not r ≡ false → length (runsOf g) ≤ space
+  enough q = leb-true (length (runsOf g)) space (sym told-of ∙ not-false r q)
+
+  -- they do not
+  short : not r ≡ true → space < length (runsOf g)
+  short q = leb-false (length (runsOf g)) space (sym told-of ∙ not-true r q)
 
 pub mix-publish : (v w : Bytes) (b : ℕ) → mix PUBLISH 0 0 0 v w b ≡ published v w b
 unfolding mixed
@@ -89,7 +99,7 @@ module _ (space view below : ℕ) (xs : List ℕ) where
     settled-fits = omega (arith, runs-by cleared refl own, view-fits)
 
     -- the published map is what its bytes write
-    below-whole : mapFor space base ≡ mapAt space below xs
+    pub below-whole : mapFor space base ≡ mapAt space below xs
     below-whole =
         let m = lawful-map (mapAt space below xs) (told .below-law) in
         (λ i. mapOf (sym (map-space space below xs (told .below-in)) i) (runs-back (runs (mapAt space below xs)) (m .lawful-runs) i)) ∙ sym (m .whole)
@@ -136,8 +146,13 @@ module _ (space view below : ℕ) (xs : List ℕ) where
   pub publish-unlawful : twoMaps space view below xs ≡ false → publishRefusal space view below xs ≡ 13
   publish-unlawful e = publish-asks ∙ rw e
 
-  pub publish-count : {r : ℕ} → r ≡ length (runsFrom (4294967295 - 0) 0 (mix PUBLISH 0 (0 - 0) 0 own base)) → r ≡ length (runsOf (published own base))
-  publish-count e = counted (mix PUBLISH 0 0 0 own base) (published own base) (mix-publish own base) e
+  -- whether the published map fits
+  module _ {r : Bool} (e : r ≡ leb (length (runsFrom (4294967295 - 0) 0 (mix PUBLISH 0 (0 - 0) 0 own base))) space) where
+    pub publish-enough : not r ≡ false → length (runsOf (published own base)) ≤ space
+    publish-enough = enough (mix PUBLISH 0 0 0 own base) (published own base) (mix-publish own base) space e
+
+    pub publish-short : not r ≡ true → space < length (runsOf (published own base))
+    publish-short = short (mix PUBLISH 0 0 0 own base) (published own base) (mix-publish own base) space e
 
   sync-asks : syncRefusal space view below xs ≡
       cond (twoMaps space view below xs)
@@ -182,6 +197,16 @@ module _ (space view below : ℕ) (xs : List ℕ) where
         pub view-law-after : lawful (mapAt space view ys) ≡ true
         view-law-after = ap lawful view-after ∙ told two .view-law
 
+        pub below-law-after : lawful (mapAt space below ys) ≡ true
+        below-law-after =
+            ap lawful (ap (mapAt space below) after-share ∙ shared-below two (published own base) fit)
+            ∙ map-lawful space (runsOf (published own base)) (runs-lawful (published own base) (λ b l. go b (unpublished (own b)))) fit
+          where
+            go : (b : ℕ) (x : Bool) → Fine (cond x (cleared (own b)) (base b))
+            go b true =
+                clear-fine (own b) (lawful-fine (runs (mapAt space view xs)) (lawful-map (mapAt space view xs) (told two .view-law) .lawful-runs) b)
+            go b false = lawful-fine (runs (mapAt space below xs)) (lawful-map (mapAt space below xs) (told two .below-law) .lawful-runs) b
+
         pub publish-done : {zs : List ℕ} → zs ≡ withMap space view (mapFor space (settled (bytesOf (mapAt space view ys)))) ys →
             (Done ≡ orRefused (publishRefusal space view below xs) Done)
             × (zs ≡ orKept (publishRefusal space view below xs) (publishedMaps space view below xs) xs)
@@ -223,8 +248,13 @@ module _ (space view below : ℕ) (xs : List ℕ) where
   pub refresh-unlawful : twoMaps space view below xs ≡ false → refreshRefusal space view below xs ≡ 13
   refresh-unlawful e = refresh-asks ∙ rw e
 
-  pub refresh-count : {r : ℕ} → r ≡ length (runsFrom (4294967295 - 0) 0 (mix REFRESH 0 (0 - 0) 0 own base)) → r ≡ length (runsOf (refreshed own base))
-  refresh-count e = counted (mix REFRESH 0 0 0 own base) (refreshed own base) (mix-refresh own base) e
+  -- whether the refreshed view fits
+  module _ {r : Bool} (e : r ≡ leb (length (runsFrom (4294967295 - 0) 0 (mix REFRESH 0 (0 - 0) 0 own base))) space) where
+    pub refresh-enough : not r ≡ false → length (runsOf (refreshed own base)) ≤ space
+    refresh-enough = enough (mix REFRESH 0 0 0 own base) (refreshed own base) (mix-refresh own base) space e
+
+    pub refresh-short : not r ≡ true → space < length (runsOf (refreshed own base))
+    refresh-short = short (mix REFRESH 0 0 0 own base) (refreshed own base) (mix-refresh own base) space e
 
   module _ (two : twoMaps space view below xs ≡ true) where
     pub refresh-full : space < length (runsOf (refreshed own base)) → refreshRefusal space view below xs ≡ 16
@@ -363,15 +393,27 @@ module _ (space view below : ℕ) (xs : List ℕ) where
     there = omega arith
 
     module _ {cell : ℕ} (q : cell ≡ cellOf number 0) where
-      pub post-count : {r : ℕ} → r ≡ length (runsFrom (4294967295 - 0) 0 (mix PUBLISH start (start + n - start) cell own base)) → r ≡ length (runsOf (published wrote base))
-      post-count e =
-          counted (mix PUBLISH start n (cellOf number 0) own base) (published wrote base) mix-post
-          (e ∙ (λ i. length (runsFrom (4294967295 - 0) 0 (mix PUBLISH start (there i) (q i) own base))))
+      -- whether the published map fits
+      module _ {r : Bool} (e : r ≡ leb (length (runsFrom (4294967295 - 0) 0 (mix PUBLISH start (start + n - start) cell own base))) space) where
+        post-told : r ≡ leb (length (runsFrom (4294967295 - 0) 0 (mix PUBLISH start n (cellOf number 0) own base))) space
+        post-told = e ∙ (λ i. leb (length (runsFrom (4294967295 - 0) 0 (mix PUBLISH start (there i) (q i) own base))) space)
 
-      pub settle-count : {r : ℕ} → r ≡ length (runsFrom (4294967295 - 0) 0 (mix SETTLE start (start + n - start) cell own base)) → r ≡ length (runsOf (settled wrote))
-      settle-count e =
-          counted (mix SETTLE start n (cellOf number 0) own base) (settled wrote) mix-settle
-          (e ∙ (λ i. length (runsFrom (4294967295 - 0) 0 (mix SETTLE start (there i) (q i) own base))))
+        pub post-enough : not r ≡ false → length (runsOf (published wrote base)) ≤ space
+        post-enough = enough (mix PUBLISH start n (cellOf number 0) own base) (published wrote base) mix-post space post-told
+
+        pub post-short : not r ≡ true → space < length (runsOf (published wrote base))
+        post-short = short (mix PUBLISH start n (cellOf number 0) own base) (published wrote base) mix-post space post-told
+
+      -- whether the view fits
+      module _ {r : Bool} (e : r ≡ leb (length (runsFrom (4294967295 - 0) 0 (mix SETTLE start (start + n - start) cell own base))) space) where
+        settle-told : r ≡ leb (length (runsFrom (4294967295 - 0) 0 (mix SETTLE start n (cellOf number 0) own base))) space
+        settle-told = e ∙ (λ i. leb (length (runsFrom (4294967295 - 0) 0 (mix SETTLE start (there i) (q i) own base))) space)
+
+        pub settle-enough : not r ≡ false → length (runsOf (settled wrote)) ≤ space
+        settle-enough = enough (mix SETTLE start n (cellOf number 0) own base) (settled wrote) mix-settle space settle-told
+
+        pub settle-short : not r ≡ true → space < length (runsOf (settled wrote))
+        settle-short = short (mix SETTLE start n (cellOf number 0) own base) (settled wrote) mix-settle space settle-told
 
     post-asks : start ≤ OFFSET-MAX → n ≤ OFFSET-MAX → postRefusal space view below xs start n number ≡
         cond (twoMaps space view below xs)

@@ -1,28 +1,29 @@
 -- What the entries answer and leave, from what they test. Assumes nothing.
-use Prim.Native.Nat.{ℕ, zero, suc, _+_, _*_, _-_, _/_, _≤_, _<_}
+use Prim.Native.Nat.{ℕ, suc, _+_, _*_, _-_, _≤_, _<_}
 use native.Mathlib.Omega.{arith}
 use native.Mathlib.Decide.{decLt}
 use mathlib.Core.Path.{_≡_, refl, sym, ap, _∙_}
 use mathlib.Core.Logic.{_⊎_, inr}
-use mathlib.Core.Bool.{Bool, true, false, cond, not, _&&_, and-false}
-use mathlib.Core.List.{List, [], _∷_, _++_}
+use mathlib.Core.Bool.{Bool, true, false, cond, _&&_, and-false}
+use mathlib.Core.List.{List}
 use lib.ListN.{length}
-use lib.Dec.{leb, eqb}
-use borrow.Author.Tests.{le-leb, lt-leb, leb-true, leb-false, eq-eqb, ne-eqb, eqb-true, eqb-false}
+use lib.Dec.{leb}
+use borrow.Author.Tests.{le-leb, lt-leb, ne-eqb}
 use Rattle.models.specs.Limits.{ROWS, OFFSET-MAX}
 use Rattle.trace.specs.Questions.{firstNo}
-use Rattle.runs.specs.Cells.{Bytes, cellOf, numberIn, unpublished, cleared, overwrite, published, settled, refreshed, inRange}
+use Rattle.runs.specs.Cells.{Bytes, cellOf, numberIn, overwrite}
 use Rattle.runs.specs.Runs.{Run, runsFrom, runsOf, piecesOf}
-use Rattle.runs.specs.Maps.{mapOf, mapFor, spaceIn, bytesOf, runs, lawful, lawfulPublished, mapAt, withMap}
-use Rattle.runs.proofs.Longest.{same-from, runs-same, runs-back}
-use Rattle.runs.proofs.Trips.{Map, lawful-map}
+use Rattle.runs.specs.Maps.{mapOf, mapFor, spaceIn, bytesOf, runs, lawful}
+use Rattle.runs.proofs.Longest.{runs-same, runs-back}
+use Rattle.runs.proofs.Trips.{lawful-map}
 use Rattle.runs.proofs.Points.{count-starts}
 use Rattle.runs.proofs.Passes.{over-before, over-behind}
-use Rattle.extents.proofs.Counting.{starts-most}
+use Rattle.maps.proofs.Counting.{starts-most}
 use Rattle.extents.specs.declared.Answer.{Answer}
 use Rattle.extents.specs.declared.Answer.the-variants.{Done, Listed, Refused}
-use Rattle.extents.specs.Mixes.{PUBLISH, SETTLE, REFRESH, READ-MAP, READ-FRESH, mixed, mix}
-use Rattle.extents.specs.Entries.{orRefused, orKept, listedIn, countOf, markOf, writeRefusal, writtenMap, listRefusal}
+use Rattle.maps.specs.Mixes.{READ-MAP, mixed, mix}
+use Rattle.maps.specs.Pieces.{listedIn}
+use Rattle.extents.specs.Entries.{orRefused, orKept, countOf, markOf, writeRefusal, writtenMap, listRefusal}
 
 -- ---- Answers
 

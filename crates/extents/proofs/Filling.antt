@@ -17,13 +17,13 @@ use Rattle.runs.specs.Maps.{fours, mapOf, mapFor, spaceIn, runs, lawful, noMark
 use Rattle.runs.proofs.Longest.{mean-first}
 use Rattle.runs.proofs.Trips.{both, length-fours, fours-append, lawful-map}
 use Rattle.extents.specs.Packing.{partAt, withPart, packedIn, mergedOf, Packed}
-use Rattle.extents.proofs.Spots.{Here, here-behind, here-at, here-same, noRun, putAt, put-behind, outside, zeroed}
+use Rattle.extents.proofs.Spots.{Here, here-behind, here-at, here-same, noRun, putAt, put-behind, put-after, outside, zeroed, zeroed-twice}
 use Rattle.extents.proofs.Rests.{rest, rest-none}
 use Rattle.extents.proofs.Ahead.{Ahead, gapOf, gap-high, gap-low, ahead-take, ahead-skip, ahead-pass, ahead-part, ahead-fewer}
 use Rattle.extents.proofs.Settling.{next-at}
 
 -- what the loop keeps: runs `done` at the front of the part at v, the unpublished runs `us` that are left at its end, from run j on, and no other
--- change; the runs of the merge are those done and those of its bytes from x on
+-- change, behind the runs done nowhere; the runs of the merge are those done and those of its bytes from x on
 pub record Filling (space v w first : ℕ) (xs₀ xs : List ℕ) (j n i x : ℕ) : Type 0 where
   pub done : List Run
   pub us : List Run
@@ -32,6 +32,7 @@ pub record Filling (space v w first : ℕ) (xs₀ xs : List ℕ) (j n i x : ℕ)
   pub count : length done ≡ n
   pub left : j + length us ≡ space
   pub room : length mid + 4 * n ≡ 4 * j
+  pub kept : (q : ℕ) → 4 * n ≤ q → getD xs (v + q) 0 ≡ getD xs₀ (v + q) 0
   pub within : x ≤ OFFSET-MAX
   pub passed : i ≤ length (runs (partAt space w xs₀))
   pub result : runsOf (mergedOf space v w first xs₀) ≡ done ++ rest OFFSET-MAX (mergedOf space v w first xs₀) x
@@ -83,7 +84,7 @@ pub beside : {w v q : ℕ} (size : ℕ) → (w + size ≤ v) ⊎ (v + size ≤ w
 beside size (inl a) h l = inl (omega arith)
 beside size (inr a) h l = inr (omega arith)
 
-module _ {space v w others first : ℕ} {xs₀ : List ℕ} (p : Packed space v w others first xs₀) where
+module _ {space v w all others first : ℕ} {xs₀ : List ℕ} (p : Packed space v w all others first xs₀) where
   -- what every byte is to hold
   abbrev f : Bytes
   f = mergedOf space v w first xs₀
@@ -137,6 +138,7 @@ module _ {space v w others first : ℕ} {xs₀ : List ℕ} (p : Packed space v w
         count = refl;
         left = p .own-all;
         room = omega (arith, length-take-le (4 * first) part o);
+        kept = λ q h. refl;
         within = omega arith;
         passed = omega arith;
         result = rest-all f;
@@ -274,6 +276,7 @@ module _ {space v w others first : ℕ} {xs₀ : List ℕ} (p : Packed space v w
           count = k .count;
           left = k .left;
           room = k .room;
+          kept = k .kept;
           within = gap-bounds t .1;
           passed = k .passed;
           result = k .result ∙ ap (λ (r : List Run). k .done ++ r) (a .0 ∙ ap (rest OFFSET-MAX f) (sym e));
@@ -328,6 +331,7 @@ module _ {space v w others first : ℕ} {xs₀ : List ℕ} (p : Packed space v w
             count = k .count;
             left = k .left;
             room = k .room;
+            kept = k .kept;
             within = k .within;
             passed = omega (arith, p .below-all, h);
             result = k .result;
@@ -387,6 +391,11 @@ module _ {space v w others first : ℕ} {xs₀ : List ℕ} (p : Packed space v w
               count = omega (arith, length-append (k .done) (r ∷ []), k .count);
               left = k .left;
               room = omega (arith, length-drop 4 (k .mid), k .room, part-low);
+              kept =
+                  λ at h.
+                  ap (λ (z : List ℕ). getD z (v + at) 0) q
+                  ∙ put-after xs (v + n * 4) s (e - s) (getD xs (w + i * 4 + 2) 0) 0 (v + at) (omega (arith, h)) (part-room .0)
+                  ∙ k .kept at (omega (arith, h));
               within = omega (arith, pe, gap-bounds t .1);
               passed = k .passed;
               result =
@@ -459,6 +468,11 @@ module _ {space v w others first : ℕ} {xs₀ : List ℕ} (p : Packed space v w
             count = omega (arith, length-append (k .done) (own ∷ []), k .count);
             left = omega (arith, k .left, ap length own-first);
             room = omega (arith, length-drop 4 m, l, k .room);
+            kept =
+                λ at h.
+                ap (λ (z : List ℕ). getD z (v + at) 0) q
+                ∙ put-after xs (v + n * 4) x (getD xs (v + j * 4 + 1) 0) (getD xs (v + j * 4 + 2) 0) 1 (v + at) (omega (arith, h)) (own-room .1)
+                ∙ k .kept at (omega (arith, h));
             within = own-bounds .1;
             passed = k .passed;
             result =
@@ -471,9 +485,9 @@ module _ {space v w others first : ℕ} {xs₀ : List ℕ} (p : Packed space v w
     -- ---- The end
 
     -- at the top the runs done are all, and the rest of the part is 0
-    pub fill-end : OFFSET-MAX ≤ x → {zs : List ℕ} → zs ≡ zeroed xs (v + n * 4) (v + space * 4) → zs ≡ withPart space v (mapFor space f) xs₀
+    fill-all : OFFSET-MAX ≤ x → {zs : List ℕ} → zs ≡ zeroed xs (v + n * 4) (v + space * 4) → zs ≡ withPart space v (mapFor space f) xs₀
     unfolding mapOf
-    fill-end h {zs} q =
+    fill-all h {zs} q =
         let done = k .done in
         let a = take v xs₀ ++ fours done in
         let rests = k .mid ++ fours (k .us) in
@@ -498,3 +512,20 @@ module _ {space v w others first : ℕ} {xs₀ : List ℕ} (p : Packed space v w
         ∙ (λ z. (front z ++ replicate (m z) 0) ++ back z)
         ∙ ap (λ (z : List ℕ). z ++ tail) (append-assoc (take v xs₀) (fours done) (replicate (4 * (space - length done)) 0))
         ∙ ap (λ (z : List Run). (take v xs₀ ++ mapOf space z) ++ tail) (sym all)
+
+    -- it is where 0 is put in the places of the first `all` runs and of the packed ones
+    pub fill-end : OFFSET-MAX ≤ x → {ys zs : List ℕ} {a b : ℕ} → a ≡ max n all → b ≡ max n first →
+        ys ≡ zeroed xs (v + n * 4) (v + a * 4) → zs ≡ zeroed ys (v + b * 4) (v + space * 4) → zs ≡ withPart space v (mapFor space f) xs₀
+    fill-end h {ys} {zs} {a} {b} ea eb y z =
+        let r = fill-room in
+        fill-all h
+        (z
+        ∙ ap (λ (l : List ℕ). zeroed l (v + b * 4) (v + space * 4)) y
+        ∙ zeroed-twice xs (v + n * 4) (v + a * 4) (v + b * 4) (v + space * 4) (omega (arith, ea)) (omega (arith, ea, r, p .all-in))
+        (omega (arith, eb)) (omega (arith, eb, r, p .own-all)) (omega (arith, r)) none)
+      where
+        none : (i : ℕ) → v + a * 4 ≤ i → i < v + b * 4 → getD xs i 0 ≡ 0
+        none i o l =
+            let q = i - v in
+            let e : i ≡ v + q = omega arith in
+            ap (λ (m : ℕ). getD xs m 0) e ∙ k .kept q (omega (arith, ea)) ∙ p .between q (omega (arith, ea)) (omega (arith, ea, eb))

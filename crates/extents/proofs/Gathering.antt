@@ -6,7 +6,7 @@ use mathlib.Core.Path.{_≡_, refl, sym, ap, _∙_}
 use mathlib.Core.Bool.{Bool, true, false, cond}
 use mathlib.Core.List.{List, [], _∷_, _++_, append-assoc}
 use lib.ListN.{length, getD, take, drop, length-drop, drop-of-length-le}
-use lib.Seq.{length-take-le, take-take, take-append-le, drop-at, drop-cons, getD-take}
+use lib.Seq.{length-take-le, take-take, take-at, drop-at, drop-cons, getD-take}
 use borrow.Author.Tests.{eq-eqb, ne-eqb}
 use Rattle.models.specs.Limits.{OFFSET-MAX}
 use Rattle.runs.specs.Cells.{markIn, unpublished, refreshed}
@@ -30,7 +30,7 @@ unfolding marked
 marked-out r rs e = rw e
 
 -- there are no more of them than of all
-marked-fewer : (rs : List Run) → length (marked rs) ≤ length rs
+pub marked-fewer : (rs : List Run) → length (marked rs) ≤ length rs
 unfolding marked
 marked-fewer [] = omega arith
 marked-fewer (r ∷ rs) = go (unpublished (r .cell)) (marked-fewer rs)
@@ -87,7 +87,7 @@ marked-lawful rs l =
     }
 
 -- they mean the unpublished bytes
-marked-mean : (top end c : ℕ) (rs : List Run) → Rising top end c rs → (b : ℕ) →
+pub marked-mean : (top end c : ℕ) (rs : List Run) → Rising top end c rs → (b : ℕ) →
     cellAt (marked rs) b ≡ cond (unpublished (cellAt rs b)) (cellAt rs b) 0
 unfolding marked cellAt
 marked-mean top end c [] g b = refl
@@ -124,13 +124,22 @@ marked-refresh rs l f b = ap over (marked-mean OFFSET-MAX 0 0 rs (l .in-order) b
     go v true e = rw e
     go v false e = refl
 
+-- and without one it takes every byte from below
+pub marked-none : (rs : List Run) → Lawful rs → length (marked rs) ≡ 0 → (f : ℕ → ℕ) (b : ℕ) → refreshed (cellAt rs) f b ≡ f b
+unfolding cellAt
+marked-none rs l z f b = sym (marked-refresh rs l f b) ∙ go (marked rs) z
+  where
+    go : (us : List Run) → length us ≡ 0 → refreshed (cellAt us) f b ≡ f b
+    go [] e = refl
+    go (u ∷ us) e = absurd (omega (arith, e))
+
 -- ---- Taking them to the end
 
--- what the loop keeps: the first i runs are as they were, and the unpublished ones of the others stand at the end, from run `to` on
+-- what the loop keeps: all before run `to` is as it was, with the first i runs, and the unpublished ones of the others stand from there on
 pub record Gathering (xs₀ xs : List ℕ) (i to : ℕ) : Type 0 where
   pub passed : i ≤ length (runs xs₀)
   pub size : length xs ≡ length xs₀
-  pub front : take (4 * i) xs ≡ take (4 * i) xs₀
+  pub front : take (4 * to) xs ≡ take (4 * to) xs₀
   pub back : drop (4 * to) xs ≡ fours (marked (drop i (runs xs₀)))
   pub room : to + length (marked (drop i (runs xs₀))) ≡ spaceIn xs₀
 
@@ -179,21 +188,15 @@ module _ (xs₀ : List ℕ) (law : lawful xs₀ ≡ true) where
           there q l =
               let p = 4 * (i - 1) + q in
               let e : (i - 1) * 4 + q ≡ p = omega arith in
-              let o : p < 4 * i = omega arith in
-              ap (λ (j : ℕ). getD xs j 0) e ∙ sym (getD-take (4 * i) xs p 0 o)
-              ∙ ap (λ (l : List ℕ). getD l p 0) (k .front) ∙ getD-take (4 * i) xs₀ p 0 o
+              let o : p < 4 * to = omega (arith, gather-apart) in
+              ap (λ (j : ℕ). getD xs j 0) e ∙ sym (getD-take (4 * to) xs p 0 o)
+              ∙ ap (λ (l : List ℕ). getD l p 0) (k .front) ∙ getD-take (4 * to) xs₀ p 0 o
 
       -- it is the first of those not left
       last-first : drop (i - 1) (runs xs₀) ≡ last ∷ drop i (runs xs₀)
       last-first =
           let e : suc (i - 1) ≡ i = omega arith in
           drop-cons (runs xs₀) (i - 1) noRun (omega (arith, k .passed)) ∙ ap (λ (j : ℕ). last ∷ drop j (runs xs₀)) e
-
-      -- the runs before it are as they were
-      before : (ys : List ℕ) → take (4 * (i - 1)) ys ≡ take (4 * (i - 1)) xs → take (4 * (i - 1)) ys ≡ take (4 * (i - 1)) xs₀
-      before ys e =
-          let o : 4 * (i - 1) ≤ 4 * i = omega arith in
-          e ∙ sym (take-take (4 * (i - 1)) (4 * i) xs o) ∙ ap (take (4 * (i - 1))) (k .front) ∙ take-take (4 * (i - 1)) (4 * i) xs₀ o
 
       -- it is published
       pub gather-skip : (getD xs ((i - 1) * 4 + 3) 0 ≡ 1 → ⊥) → Gathering xs₀ xs (i - 1) to
@@ -203,7 +206,7 @@ module _ (xs₀ : List ℕ) (law : lawful xs₀ ≡ true) where
           record {
             passed = omega (arith, k .passed);
             size = k .size;
-            front = before xs refl;
+            front = k .front;
             back = k .back ∙ ap fours (sym e);
             room = ap (λ (l : List Run). to + length l) e ∙ k .room;
           }
@@ -218,25 +221,25 @@ module _ (xs₀ : List ℕ) (law : lawful xs₀ ≡ true) where
           let q = (to - 1) * 4 in
           let r = last-here in
           let four = fours (last ∷ []) in
-          let o : unpublished (last .cell) ≡ true = eq-eqb (markIn (last .cell)) 1 (sym (r .mark) ∙ t) in
+          let u : unpublished (last .cell) ≡ true = eq-eqb (markIn (last .cell)) 1 (sym (r .mark) ∙ t) in
           let m : marked (drop (i - 1) (runs xs₀)) ≡ last ∷ marked (drop i (runs xs₀)) =
-          ap marked last-first ∙ marked-in last (drop i (runs xs₀)) o in
+          ap marked last-first ∙ marked-in last (drop i (runs xs₀)) u in
           let a : i ≤ to = gather-apart in
           let head : length (take q xs) ≡ q = length-take-le q xs (omega (arith, gather-inside)) in
           let e : ys ≡ take q xs ++ (four ++ drop (q + 4) xs) =
           p
           ∙ (λ j. (take q xs ++ (r .start j ∷ (r .size j ∷ (r .number j ∷ ((sym t ∙ r .mark) j ∷ []))))) ++ drop (q + 4) xs)
           ∙ append-assoc (take q xs) four (drop (q + 4) xs) in
-          let b : 4 * (i - 1) ≤ length (take q xs) = omega (arith, head, a) in
+          let o : q ≤ 4 * to = omega arith in
           let d : 4 * (to - 1) ≡ q = omega arith in
           let w : q + 4 ≡ 4 * to = omega (arith, a) in
           record {
             passed = omega (arith, k .passed);
             size = l ∙ k .size;
             front =
-                before ys
-                (ap (take (4 * (i - 1))) e ∙ take-append-le (4 * (i - 1)) (take q xs) (four ++ drop (q + 4) xs) b
-                ∙ take-take (4 * (i - 1)) q xs (omega (arith, a)));
+                (λ j. take (d j) (e j)) ∙ take-at (take q xs) (four ++ drop (q + 4) xs) q head
+                ∙ sym (take-take q (4 * to) xs o) ∙ ap (take q) (k .front) ∙ take-take q (4 * to) xs₀ o
+                ∙ ap (λ (z : ℕ). take z xs₀) (sym d);
             back =
                 (λ j. drop (d j) (e j)) ∙ drop-at (take q xs) (four ++ drop (q + 4) xs) q head
                 ∙ ap (λ (z : List ℕ). four ++ z) (ap (λ (z : ℕ). drop z xs) w ∙ k .back)
@@ -246,5 +249,5 @@ module _ (xs₀ : List ℕ) (law : lawful xs₀ ≡ true) where
 
   -- in the end all of them
   pub gather-end : {xs : List ℕ} {i to : ℕ} → Gathering xs₀ xs i to → i ≤ 0 →
-      (to + length (marked (runs xs₀)) ≡ spaceIn xs₀) × (drop (4 * to) xs ≡ fours (marked (runs xs₀)))
-  gather-end {xs} {i} k h = let z : i ≡ 0 = omega arith in (rw z at (k .room), rw z at (k .back))
+      (to + length (marked (runs xs₀)) ≡ spaceIn xs₀) × (drop (4 * to) xs ≡ fours (marked (runs xs₀))) × (take (4 * to) xs ≡ take (4 * to) xs₀)
+  gather-end {xs} {i} k h = let z : i ≡ 0 = omega arith in (rw z at (k .room), rw z at (k .back), k .front)

@@ -1,10 +1,3 @@
-pub mod Scanning
-pub mod Counting
-pub mod Parted
-pub mod Places
-pub mod Moves
-pub mod Ranges
-pub mod Listing
 pub mod Entering
 pub mod Sweeps
 pub mod Drawing
@@ -21,4 +14,5 @@ pub mod Ahead
 pub mod Filling
 pub mod Viewing
 pub mod Pairing
+pub mod Bounds
 pub mod Doubles

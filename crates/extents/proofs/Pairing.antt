@@ -1,5 +1,5 @@
 -- One or two maps of a slice that has several: is there room, the map lent and home again, and one copied. Assumes nothing.
-use Prim.Native.Nat.{ℕ, _+_, _*_, _-_, _/_, _≤_, _<_}
+use Prim.Native.Nat.{ℕ, _+_, _*_, _-_, _/_, _≤_, _<_, max}
 use native.Mathlib.Omega.{arith}
 use native.Mathlib.Decide.{decLt}
 use native.Mathlib.Nat.{le-div-iff-mul-le, div-lt-iff-lt-mul}
@@ -14,11 +14,12 @@ use borrow.Author.Tests.{leb-true, lt-ltb, le-ltb, le-leb, lt-leb, eq-eqb, ne-eq
 use borrow.Rule.Slice.PartMut.{putMid}
 use Rattle.runs.specs.Cells.{Bytes}
 use Rattle.runs.specs.Runs.{runsOf}
-use Rattle.runs.specs.Maps.{mapFor, spaceIn, bytesOf, lawful, lawfulPublished, mapAt, withMap}
-use Rattle.runs.proofs.Trips.{both}
+use Rattle.runs.specs.Maps.{mapFor, spaceIn, runs, bytesOf, lawful, lawfulPublished, mapAt, withMap}
+use Rattle.runs.proofs.Trips.{both, lawful-map}
 use Rattle.runs.proofs.Sides.{part-is, with-part}
 use Rattle.extents.specs.Entries.{twoMaps}
 use Rattle.extents.proofs.Parts.{lent, home, part-length, laid-fit}
+use Rattle.extents.proofs.Spots.{zero-behind}
 
 -- ---- Is there room for a map?
 
@@ -185,14 +186,42 @@ copied-more size from to n xs ys apart fit l k =
         ∙ ap (λ (i : ℕ). getD xs (from + i) 0) (sym e)
 
 module _ (space j k : ℕ) (xs : List ℕ) (j-fit : (j + 1) * (4 * space) ≤ length xs) (k-fit : (k + 1) * (4 * space) ≤ length xs) where
-  -- all of them are the map
-  pub copied-all : (n : ℕ) → n ≡ 4 * space → {ys : List ℕ} → Copied (j * (4 * space)) (k * (4 * space)) n xs ys →
-      ys ≡ withMap space k (mapAt space j xs) xs
-  copied-all n e {ys} c =
-      let m = mapAt space j xs in
-      let s : length m ≡ 4 * space = map-length space j xs j-fit in
-      part-is (k * (4 * space)) m xs ys (omega (arith, s, k-fit)) (c .same) (λ i h. c .other i (inl h))
-      (λ i h. c .there i (omega (arith, h, s, e))
-      ∙ sym (getD-take (4 * space) (drop (j * (4 * space)) xs) i 0 (omega (arith, h, s)) ∙ getD-drop (j * (4 * space)) xs i 0))
-      (λ i h l. c .other i (inr (omega (arith, h, s, e))))
-      ∙ sym (with-part space k m xs s k-fit)
+  -- a number of a map
+  at-map : (t i : ℕ) → i < 4 * space → getD (mapAt space t xs) i 0 ≡ getD xs (t * (4 * space) + i) 0
+  at-map t i h = getD-take (4 * space) (drop (t * (4 * space)) xs) i 0 h ∙ getD-drop (t * (4 * space)) xs i 0
+
+  module _ (j-law : lawful (mapAt space j xs) ≡ true) (k-law : lawful (mapAt space k xs) ≡ true) where
+    -- as far as runs stand in one of two lawful maps
+    pub copied-end : {a b n : ℕ} → a ≡ length (runs (lentMap space j xs)) → b ≡ length (runs (lentMap space k xs)) → n ≡ max a b →
+        (length (runs (mapAt space j xs)) * 4 ≤ n * 4) × (length (runs (mapAt space k xs)) * 4 ≤ n * 4) × (n * 4 ≤ 4 * space)
+    copied-end ea eb en =
+        let u = ea ∙ ap (λ (l : List ℕ). length (runs l)) (map-lent space j xs) in
+        let v = eb ∙ ap (λ (l : List ℕ). length (runs l)) (map-lent space k xs) in
+        let fj = lawful-map (mapAt space j xs) j-law .fit in
+        let fk = lawful-map (mapAt space k xs) k-law .fit in (
+          omega (arith, u, en),
+          omega (arith, v, en),
+          omega (arith, u, v, en, fj, fk, map-space space j xs j-fit, map-space space k xs k-fit),
+        )
+
+    -- what stands there is the map
+    pub copied-all : (n : ℕ) → length (runs (mapAt space j xs)) * 4 ≤ n → length (runs (mapAt space k xs)) * 4 ≤ n → n ≤ 4 * space →
+        {ys : List ℕ} → Copied (j * (4 * space)) (k * (4 * space)) n xs ys → ys ≡ withMap space k (mapAt space j xs) xs
+    copied-all n a b top {ys} c =
+        part-is (k * (4 * space)) m xs ys (omega (arith, s, k-fit)) (c .same) (λ i h. c .other i (inl h))
+        (λ i h. go i (omega (arith, h, s)) (decLt i n)) (λ i h l. c .other i (inr (omega (arith, h, s, top))))
+        ∙ sym (with-part space k m xs s k-fit)
+      where
+        m : List ℕ
+        m = mapAt space j xs
+
+        s : length m ≡ 4 * space
+        s = map-length space j xs j-fit
+
+        go : (i : ℕ) → i < 4 * space → Dec (i < n) → getD ys (k * (4 * space) + i) 0 ≡ getD m i 0
+        go i h (yes l) = c .there i l ∙ sym (at-map j i h)
+        go i h (no l) =
+            c .other (k * (4 * space) + i) (inr (omega (arith, l)))
+            ∙ sym (at-map k i h)
+            ∙ zero-behind (mapAt space k xs) k-law i (omega (arith, b, l))
+            ∙ sym (zero-behind m j-law i (omega (arith, a, l)))

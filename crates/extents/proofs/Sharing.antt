@@ -18,7 +18,7 @@ use Rattle.runs.specs.Maps.{mapFor, spaceIn, runs, bytesOf, lawful, mapAt, with
 use Rattle.runs.proofs.Longest.{Fine, runs-same}
 use Rattle.runs.proofs.Trips.{both, lawful-map}
 use Rattle.extents.specs.declared.share.Stroke.{Stroke}
-use Rattle.extents.specs.Mixes.{PUBLISH, mixed, mix}
+use Rattle.maps.specs.Mixes.{PUBLISH, mixed, mix}
 use Rattle.extents.specs.Entries.{twoMaps, viewOf, belowOf}
 use Rattle.extents.specs.Strokes.{strokeOf, strokes, filled, downs, taken, partAt, withPart, Two, sunk, raised, withBytes, Ready}
 use Rattle.extents.proofs.Sweeps.{over-at, over-same, fill-same, Fits, Rises, Drawn, downs-fits, downs-drawn, downs-same, up-step}

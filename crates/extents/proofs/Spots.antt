@@ -1,19 +1,20 @@
 -- Runs in a slice: reading the four numbers of one, putting one behind others, lengthening one, and what is left outside a part. Assumes nothing.
 use Prim.Native.Nat.{ℕ, suc, _+_, _*_, _-_, _≤_, _<_}
 use native.Mathlib.Numerals.{add-one}
+use native.Mathlib.Decide.{decLt}
 use native.Mathlib.Omega.{arith}
-use mathlib.Core.Path.{_≡_, sym, ap, _∙_}
+use mathlib.Core.Path.{_≡_, refl, sym, ap, subst, _∙_}
 use mathlib.Core.Logic.{_⊎_, inl, inr}
 use mathlib.Core.Bool.{true}
 use mathlib.Core.List.{List, [], _∷_, _++_, append-assoc, append-nil}
 use lib.ListN.{length, getD, take, drop, set, replicate, length-append, length-replicate, replicate-append-replicate, take-append-drop}
-use lib.ListN.{List·getD-append}
+use lib.ListN.{length-drop, List·getD-append}
 use lib.Seq.{length-take-le, take-at, drop-at, drop-drop, drop-append-le, getD-append-add, getD-drop, getD-take, append-snoc}
-use lib.Seq.{set-at, split-at, sets-eq, drop-cons}
+use lib.Seq.{set-at, split-at, sets-eq, drop-cons, ext-getD}
 use Rattle.runs.specs.Cells.{numberIn, markIn}
 use Rattle.runs.specs.Runs.{Run, runOf}
-use Rattle.runs.specs.Maps.{fours, runs, lawful}
-use Rattle.runs.proofs.Trips.{length-fours, fours-append, run-at}
+use Rattle.runs.specs.Maps.{fours, mapOf, spaceIn, runs, lawful}
+use Rattle.runs.proofs.Trips.{zeros, length-fours, fours-append, run-at, lawful-map}
 
 -- the four numbers at place p are those of a run
 pub record Here (xs : List ℕ) (p : ℕ) (r : Run) : Type 0 where
@@ -103,6 +104,12 @@ outside xs v size part p h l (inr k) =
     ∙ getD-drop (v + size) xs q 0
     ∙ ap (λ (j : ℕ). getD xs j 0) d
 
+-- what stands behind four numbers that are put stays
+pub put-after : (xs : List ℕ) (p s l n k i : ℕ) → p + 4 ≤ i → p + 4 ≤ length xs → getD (putAt xs p s l n k) i 0 ≡ getD xs i 0
+put-after xs p s l n k i h m =
+    let four = s ∷ (l ∷ (n ∷ (k ∷ []))) in
+    ap (λ (z : List ℕ). getD z i 0) (append-assoc (take p xs) four (drop (p + 4) xs)) ∙ outside xs p 4 four i m refl (inr h)
+
 -- ---- Zeros
 
 -- 0 from a place up to another
@@ -130,3 +137,80 @@ zeroed-next xs from i h k =
     ∙ set-at p (getD xs i 0) (drop (suc i) xs) 0 i l
     ∙ sym (append-snoc p 0 (drop (suc i) xs))
     ∙ (λ j. longer j ++ drop (sym (add-one i) j) xs)
+
+-- a number within is 0
+zeroed-in : (xs : List ℕ) (from to i : ℕ) → to ≤ length xs → from ≤ i → i < to → getD (zeroed xs from to) i 0 ≡ 0
+zeroed-in xs from to i k h l =
+    let n = to - from in
+    let q = i - from in
+    let f : length (take from xs) ≡ from = length-take-le from xs (omega arith) in
+    let e : i ≡ length (take from xs) + q = omega arith in
+    let o : q < length (replicate {A = ℕ} n 0) = omega (arith, length-replicate {A = ℕ} n 0) in
+    (λ j. getD (append-assoc (take from xs) (replicate n 0) (drop to xs) j) (e j) 0)
+    ∙ getD-append-add (take from xs) (replicate n 0 ++ drop to xs) q 0
+    ∙ List·getD-append (replicate n 0) (drop to xs) 0 q o
+    ∙ zeros n q
+
+-- all others stay
+zeroed-out : (xs : List ℕ) (from to i : ℕ) → from ≤ to → to ≤ length xs → (i < from) ⊎ (to ≤ i) → getD (zeroed xs from to) i 0 ≡ getD xs i 0
+zeroed-out xs from to i h k d =
+    let n = to - from in
+    let e : from + n ≡ to = omega arith in
+    let w : (i < from) ⊎ (from + n ≤ i) = subst (λ (z : ℕ). (i < from) ⊎ (z ≤ i)) (sym e) d in
+    ap (λ (z : List ℕ). getD z i 0) (append-assoc (take from xs) (replicate n 0) (drop to xs))
+    ∙ ap (λ (z : ℕ). getD (take from xs ++ (replicate n 0 ++ drop z xs)) i 0) (sym e)
+    ∙ outside xs from n (replicate n 0) i (omega arith) (length-replicate {A = ℕ} n 0) w
+
+-- the length is kept
+zeroed-length : (xs : List ℕ) (from to : ℕ) → from ≤ to → to ≤ length xs → length (zeroed xs from to) ≡ length xs
+zeroed-length xs from to h k =
+    omega (
+      arith,
+      length-append (take from xs ++ replicate (to - from) 0) (drop to xs),
+      length-append (take from xs) (replicate (to - from) 0),
+      length-take-le from xs (omega arith),
+      length-replicate {A = ℕ} (to - from) 0,
+      length-drop to xs,
+    )
+
+-- two stretches, and 0 between them
+pub zeroed-twice : (xs : List ℕ) (a b c d : ℕ) → a ≤ b → b ≤ d → a ≤ c → c ≤ d → d ≤ length xs →
+    ((i : ℕ) → b ≤ i → i < c → getD xs i 0 ≡ 0) → zeroed (zeroed xs a b) c d ≡ zeroed xs a d
+zeroed-twice xs a b c d ab bd ac cd h z =
+    ext-getD 0 (zeroed ys c d) (zeroed xs a d) (zeroed-length ys c d cd k ∙ same ∙ sym (zeroed-length xs a d (omega arith) h))
+    (λ i _. go i (decLt i a) (decLt i d) (decLt i b) (decLt i c))
+  where
+    ys : List ℕ
+    ys = zeroed xs a b
+
+    same : length ys ≡ length xs
+    same = zeroed-length xs a b ab (omega (arith, bd, h))
+
+    k : d ≤ length ys
+    k = omega (arith, same, h)
+
+    go : (i : ℕ) → Dec (i < a) → Dec (i < d) → Dec (i < b) → Dec (i < c) → getD (zeroed ys c d) i 0 ≡ getD (zeroed xs a d) i 0
+    go i (yes l) _ _ _ =
+        zeroed-out ys c d i cd k (inl (omega (arith, l, ac))) ∙ zeroed-out xs a b i ab (omega (arith, bd, h)) (inl l)
+        ∙ sym (zeroed-out xs a d i (omega (arith, ab, bd)) h (inl l))
+    go i (no l) (no m) _ _ =
+        zeroed-out ys c d i cd k (inr (omega (arith, m))) ∙ zeroed-out xs a b i ab (omega (arith, bd, h)) (inr (omega (arith, m, bd)))
+        ∙ sym (zeroed-out xs a d i (omega (arith, ab, bd)) h (inr (omega (arith, m))))
+    go i (no l) (yes m) _ (no p) = zeroed-in ys c d i k (omega (arith, p)) m ∙ sym (zeroed-in xs a d i h (omega (arith, l)) m)
+    go i (no l) (yes m) (yes n) (yes p) =
+        zeroed-out ys c d i cd k (inl p) ∙ zeroed-in xs a b i (omega (arith, bd, h)) (omega (arith, l)) n
+        ∙ sym (zeroed-in xs a d i h (omega (arith, l)) m)
+    go i (no l) (yes m) (no n) (yes p) =
+        zeroed-out ys c d i cd k (inl p) ∙ zeroed-out xs a b i ab (omega (arith, bd, h)) (inr (omega (arith, n)))
+        ∙ z i (omega (arith, n)) p ∙ sym (zeroed-in xs a d i h (omega (arith, l)) m)
+
+-- behind the runs of a lawful map all is 0
+pub zero-behind : (xs : List ℕ) → lawful xs ≡ true → (q : ℕ) → 4 * length (runs xs) ≤ q → getD xs q 0 ≡ 0
+unfolding mapOf
+zero-behind xs e q h =
+    let rs = runs xs in
+    let n = 4 * (spaceIn xs - length rs) in
+    let p : q ≡ length (fours rs) + (q - length (fours rs)) = omega (arith, length-fours rs) in
+    (λ i. getD (lawful-map xs e .whole i) (p i) 0)
+    ∙ getD-append-add (fours rs) (replicate n 0) (q - length (fours rs)) 0
+    ∙ zeros n (q - length (fours rs))

@@ -9,8 +9,8 @@ use mathlib.Core.Path.{_≡_, refl, sym, ap, subst, _∙_}
 use mathlib.Core.Logic.{_⊎_, inl, inr}
 use mathlib.Core.Bool.{true, not}
 use mathlib.Core.List.{List, _++_, append-assoc, append-nil}
-use lib.ListN.{length, getD, take, drop, replicate, length-append, length-drop}
-use lib.Seq.{length-take-le, drop-drop, drop-at, take-at, getD-take, getD-drop, ext-getD}
+use lib.ListN.{length, getD, take, drop, replicate, length-append, length-drop, List·getD-append}
+use lib.Seq.{length-take-le, take-all, drop-drop, drop-at, take-at, getD-take, getD-drop, getD-append-add, ext-getD}
 use lib.Dec.{leb, eqb}
 use borrow.Author.Tests.{leb-true, eqb-false, not-true}
 use borrow.Rule.Slice.PartMut.{putMid}
@@ -19,11 +19,14 @@ use Rattle.runs.specs.Runs.{Run, runsOf, cellAt, Lawful}
 use Rattle.runs.specs.Maps.{fours, mapOf, mapFor, spaceIn, runs, bytesOf, lawful, lawfulPublished, mapAt, withMap}
 use Rattle.runs.proofs.Longest.{runs-same}
 use Rattle.runs.proofs.Trips.{both, lawful-map, map-back, map-lawful}
+use Rattle.runs.proofs.Sides.{with-same}
 use Rattle.extents.specs.Entries.{twoMaps, viewOf, belowOf}
 use Rattle.extents.specs.Packing.{marked, Marked, partAt, withPart, packedIn, mergedOf, Packed}
-use Rattle.extents.proofs.Spots.{outside}
-use Rattle.extents.proofs.Gathering.{marked-all, marked-lawful, marked-refresh}
+use Rattle.extents.proofs.Spots.{outside, zero-behind}
+use Rattle.extents.proofs.Gathering.{marked-all, marked-lawful, marked-refresh, marked-none}
 use Rattle.extents.proofs.Filling.{beside}
+use Rattle.extents.proofs.Pairing.{two-told}
+use Rattle.extents.proofs.Doubles.{two-apart, below-whole}
 
 -- ---- Places
 
@@ -126,10 +129,11 @@ beside-same xs v w size part h k l a =
         ∙ outside xs v size part (w + i) h l (beside size a (omega arith) (omega (arith, q)))
         ∙ sym (getD-drop w xs i 0) ∙ sym (getD-take size (drop w xs) i 0 q)
 
-module _ {space view below : ℕ} {xs : List ℕ} (m : Two space view below xs) (first others : ℕ) (last : List ℕ)
+module _ {space view below : ℕ} {xs : List ℕ} (m : Two space view below xs) (first all others : ℕ) (last : List ℕ)
     (tells : (first + length (marked (runs (lent space view xs))) ≡ spaceIn (lent space view xs))
-    × (drop (4 * first) last ≡ fours (marked (runs (lent space view xs)))))
-    (kept : length last ≡ length (lent space view xs)) (count : others ≡ length (runs (lent space below xs)))
+    × (drop (4 * first) last ≡ fours (marked (runs (lent space view xs)))) × (take (4 * first) last ≡ take (4 * first) (lent space view xs)))
+    (kept : length last ≡ length (lent space view xs)) (own : all ≡ length (runs (lent space view xs)))
+    (count : others ≡ length (runs (lent space below xs)))
     (fits : length (runsOf (refreshed (viewOf space view below xs) (belowOf space view below xs))) ≤ space) where
   -- the place of the view
   abbrev v : ℕ
@@ -203,6 +207,22 @@ module _ {space view below : ℕ} {xs : List ℕ} (m : Two space view below xs) 
       let e = lent-is space view xs in
       omega (arith, ap (λ (q : List ℕ). first + length (marked (runs q))) (sym e) ∙ tells .0 ∙ ap spaceIn e, view-length)
 
+  -- as many runs as the view had
+  own-all : all ≡ length (runs (mapAt space view xs))
+  own-all = own ∙ ap (λ (q : List ℕ). length (runs q)) (lent-is space view xs)
+
+  -- behind them, up to the packed ones, all is 0
+  own-between : (q : ℕ) → 4 * all ≤ q → q < 4 * first → getD ms (v + q) 0 ≡ 0
+  own-between q h l =
+      let e : v + q ≡ length (take v xs) + q = omega (arith, front-length) in
+      (λ i. getD (parts i) (e i) 0)
+      ∙ getD-append-add (take v xs) (last ++ drop (v + 4 * space) xs) q 0
+      ∙ List·getD-append last (drop (v + 4 * space) xs) 0 q (omega (arith, last-length, own-count, l))
+      ∙ sym (getD-take (4 * first) last q 0 l)
+      ∙ ap (λ (z : List ℕ). getD z q 0) (tells .2 ∙ ap (take (4 * first)) (lent-is space view xs))
+      ∙ getD-take (4 * first) (mapAt space view xs) q 0 l
+      ∙ zero-behind (mapAt space view xs) (m .view-law) q (omega (arith, own-all, h))
+
   -- the published map is as it was
   below-is : partAt space w ms ≡ mapAt space below xs
   below-is =
@@ -221,7 +241,7 @@ module _ {space view below : ℕ} {xs : List ℕ} (m : Two space view below xs) 
   merged-runs = runs-same _ _ (λ b h. merged-same b)
 
   -- so the view is ready to be merged
-  pub view-packed : Packed space v w others first ms
+  pub view-packed : Packed space v w all others first ms
   view-packed =
       record {
         apart = m .apart;
@@ -233,6 +253,8 @@ module _ {space view below : ℕ} {xs : List ℕ} (m : Two space view below xs) 
         below-law = ap lawfulPublished below-is ∙ m .below-law;
         below-all = count ∙ ap (λ (q : List ℕ). length (runs q)) (lent-is space below xs ∙ sym below-is);
         fits = omega (arith, ap length merged-runs, fits);
+        all-in = omega (arith, own-all, lawful-map (mapAt space view xs) (m .view-law) .fit, view-length);
+        between = own-between;
       }
 
   -- and the slice with it is what a refresh leaves
@@ -249,3 +271,49 @@ module _ {space view below : ℕ} {xs : List ℕ} (m : Two space view below xs) 
       ∙ (λ i.
       (take (place-is space view i) xs ++ mapFor space (refreshed (viewOf space view below xs) (belowOf space view below xs)))
       ++ drop (place-is space view i + 4 * space) xs)
+
+  module _ (two : twoMaps space view below xs ≡ true) (none : first ≡ space) where
+    -- where no run was packed, the view is as it was
+    last-same : last ≡ mapAt space view xs
+    last-same =
+        sym (take-all (4 * first) last (omega (arith, last-length, none)))
+        ∙ tells .2 ∙ ap (take (4 * first)) (lent-is space view xs)
+        ∙ take-all (4 * first) (mapAt space view xs) (omega (arith, view-length, none))
+
+    -- and so is the slice
+    packed-same : ms ≡ xs
+    packed-same =
+        parts ∙ sym (append-assoc (take v xs) last (drop (v + 4 * space) xs))
+        ∙ (λ i. (take (place-is space view i) xs ++ last-same i) ++ drop (place-is space view i + 4 * space) xs)
+        ∙ with-same space view xs (two-told space view below xs two .view-in)
+
+    -- the published map may be copied
+    pub copy-ready : (((below + 1) * (4 * space) ≤ length ms) × ((view + 1) * (4 * space) ≤ length ms) × (below ≡ view → ⊥))
+        × ((lawful (mapAt space below ms) ≡ true) × (lawful (mapAt space view ms) ≡ true))
+    copy-ready =
+        let t = two-told space view below xs two in (
+          (
+            omega (arith, t .below-in, packed-length),
+            omega (arith, t .view-in, packed-length),
+            λ q. two-apart space view below xs two (sym q),
+          ),
+          (
+            ap (λ (q : List ℕ). lawful (mapAt space below q)) packed-same ∙ t .below-law,
+            ap (λ (q : List ℕ). lawful (mapAt space view q)) packed-same ∙ t .view-law,
+          ),
+        )
+
+    -- the refreshed view has its runs
+    below-runs : runsOf (refreshed (viewOf space view below xs) (belowOf space view below xs)) ≡ runsOf (belowOf space view below xs)
+    below-runs =
+        runs-same _ _
+        (λ b h. marked-none (runs (mapAt space view xs)) (lawful-map (mapAt space view xs) (m .view-law) .lawful-runs) (omega (arith, own-count, none))
+        (belowOf space view below xs) b)
+
+    -- and the slice with the copy is what a refresh leaves
+    pub view-copied : {zs : List ℕ} → zs ≡ withMap space view (mapAt space below ms) ms →
+        zs ≡ withMap space view (mapFor space (refreshed (viewOf space view below xs) (belowOf space view below xs))) xs
+    view-copied q =
+        q
+        ∙ (λ i. withMap space view (mapAt space below (packed-same i)) (packed-same i))
+        ∙ ap (λ (z : List ℕ). withMap space view z xs) (sym (ap (mapOf space) below-runs ∙ below-whole space view below xs two))

@@ -1,16 +1,16 @@
 -- The entries of the map of pieces: their questions in sequence, and what they answer and leave.
-use Prim.Native.Nat.{ℕ, suc, _+_, _*_}
+use Prim.Native.Nat.{ℕ, _+_, _*_}
 use mathlib.Core.Bool.{Bool, true, false, cond, not, _&&_}
 use mathlib.Core.List.{List, [], _∷_, _++_}
-use lib.ListN.{length, drop}
+use lib.ListN.{length}
 use lib.Dec.{leb, eqb}
 use Rattle.models.specs.Limits.{ROWS, OFFSET-MAX}
 use Rattle.trace.specs.Questions.{Question, firstNo}
 use Rattle.runs.specs.Cells.{Bytes, cellOf, overwrite, published, settled, refreshed}
 use Rattle.runs.specs.Runs.{Run, runsOf, piecesOf}
-use Rattle.runs.specs.Maps.{mapFor, threes, spaceIn, bytesOf, lawful, lawfulPublished, mapAt, withMap}
+use Rattle.runs.specs.Maps.{mapFor, spaceIn, bytesOf, lawful, lawfulPublished, mapAt, withMap}
 use Rattle.extents.specs.declared.Answer.{Answer}
-use Rattle.extents.specs.declared.Answer.the-variants.{Done, Listed, Refused}
+use Rattle.extents.specs.declared.Answer.the-variants.{Listed, Refused}
 
 -- ---- Questions
 
@@ -51,10 +51,6 @@ orRefused refusal a = cond (eqb refusal 0) a (Refused refusal)
 -- a refusal changes nothing
 abbrev pub orKept : ℕ → List ℕ → List ℕ → List ℕ
 orKept refusal left xs = cond (eqb refusal 0) left xs
-
--- pieces at the front of the answer slice, which keeps the rest
-abbrev pub listedIn : List Run → List ℕ → List ℕ
-listedIn pieces out = threes pieces ++ drop (length (threes pieces)) out
 
 abbrev pub countOf : List Run → Answer
 countOf pieces = Listed (length pieces)

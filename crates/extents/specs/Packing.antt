@@ -1,10 +1,10 @@
 -- The unpublished runs of a view packed at the end of its map, and what a merge with the published map makes of them.
-use Prim.Native.Nat.{ℕ, _+_, _*_, _≤_}
+use Prim.Native.Nat.{ℕ, _+_, _*_, _≤_, _<_}
 use mathlib.Core.Path.{_≡_}
 use mathlib.Core.Logic.{_⊎_}
 use mathlib.Core.Bool.{true, cond}
 use mathlib.Core.List.{List, [], _∷_, _++_}
-use lib.ListN.{length, take, drop}
+use lib.ListN.{length, getD, take, drop}
 use Rattle.runs.specs.Cells.{Bytes, unpublished, refreshed}
 use Rattle.runs.specs.Runs.{Run, runsOf}
 use Rattle.runs.specs.Maps.{runs, bytesOf, lawful, lawfulPublished}
@@ -35,8 +35,9 @@ packedIn space v first xs = drop (4 * first) (partAt space v xs)
 abbrev pub mergedOf : ℕ → ℕ → ℕ → ℕ → List ℕ → Bytes
 mergedOf space v w first xs = refreshed (bytesOf (packedIn space v first xs)) (bytesOf (partAt space w xs))
 
--- two maps of a space at two places, packed runs up to the end of the first of them, and a merge of both that fits
-pub record Packed (space v w others first : ℕ) (xs : List ℕ) : Type 0 where
+-- two maps of a space at two places, packed runs up to the end of the first of them, 0 between the place of run `all` and them, and a merge of
+-- both that fits
+pub record Packed (space v w all others first : ℕ) (xs : List ℕ) : Type 0 where
   pub apart : (w + 4 * space ≤ v) ⊎ (v + 4 * space ≤ w)
   pub inside : v + 4 * space ≤ length xs
   pub below-inside : w + 4 * space ≤ length xs
@@ -46,3 +47,5 @@ pub record Packed (space v w others first : ℕ) (xs : List ℕ) : Type 0 where
   pub below-law : lawfulPublished (partAt space w xs) ≡ true
   pub below-all : others ≡ length (runs (partAt space w xs))
   pub fits : length (runsOf (mergedOf space v w first xs)) ≤ space
+  pub all-in : all ≤ space
+  pub between : (q : ℕ) → 4 * all ≤ q → q < 4 * first → getD xs (v + q) 0 ≡ 0

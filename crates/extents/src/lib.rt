@@ -1,21 +1,19 @@
 // The map of pieces: which row number and mark every byte of a file has, kept as longest runs in a lent slice.
-ghost use Prim.Native.Nat.{ℕ, _+_, _*_, _≤_};
 ghost use mathlib.Core.Path.{_≡_};
-ghost use lib.ListN.{length, take, drop};
-ghost use Rattle.runs.specs.Cells.{cellOf, refreshed};
+ghost use lib.ListN.{length};
+ghost use Rattle.runs.specs.Cells.{refreshed};
 ghost use Rattle.runs.specs.Runs.{piecesOf};
 ghost use Rattle.runs.specs.Maps.{bytesOf, lawful, lawfulPublished};
-ghost use Rattle.extents.specs.Entries.{orRefused, orKept, listedIn, countOf, markOf, writeRefusal, writtenMap, listRefusal};
+ghost use Rattle.maps.specs.Pieces.{listedIn};
+ghost use Rattle.extents.specs.Entries.{orRefused, orKept, countOf, writeRefusal, writtenMap, listRefusal};
 ghost use Rattle.extents.specs.Entries.{viewOf, belowOf, publishRefusal, publishedMaps, refreshRefusal, refreshedMaps, syncRefusal, syncedMaps};
 ghost use Rattle.extents.specs.Entries.{postRefusal, postedMaps, readRefusal};
 ghost use Rattle.extents.specs.declared.Answer.the-variants.{Done};
 
-mod list;
+pub mod lawful;
 mod merge;
 mod pair;
-mod scan;
 mod share;
-mod splice;
 
 // Nothing to list, a count of pieces, or a refusal's number.
 pub enum Answer {
@@ -27,13 +25,13 @@ pub enum Answer {
 pub fn is_lawful(map: &[u32]) -> bool
     ensures { λ r. ⌜ r ≡ lawful (now (map .entry)) ⌝ }
 {
-    scan::is_lawful(map)
+    maps::scan::is_lawful(map)
 }
 
 pub fn is_published(map: &[u32]) -> bool
     ensures { λ r. ⌜ r ≡ lawfulPublished (now (map .entry)) ⌝ }
 {
-    scan::is_published(map)
+    maps::scan::is_published(map)
 }
 
 // Gives a range of a map a row number and a mark.
@@ -42,36 +40,10 @@ pub fn write(map: &mut [u32], start: u32, length: u32, number: u32, unpublished:
     ensures left { λ r. ⌜ now (map .exit) ≡ orKept (writeRefusal (now (map .entry)) start length number unpublished)
         (writtenMap (now (map .entry)) start length number unpublished) (now (map .entry)) ⌝ }
 {
-    if !scan::is_lawful(map) {
+    if !maps::scan::is_lawful(map) {
         return Answer::Refused(13);
     }
-    if number < 1 {
-        return Answer::Refused(14);
-    }
-    if 4096 < number {
-        return Answer::Refused(14);
-    }
-    if 4294967295 - start < length {
-        return Answer::Refused(11);
-    }
-    if length == 0 {
-        return Answer::Done;
-    }
-    if splice::lay(map, start, start + length, cell_of(number, unpublished)) {
-        Answer::Done
-    } else {
-        Answer::Refused(16)
-    }
-}
-
-fn cell_of(number: u32, unpublished: bool) -> u32
-    requires { ⌜ number ≤ 4096 ⌝ }
-    ensures { λ r. ⌜ r ≡ cellOf number (markOf unpublished) ⌝ }
-{
-    if unpublished {
-        return number * 2 + 1;
-    }
-    number * 2
+    lawful::write(map, start, length, number, unpublished)
 }
 
 // Puts the pieces of a range into an answer slice.
@@ -81,65 +53,46 @@ pub fn list_range(map: &[u32], start: u32, length: u32, out: &mut [u32]) -> Answ
     ensures left { λ r. ⌜ now (out .exit) ≡ orKept (listRefusal (now (map .entry)) start length (lib.ListN.length (now (out .entry))))
         (listedIn (piecesOf (bytesOf (now (map .entry))) start length) (now (out .entry))) (now (out .entry)) ⌝ }
 {
-    if !scan::is_lawful(map) {
+    if !maps::scan::is_lawful(map) {
         return Answer::Refused(13);
     }
-    if 4294967295 - start < length {
-        return Answer::Refused(11);
-    }
-    let n = scan::count(map, map, 3, start, start + length, 0, 0, 0);
-    if out.len() / 3 < n {
-        return Answer::Refused(17);
-    }
-    list::list(map, start, start + length, out);
-    Answer::Listed(n as u32)
+    lawful::list_range(map, start, length, out)
 }
 
 // Publishes a view.
 pub fn publish(maps: &mut [u32], space: usize, view: usize, below: usize) -> Answer
     ensures answer { λ r. ⌜ r ≡ orRefused (publishRefusal space view below (now (maps .entry))) Done ⌝ }
-    ensures left { λ r. ⌜ now (maps .exit) ≡ orKept (publishRefusal space view below (now (maps .entry))) (publishedMaps space view below (now (maps .entry))) (now (maps .entry)) ⌝ }
+    ensures left { λ r. ⌜ now (maps .exit) ≡ orKept (publishRefusal space view below (now (maps .entry)))
+        (publishedMaps space view below (now (maps .entry))) (now (maps .entry)) ⌝ }
 {
     if !pair::two_maps(maps, space, view, below) {
         return Answer::Refused(13);
     }
-    if space < pair::count(maps, space, view, below, 0, 0, 4294967295, 0, 0, 0) {
-        return Answer::Refused(16);
-    }
-    share::share(maps, space, view, below, 0, 0, 0);
-    pair::settle(maps, space, view);
-    Answer::Done
+    lawful::publish(maps, space, view, below)
 }
 
 // Refreshes a view.
 pub fn refresh(maps: &mut [u32], space: usize, view: usize, below: usize) -> Answer
     ensures answer { λ r. ⌜ r ≡ orRefused (refreshRefusal space view below (now (maps .entry))) Done ⌝ }
-    ensures left { λ r. ⌜ now (maps .exit) ≡ orKept (refreshRefusal space view below (now (maps .entry))) (refreshedMaps space view below (now (maps .entry))) (now (maps .entry)) ⌝ }
+    ensures left { λ r. ⌜ now (maps .exit) ≡ orKept (refreshRefusal space view below (now (maps .entry)))
+        (refreshedMaps space view below (now (maps .entry))) (now (maps .entry)) ⌝ }
 {
     if !pair::two_maps(maps, space, view, below) {
         return Answer::Refused(13);
     }
-    if space < pair::count(maps, space, view, below, 2, 0, 4294967295, 0, 0, 0) {
-        return Answer::Refused(16);
-    }
-    merge::refresh(maps, space, view, below);
-    Answer::Done
+    lawful::refresh(maps, space, view, below)
 }
 
 // Publishes a view, then refreshes it.
 pub fn sync(maps: &mut [u32], space: usize, view: usize, below: usize) -> Answer
     ensures answer { λ r. ⌜ r ≡ orRefused (syncRefusal space view below (now (maps .entry))) Done ⌝ }
-    ensures left { λ r. ⌜ now (maps .exit) ≡ orKept (syncRefusal space view below (now (maps .entry))) (syncedMaps space view below (now (maps .entry))) (now (maps .entry)) ⌝ }
+    ensures left { λ r. ⌜ now (maps .exit) ≡ orKept (syncRefusal space view below (now (maps .entry)))
+        (syncedMaps space view below (now (maps .entry))) (now (maps .entry)) ⌝ }
 {
     if !pair::two_maps(maps, space, view, below) {
         return Answer::Refused(13);
     }
-    if space < pair::count(maps, space, view, below, 0, 0, 4294967295, 0, 0, 0) {
-        return Answer::Refused(16);
-    }
-    share::share(maps, space, view, below, 0, 0, 0);
-    pair::copy(maps, space, below, view);
-    Answer::Done
+    lawful::sync(maps, space, view, below)
 }
 
 // Writes a range into a view, then publishes it.
@@ -159,29 +112,7 @@ pub fn post(
     if !pair::two_maps(maps, space, view, below) {
         return Answer::Refused(13);
     }
-    if number < 1 {
-        return Answer::Refused(14);
-    }
-    if 4096 < number {
-        return Answer::Refused(14);
-    }
-    if 4294967295 - start < length {
-        return Answer::Refused(11);
-    }
-    let end = start + length;
-    let cell = number * 2;
-    if space < pair::count(maps, space, view, below, 0, 0, 4294967295, start, end, cell) {
-        return Answer::Refused(16);
-    }
-    if space < pair::count(maps, space, view, below, 1, 0, 4294967295, start, end, cell) {
-        return Answer::Refused(16);
-    }
-    share::share(maps, space, view, below, start, end, number);
-    pair::settle(maps, space, view);
-    if start < end {
-        pair::lay(maps, space, view, start, end, cell);
-    }
-    Answer::Done
+    lawful::post(maps, space, view, below, start, length, number)
 }
 
 // Refreshes a view, then puts the pieces of a range of it into an answer slice.
@@ -196,26 +127,16 @@ pub fn read(
 ) -> Answer
     ensures answer { λ r. ⌜ r ≡ orRefused (readRefusal space view below (now (maps .entry)) start length (lib.ListN.length (now (out .entry))))
         (countOf (piecesOf (refreshed (viewOf space view below (now (maps .entry))) (belowOf space view below (now (maps .entry)))) start length)) ⌝ }
-    ensures left { λ r. ⌜ now (maps .exit) ≡ orKept (readRefusal space view below (now (maps .entry)) start length (lib.ListN.length (now (out .entry))))
+    ensures left { λ r. ⌜ now (maps .exit) ≡ orKept
+        (readRefusal space view below (now (maps .entry)) start length (lib.ListN.length (now (out .entry))))
         (refreshedMaps space view below (now (maps .entry))) (now (maps .entry)) ⌝ }
-    ensures listed { λ r. ⌜ now (out .exit) ≡ orKept (readRefusal space view below (now (maps .entry)) start length (lib.ListN.length (now (out .entry))))
-        (listedIn (piecesOf (refreshed (viewOf space view below (now (maps .entry))) (belowOf space view below (now (maps .entry)))) start length) (now (out .entry))) (now (out .entry)) ⌝ }
+    ensures listed { λ r. ⌜ now (out .exit) ≡ orKept
+        (readRefusal space view below (now (maps .entry)) start length (lib.ListN.length (now (out .entry))))
+        (listedIn (piecesOf (refreshed (viewOf space view below (now (maps .entry))) (belowOf space view below (now (maps .entry)))) start length)
+        (now (out .entry))) (now (out .entry)) ⌝ }
 {
     if !pair::two_maps(maps, space, view, below) {
         return Answer::Refused(13);
     }
-    if 4294967295 - start < length {
-        return Answer::Refused(11);
-    }
-    let end = start + length;
-    if space < pair::count(maps, space, view, below, 2, 0, 4294967295, 0, 0, 0) {
-        return Answer::Refused(16);
-    }
-    let n = pair::count(maps, space, view, below, 4, start, end, 0, 0, 0);
-    if out.len() / 3 < n {
-        return Answer::Refused(17);
-    }
-    merge::refresh(maps, space, view, below);
-    pair::list(maps, space, view, start, end, out);
-    Answer::Listed(n as u32)
+    lawful::read(maps, space, view, below, start, length, out)
 }

@@ -1,15 +1,13 @@
 // Publishing a view on the published map and refreshing a view from it, both maps in one slice, and marking a view published.
-ghost use Prim.Native.Nat.{ℕ, _+_, _*_, _-_, _≤_, _<_};
+ghost use Prim.Native.Nat.{_+_, _*_, _-_, _≤_, _<_, max};
 ghost use mathlib.Core.Path.{_≡_};
 ghost use mathlib.Core.Bool.{true, _&&_};
 ghost use mathlib.Core.List.{[], _∷_, _++_};
 ghost use lib.ListN.{length, getD, take, drop, replicate};
 ghost use lib.Dec.{eqb};
-ghost use Rattle.models.specs.Limits.{ROWS};
-ghost use Rattle.runs.specs.Cells.{numberIn, cellOf, settled, refreshed};
+ghost use Rattle.runs.specs.Cells.{settled, refreshed};
 ghost use Rattle.runs.specs.Runs.{runsOf};
-ghost use Rattle.runs.specs.Maps.{fours, mapFor, spaceIn, runs, bytesOf, lawful, mapAt, withMap};
-ghost use Rattle.extents.specs.Mixes.{PUBLISH, mix};
+ghost use Rattle.runs.specs.Maps.{fours, mapFor, spaceIn, runs, bytesOf, lawful, withMap};
 ghost use Rattle.extents.specs.Entries.{twoMaps, viewOf, belowOf};
 ghost use Rattle.extents.specs.Packing.{marked, withPart, mergedOf, Packed};
 
@@ -19,7 +17,7 @@ pub fn settle(map: &mut [u32])
     requires { ⌜ lawful (now map) ≡ true ⌝ }
     ensures { λ _. ⌜ now (map .exit) ≡ mapFor (spaceIn (now (map .entry))) (settled (bytesOf (now (map .entry)))) ⌝ }
 {
-    let all = crate::splice::runs_in(map);
+    let all = maps::splice::runs_in(map);
     if all == 0 {
         return;
     }
@@ -79,11 +77,12 @@ fn clear_from(map: &mut [u32], from: usize, to: usize)
     }
 }
 
-// Takes the unpublished runs of a view to the end of its map, and answers where they start.
+// Takes the unpublished runs of a view to the end of its map, and answers where they start. What stands before them stays.
 fn pack(map: &mut [u32], all: usize) -> usize
     requires { ⌜ (lawful (now map) ≡ true) × (all ≡ length (runs (now map))) ⌝ }
     ensures { λ r. ⌜ (r + length (marked (runs (now (map .entry)))) ≡ spaceIn (now (map .entry)))
-        × (drop (4 * r) (now (map .exit)) ≡ fours (marked (runs (now (map .entry))))) ⌝ }
+        × (drop (4 * r) (now (map .exit)) ≡ fours (marked (runs (now (map .entry)))))
+        × (take (4 * r) (now (map .exit)) ≡ take (4 * r) (now (map .entry))) ⌝ }
 {
     let mut i = all;
     let mut to = map.len() / 4;
@@ -101,7 +100,7 @@ fn pack(map: &mut [u32], all: usize) -> usize
     to
 }
 
-// Refreshes a view that fits then: its unpublished runs, and the published ones in the gaps.
+// Refreshes a view that fits then: its unpublished runs, and the published ones in the gaps. Without unpublished runs it is the published map.
 pub fn refresh(maps: &mut [u32], space: usize, view: usize, below: usize)
     requires { ⌜ twoMaps space view below (now maps) ≡ true ⌝ }
     requires { ⌜ length (runsOf (refreshed (viewOf space view below (now maps)) (belowOf space view below (now maps)))) ≤ space ⌝ }
@@ -111,16 +110,29 @@ pub fn refresh(maps: &mut [u32], space: usize, view: usize, below: usize)
     let size = space * 4;
     let v = view * size;
     let w = below * size;
-    let all = crate::splice::runs_in(&maps[v..v + size]);
-    let others = crate::splice::runs_in(&maps[w..w + size]);
+    let all = maps::splice::runs_in(&maps[v..v + size]);
+    let others = maps::splice::runs_in(&maps[w..w + size]);
     let first = pack(&mut maps[v..v + size], all);
-    interleave(maps, v, w, space, others, first);
+    if first == space {
+        crate::pair::copy(maps, space, below, view);
+        return;
+    }
+    interleave(maps, v, w, space, all, others, first);
 }
 
 // Writes the refreshed view from the front of its map at v: its unpublished runs, packed there from run `first` on, and those of the published
-// map at w, clipped to the gaps. A run is read before its place is written, since every packed run still gives a run.
-fn interleave(maps: &mut [u32], v: usize, w: usize, space: usize, others: usize, first: usize)
-    requires { ⌜ Packed space v w others first (now maps) ⌝ }
+// map at w, clipped to the gaps. A run is read before its place is written, since every packed run still gives a run. Then 0 is put where runs
+// stood, the first `all` of the map and the packed ones: all else is 0.
+fn interleave(
+    maps: &mut [u32],
+    v: usize,
+    w: usize,
+    space: usize,
+    all: usize,
+    others: usize,
+    first: usize,
+)
+    requires { ⌜ Packed space v w all others first (now maps) ⌝ }
     ensures { λ _. ⌜ now (maps .exit) ≡ withPart space v (mapFor space (mergedOf space v w first (now (maps .entry)))) (now (maps .entry)) ⌝ }
 {
     let mut j = first;
@@ -148,8 +160,8 @@ fn interleave(maps: &mut [u32], v: usize, w: usize, space: usize, others: usize,
             } else if gap <= start {
                 x = gap;
             } else {
-                let s = crate::scan::most(start, x);
-                let e = crate::scan::least(end, gap);
+                let s = maps::scan::most(start, x);
+                let e = maps::scan::least(end, gap);
                 let number = maps[from + 2];
                 put_run(maps, v + n * 4, s, e - s, number, 0);
                 n += 1;
@@ -157,7 +169,14 @@ fn interleave(maps: &mut [u32], v: usize, w: usize, space: usize, others: usize,
             }
         }
     }
-    clear_from(maps, v + n * 4, v + space * 4);
+    clear_from(maps, v + n * 4, v + larger(n, all) * 4);
+    clear_from(maps, v + larger(n, first) * 4, v + space * 4);
+}
+
+pub fn larger(a: usize, b: usize) -> usize
+    ensures { λ r. ⌜ r ≡ max a b ⌝ }
+{
+    if a < b { b } else { a }
 }
 
 // Where run j starts, and the end of all bytes where there is none.

@@ -7,9 +7,11 @@ ghost use lib.ListN.{length};
 ghost use lib.Dec.{leb};
 ghost use Rattle.runs.specs.Cells.{numberIn, overwrite, settled};
 ghost use Rattle.runs.specs.Runs.{runsFrom, runsOf, piecesOf};
-ghost use Rattle.runs.specs.Maps.{mapFor, bytesOf, lawful, mapAt, withMap};
-ghost use Rattle.extents.specs.Mixes.{mix};
-ghost use Rattle.extents.specs.Entries.{twoMaps, viewOf, belowOf, listedIn};
+ghost use Rattle.runs.specs.Maps.{mapFor, runs, bytesOf, lawful, mapAt, withMap};
+ghost use Rattle.maps.specs.Mixes.{mix};
+ghost use Rattle.maps.specs.Pieces.{listedIn};
+ghost use Rattle.extents.specs.Entries.{twoMaps, viewOf, belowOf};
+ghost use Rattle.extents.specs.Packing.{marked};
 
 // Two lawful maps at two places of a slice, the second one published.
 pub fn two_maps(maps: &[u32], space: usize, view: usize, below: usize) -> bool
@@ -26,11 +28,11 @@ pub fn two_maps(maps: &[u32], space: usize, view: usize, below: usize) -> bool
     }
     let size = 4 * space;
     let v = view * size;
-    if !crate::scan::is_lawful(&maps[v..v + size]) {
+    if !maps::scan::is_lawful(&maps[v..v + size]) {
         return false;
     }
     let w = below * size;
-    crate::scan::is_published(&maps[w..w + size])
+    maps::scan::is_published(&maps[w..w + size])
 }
 
 // The slice is long enough for map k.
@@ -66,7 +68,7 @@ pub fn count(
     let size = 4 * space;
     let v = view * size;
     let w = below * size;
-    crate::scan::count(
+    maps::scan::count(
         &maps[v..v + size],
         &maps[w..w + size],
         mode,
@@ -76,6 +78,71 @@ pub fn count(
         end,
         cell,
     )
+}
+
+// Does a mix of a view, the published map and a range fit a map's space? Its runs are counted only where the most that there can be are too many.
+pub fn fits(
+    maps: &[u32],
+    space: usize,
+    view: usize,
+    below: usize,
+    mode: u32,
+    start: u32,
+    end: u32,
+    cell: u32,
+) -> bool
+    requires { ⌜ twoMaps space view below (now maps) ≡ true ⌝ }
+    requires { ⌜ (mode ≤ 2) × (start ≤ end) ⌝ }
+    ensures { λ r. ⌜ r ≡ leb (length (runsFrom (4294967295 - 0) 0 (mix mode start (end - start) cell
+        (viewOf space view below (now (maps .entry))) (belowOf space view below (now (maps .entry)))))) space ⌝ }
+{
+    if most_runs(maps, space, view, below, mode) <= space {
+        return true;
+    }
+    count(
+        maps,
+        space,
+        view,
+        below,
+        mode,
+        0,
+        4294967295,
+        start,
+        end,
+        cell,
+    )
+        <= space
+}
+
+// No mix of a view, the published map and any range has more runs.
+fn most_runs(maps: &[u32], space: usize, view: usize, below: usize, mode: u32) -> usize
+    requires { ⌜ (twoMaps space view below (now maps) ≡ true) × (mode ≤ 2) ⌝ }
+    ensures { λ r. ⌜ ((start n cell : ℕ) → length (runsOf (mix mode start n cell
+        (viewOf space view below (now (maps .entry))) (belowOf space view below (now (maps .entry))))) ≤ r) ⌝ }
+{
+    let size = 4 * space;
+    let v = view * size;
+    if mode == 1 {
+        return maps::splice::runs_in(&maps[v..v + size]) + 2;
+    }
+    let w = below * size;
+    let own = marked_in(&maps[v..v + size]);
+    maps::splice::runs_in(&maps[w..w + size]) + 2 * own + 2
+}
+
+// How many runs of a map are unpublished.
+fn marked_in(map: &[u32]) -> usize
+    requires { ⌜ lawful (now map) ≡ true ⌝ }
+    ensures { λ r. ⌜ r ≡ length (marked (runs (now (map .entry)))) ⌝ }
+{
+    let all = maps::splice::runs_in(map);
+    let mut n = 0;
+    let mut i = 0;
+    while i < all {
+        n += map[i * 4 + 3] as usize;
+        i += 1;
+    }
+    n
 }
 
 // Marks a map published.
@@ -99,7 +166,7 @@ pub fn lay(maps: &mut [u32], space: usize, k: usize, start: u32, end: u32, cell:
 {
     let size = 4 * space;
     let at = k * size;
-    crate::splice::lay(&mut maps[at..at + size], start, end, cell);
+    maps::splice::lay(&mut maps[at..at + size], start, end, cell);
 }
 
 // Puts the pieces of a range of a map into a slice that has room for them.
@@ -112,19 +179,23 @@ pub fn list(maps: &[u32], space: usize, k: usize, from: u32, to: u32, out: &mut 
 {
     let size = 4 * space;
     let at = k * size;
-    crate::list::list(&maps[at..at + size], from, to, out)
+    maps::list::list(&maps[at..at + size], from, to, out)
 }
 
-// Copies map j to the place of map k.
+// Copies map j to the place of map k, as far as one of them has runs.
 pub fn copy(maps: &mut [u32], space: usize, j: usize, k: usize)
     requires { ⌜ ((j + 1) * (4 * space) ≤ length (now maps)) × ((k + 1) * (4 * space) ≤ length (now maps)) × (j ≡ k → ⊥) ⌝ }
+    requires { ⌜ (lawful (mapAt space j (now maps)) ≡ true) × (lawful (mapAt space k (now maps)) ≡ true) ⌝ }
     ensures { λ _. ⌜ now (maps .exit) ≡ withMap space k (mapAt space j (now (maps .entry))) (now (maps .entry)) ⌝ }
 {
     let size = 4 * space;
     let from = j * size;
     let to = k * size;
+    let there = maps::splice::runs_in(&maps[from..from + size]);
+    let here = maps::splice::runs_in(&maps[to..to + size]);
+    let end = crate::merge::larger(there, here) * 4;
     let mut i = 0;
-    while i < size {
+    while i < end {
         maps[to + i] = maps[from + i];
         i += 1;
     }

@@ -9,7 +9,7 @@ ghost use Rattle.models.specs.Limits.{ROWS};
 ghost use Rattle.runs.specs.Cells.{numberIn, cellOf, overwrite};
 ghost use Rattle.runs.specs.Runs.{runOf, runsOf};
 ghost use Rattle.runs.specs.Maps.{mapFor, spaceIn, runs, bytesOf, lawful, withMap};
-ghost use Rattle.extents.specs.Mixes.{PUBLISH, mix};
+ghost use Rattle.maps.specs.Mixes.{PUBLISH, mix};
 ghost use Rattle.extents.specs.Entries.{twoMaps, viewOf, belowOf};
 ghost use Rattle.extents.specs.Strokes.{within, stroke, filled, withBytes, Two, sunk, raised, Ready};
 
@@ -53,7 +53,7 @@ fn pass_down(maps: &mut [u32], size: usize, v: usize, w: usize, lo: u32, hi: u32
     requires { ⌜ Two size v w (now maps) × (lo ≤ hi) ⌝ }
     ensures { λ _. ⌜ now (maps .exit) ≡ withBytes size w (sunk size v w lo hi (now (maps .entry))) (now (maps .entry)) ⌝ }
 {
-    let mut i = crate::splice::runs_in(&maps[v..v + size]);
+    let mut i = maps::splice::runs_in(&maps[v..v + size]);
     while 0 < i {
         i -= 1;
         let s = stroke_at(&maps[v..v + size], i, lo, hi);
@@ -66,7 +66,7 @@ fn pass_up(maps: &mut [u32], size: usize, v: usize, w: usize, lo: u32, hi: u32)
     requires { ⌜ Two size v w (now maps) × (lo ≤ hi) × Ready size v w lo hi (now maps) ⌝ }
     ensures { λ _. ⌜ now (maps .exit) ≡ withBytes size w (raised size v w lo hi (now (maps .entry))) (now (maps .entry)) ⌝ }
 {
-    let all = crate::splice::runs_in(&maps[v..v + size]);
+    let all = maps::splice::runs_in(&maps[v..v + size]);
     let mut i = 0;
     while i < all {
         let s = stroke_at(&maps[v..v + size], i, lo, hi);
@@ -103,7 +103,7 @@ fn stroke_at(map: &[u32], i: usize, lo: u32, hi: u32) -> Stroke
 fn bring(lo: u32, hi: u32, x: u32) -> u32
     ensures { λ r. ⌜ r ≡ within lo hi x ⌝ }
 {
-    crate::scan::most(lo, crate::scan::least(x, hi))
+    maps::scan::most(lo, maps::scan::least(x, hi))
 }
 
 // Gives a range the cell behind it.
@@ -115,7 +115,7 @@ fn fill(map: &mut [u32], start: u32, end: u32)
         return;
     }
     let cell = cell_behind(map, end);
-    crate::splice::lay(map, start, end, cell);
+    maps::splice::lay(map, start, end, cell);
 }
 
 // Gives a range a cell, where the map fits then.
@@ -125,7 +125,7 @@ fn put(map: &mut [u32], start: u32, end: u32, cell: u32)
     ensures { λ _. ⌜ now (map .exit) ≡ mapFor (spaceIn (now (map .entry))) (overwrite start (end - start) cell (bytesOf (now (map .entry)))) ⌝ }
 {
     if start < end {
-        crate::splice::lay(map, start, end, cell);
+        maps::splice::lay(map, start, end, cell);
     }
 }
 
@@ -137,6 +137,7 @@ fn cell_behind(map: &[u32], x: u32) -> u32
     if x == 4294967295 {
         return 0;
     }
-    let seen = crate::scan::see(map, 0, x);
+    let from = maps::scan::seek(map, x);
+    let seen = maps::scan::see(map, from, x);
     seen.cell
 }

@@ -11,7 +11,7 @@ use Rattle.runs.specs.Maps.{threes}
 use Rattle.runs.proofs.Longest.{rising-from}
 
 -- three numbers a run
-length-threes : (rs : List Run) → length (threes rs) ≡ 3 * length rs
+pub length-threes : (rs : List Run) → length (threes rs) ≡ 3 * length rs
 unfolding threes
 length-threes [] = refl
 length-threes (r ∷ rs) = omega (arith, length-threes rs)

@@ -9,10 +9,10 @@ use Rattle.extents.proofs.merge.interleave.Statement.{statement}
 use Rattle.extents.proofs.merge.interleave.Tie as tie
 
 abbrev Inv-loop : tie.InvT-loop
-Inv-loop maps₀ v w space others first j₀ n₀ i₀ x₀ maps j n i x = Filling space v w first maps₀ maps j n i x
+Inv-loop maps₀ v w space all others first j₀ n₀ i₀ x₀ maps j n i x = Filling space v w first maps₀ maps j n i x
 
 abbrev μ-loop : tie.MeasureT-loop
-μ-loop maps₀ v w space others first j₀ n₀ i₀ x₀ maps j n i x = OFFSET-MAX - x + (others - i)
+μ-loop maps₀ v w space all others first j₀ n₀ i₀ x₀ maps j n i x = OFFSET-MAX - x + (others - i)
 
 loop-holds : tie.Need-loop-holds Inv-loop μ-loop
 loop-holds c = fill-start (c .before .pre)
@@ -366,43 +366,104 @@ loop-again-5 c =
 
 mul-clear-from : tie.Need-mul-clear-from Inv-loop μ-loop
 mul-clear-from c =
-    let s = c .before .before .before .before in
-    let r = fill-room (s .pre) (c .before .before .loop .inv) in
-    omega (arith, s .good)
+    let p2 = c .before .before in
+    let p4 = p2 .before .before in
+    let r = fill-room (p4 .pre) (p2 .loop .inv) in
+    omega (arith, p4 .good)
 
 add-clear-from : tie.Need-add-clear-from Inv-loop μ-loop
 add-clear-from c =
-    let s = c .before .before .before .before in
-    let r = fill-room (s .pre) (c .before .before .loop .inv) in
-    omega (arith, s .good)
+    let p2 = c .before .before in
+    let p4 = p2 .before .before in
+    let r = fill-room (p4 .pre) (p2 .loop .inv) in
+    omega (arith, p4 .good)
+
+larger-requires : tie.Need-larger-requires Inv-loop μ-loop
+larger-requires c κs = tt
 
 mul-clear-from-2 : tie.Need-mul-clear-from-2 Inv-loop μ-loop
 mul-clear-from-2 c =
-    let s = c .before .before .before .before in
-    let r = fill-room (s .pre) (c .before .before .loop .inv) in
-    omega (arith, s .good)
+    let p3 = c .before .before .before in
+    let p5 = p3 .before .before in
+    let r = fill-room (p5 .pre) (p3 .loop .inv) in
+    omega (arith, p5 .good, r, p5 .pre .all-in, c .larger .ensures)
 
 add-clear-from-2 : tie.Need-add-clear-from-2 Inv-loop μ-loop
 add-clear-from-2 c =
-    let s = c .before .before .before .before in
-    let r = fill-room (s .pre) (c .before .before .loop .inv) in
-    omega (arith, s .good)
+    let p3 = c .before .before .before in
+    let p5 = p3 .before .before in
+    let r = fill-room (p5 .pre) (p3 .loop .inv) in
+    omega (arith, p5 .good, r, p5 .pre .all-in, c .larger .ensures)
 
 clear-from-requires : tie.Need-clear-from-requires Inv-loop μ-loop
 clear-from-requires c κs =
-    let r = fill-room (c .before .before .before .before .pre) (c .before .before .loop .inv) in
-    (omega arith, omega arith)
+    let p3 = c .before .before .before in
+    let p5 = p3 .before .before in
+    let r = fill-room (p5 .pre) (p3 .loop .inv) in
+    (omega (arith, c .larger .ensures), omega (arith, r, p5 .pre .all-in, c .larger .ensures))
+
+larger-requires-2 : tie.Need-larger-requires-2 Inv-loop μ-loop
+larger-requires-2 c κs = tt
+
+mul-clear-from-3 : tie.Need-mul-clear-from-3 Inv-loop μ-loop
+mul-clear-from-3 c =
+    let p4 = c .before .before .before .before in
+    let p8 = p4 .before .before .before .before in
+    let p10 = p8 .before .before in
+    let r = fill-room (p10 .pre) (p8 .loop .inv) in
+    omega (arith, p10 .good, r, p10 .pre .own-all, p4 .clear-from .kept .0, c .larger2 .ensures)
+
+add-clear-from-3 : tie.Need-add-clear-from-3 Inv-loop μ-loop
+add-clear-from-3 c =
+    let p4 = c .before .before .before .before in
+    let p8 = p4 .before .before .before .before in
+    let p10 = p8 .before .before in
+    let r = fill-room (p10 .pre) (p8 .loop .inv) in
+    omega (arith, p10 .good, r, p10 .pre .own-all, p4 .clear-from .kept .0, c .larger2 .ensures)
+
+mul-clear-from-4 : tie.Need-mul-clear-from-4 Inv-loop μ-loop
+mul-clear-from-4 c =
+    let p4 = c .before .before .before .before in
+    let p8 = p4 .before .before .before .before in
+    let p10 = p8 .before .before in
+    let r = fill-room (p10 .pre) (p8 .loop .inv) in
+    omega (arith, p10 .good, r, p10 .pre .own-all, p4 .clear-from .kept .0, c .larger2 .ensures)
+
+add-clear-from-4 : tie.Need-add-clear-from-4 Inv-loop μ-loop
+add-clear-from-4 c =
+    let p4 = c .before .before .before .before in
+    let p8 = p4 .before .before .before .before in
+    let p10 = p8 .before .before in
+    let r = fill-room (p10 .pre) (p8 .loop .inv) in
+    omega (arith, p10 .good, r, p10 .pre .own-all, p4 .clear-from .kept .0, c .larger2 .ensures)
+
+clear-from-requires-2 : tie.Need-clear-from-requires-2 Inv-loop μ-loop
+clear-from-requires-2 c κs =
+    let p4 = c .before .before .before .before in
+    let p8 = p4 .before .before .before .before in
+    let p10 = p8 .before .before in
+    let r = fill-room (p10 .pre) (p8 .loop .inv) in
+    (omega (arith, r, p10 .pre .own-all, c .larger2 .ensures), omega (arith, r, p4 .clear-from .kept .0))
 
 same-length : tie.Need-same-length Inv-loop μ-loop
 same-length c =
-    let s = c .before .before .before .before .before .before .before in
-    c .before .before .clear-from .kept .0 ∙ fill-length (s .pre) (c .before .before .before .before .before .loop .inv)
+    let p2 = c .before .before in
+    let p7 = p2 .before .before .before .before .before in
+    let p11 = p7 .before .before .before .before in
+    let p13 = p11 .before .before in
+    p2 .clear-from2 .kept .0 ∙ p7 .clear-from .kept .0 ∙ fill-length (p13 .pre) (p11 .loop .inv)
 
 returns : tie.Need-returns Inv-loop μ-loop
 returns c =
-    let l = c .before .before .before .before .before in
-    let s = l .before .before in
-    fill-end (s .pre) (l .loop .inv) (c .before .before .before .before .loop-test .left) (c .before .before .clear-from .ensures)
+    let p2 = c .before .before in
+    let p3 = p2 .before in
+    let p7 = p3 .before .before .before .before in
+    let p8 = p7 .before in
+    let p10 = p8 .before .before in
+    let p11 = p10 .before in
+    let p13 = p11 .before .before in
+    fill-end (p13 .pre) (p11 .loop .inv) (p10 .loop-test .left) (p8 .larger .ensures) (p3 .larger2 .ensures) (p7 .clear-from .ensures)
+    (p2 .clear-from2 .ensures)
 
 pub interleave-spec : {M : Type 1} → statement M
 interleave-spec =
@@ -457,8 +518,15 @@ interleave-spec =
     loop-again-5
     mul-clear-from
     add-clear-from
+    larger-requires
     mul-clear-from-2
     add-clear-from-2
     clear-from-requires
+    larger-requires-2
+    mul-clear-from-3
+    add-clear-from-3
+    mul-clear-from-4
+    add-clear-from-4
+    clear-from-requires-2
     same-length
     returns)

@@ -4,7 +4,7 @@ use mathlib.Core.Path.{ap, _∙_}
 use denote.Ref.{now}
 use Rattle.runs.specs.Maps.{lawful}
 use Rattle.runs.proofs.Trips.{both}
-use Rattle.extents.proofs.Viewing.{two-maps, lent-is, view-packed, packed-length, view-refreshed}
+use Rattle.extents.proofs.Viewing.{two-maps, lent-is, view-packed, packed-length, view-refreshed, copy-ready, view-copied}
 use Rattle.extents.proofs.merge.refresh.Statement.{statement}
 use Rattle.extents.proofs.merge.refresh.Tie as tie
 
@@ -134,31 +134,82 @@ pack-requires c κs =
     let m = two-maps (s .args .space) (s .args .view) (s .args .below) (now (s .args .maps)) (s .pre .0) in
     (ap lawful (lent-is (s .args .space) (s .args .view) (now (s .args .maps))) ∙ m .view-law, c .before .before .before .before .runs-in .ensures)
 
-interleave-requires : tie.Need-interleave-requires
-interleave-requires c κs =
-    let s = c .before .before .before .before .before .before .before .before .before .before .before .before in
+copy-requires : tie.Need-copy-requires
+copy-requires c κs =
+    let p4 = c .before .before .before .before in
+    let p6 = p4 .before .before in
+    let p9 = p6 .before .before .before in
+    let s = p9 .before .before .before .before in
     let m = two-maps (s .args .space) (s .args .view) (s .args .below) (now (s .args .maps)) (s .pre .0) in
-    let k = c .before .before .before .pack in
-    let o = c .before .before .before .before .before .runs-in2 in
-    view-packed m (k .result) (o .result) (k .last .0) (k .ensures) (k .kept .0) (o .ensures) (s .pre .1)
+    let k = p4 .pack in
+    let o = p6 .runs-in2 in
+    let n = p9 .runs-in in
+    copy-ready m (k .result) (n .result) (o .result) (k .last .0) (k .ensures) (k .kept .0) (n .ensures) (o .ensures) (s .pre .1)
+    (s .pre .0) (c .before .if1 .taken)
 
 same-length : tie.Need-same-length
 same-length c =
-    let s = c .before .before .before .before .before .before .before .before .before .before .before .before .before .before .before in
+    let p7 = c .before .before .before .before .before .before .before in
+    let p9 = p7 .before .before in
+    let p12 = p9 .before .before .before in
+    let s = p12 .before .before .before .before in
     let m = two-maps (s .args .space) (s .args .view) (s .args .below) (now (s .args .maps)) (s .pre .0) in
-    let k = c .before .before .before .before .before .before .pack in
-    let o = c .before .before .before .before .before .before .before .before .runs-in2 in
-    c .before .before .interleave .kept .0 ∙ packed-length m (k .result) (o .result) (k .last .0) (k .ensures) (k .kept .0) (o .ensures) (s .pre .1)
+    let k = p7 .pack in
+    let o = p9 .runs-in2 in
+    let n = p12 .runs-in in
+    c .before .before .copy .kept .0
+    ∙ packed-length m (k .result) (n .result) (o .result) (k .last .0) (k .ensures) (k .kept .0) (n .ensures) (o .ensures) (s .pre .1)
 
 returns : tie.Need-returns
 returns c =
-    let kk = c .before .before .before .before .before .before in
-    let u = kk .before .before in
-    let s = u .before .before .before .before .before .before .before in
+    let p7 = c .before .before .before .before .before .before .before in
+    let p9 = p7 .before .before in
+    let p12 = p9 .before .before .before in
+    let s = p12 .before .before .before .before in
     let m = two-maps (s .args .space) (s .args .view) (s .args .below) (now (s .args .maps)) (s .pre .0) in
-    let k = kk .pack in
-    let o = u .runs-in2 in
-    view-refreshed m (k .result) (o .result) (k .last .0) (k .ensures) (k .kept .0) (o .ensures) (s .pre .1) (c .before .before .interleave .ensures)
+    let k = p7 .pack in
+    let o = p9 .runs-in2 in
+    let n = p12 .runs-in in
+    view-copied m (k .result) (n .result) (o .result) (k .last .0) (k .ensures) (k .kept .0) (n .ensures) (o .ensures) (s .pre .1)
+    (s .pre .0) (c .before .before .before .before .if1 .taken) (c .before .before .copy .ensures)
+
+interleave-requires : tie.Need-interleave-requires
+interleave-requires c κs =
+    let p4 = c .before .before .before .before in
+    let p6 = p4 .before .before in
+    let p9 = p6 .before .before .before in
+    let s = p9 .before .before .before .before in
+    let m = two-maps (s .args .space) (s .args .view) (s .args .below) (now (s .args .maps)) (s .pre .0) in
+    let k = p4 .pack in
+    let o = p6 .runs-in2 in
+    let n = p9 .runs-in in
+    view-packed m (k .result) (n .result) (o .result) (k .last .0) (k .ensures) (k .kept .0) (n .ensures) (o .ensures) (s .pre .1)
+
+same-length-2 : tie.Need-same-length-2
+same-length-2 c =
+    let p7 = c .before .before .before .before .before .before .before in
+    let p9 = p7 .before .before in
+    let p12 = p9 .before .before .before in
+    let s = p12 .before .before .before .before in
+    let m = two-maps (s .args .space) (s .args .view) (s .args .below) (now (s .args .maps)) (s .pre .0) in
+    let k = p7 .pack in
+    let o = p9 .runs-in2 in
+    let n = p12 .runs-in in
+    c .before .before .interleave .kept .0
+    ∙ packed-length m (k .result) (n .result) (o .result) (k .last .0) (k .ensures) (k .kept .0) (n .ensures) (o .ensures) (s .pre .1)
+
+returns-2 : tie.Need-returns-2
+returns-2 c =
+    let p7 = c .before .before .before .before .before .before .before in
+    let p9 = p7 .before .before in
+    let p12 = p9 .before .before .before in
+    let s = p12 .before .before .before .before in
+    let m = two-maps (s .args .space) (s .args .view) (s .args .below) (now (s .args .maps)) (s .pre .0) in
+    let k = p7 .pack in
+    let o = p9 .runs-in2 in
+    let n = p12 .runs-in in
+    view-refreshed m (k .result) (n .result) (o .result) (k .last .0) (k .ensures) (k .kept .0) (n .ensures) (o .ensures) (s .pre .1)
+    (c .before .before .interleave .ensures)
 
 pub refresh-spec : {M : Type 1} → statement M
 refresh-spec =
@@ -185,6 +236,9 @@ refresh-spec =
     part-pack-start
     part-pack-end
     pack-requires
-    interleave-requires
+    copy-requires
     same-length
-    returns)
+    returns
+    interleave-requires
+    same-length-2
+    returns-2)

@@ -7,7 +7,7 @@ use lib.ListN.{length}
 use denote.Ref.{now}
 use Rattle.runs.specs.Runs.{runsFrom}
 use Rattle.runs.specs.Maps.{bytesOf, lawful}
-use Rattle.extents.specs.Mixes.{mix}
+use Rattle.maps.specs.Mixes.{mix}
 use Rattle.extents.proofs.Pairing.{Told, two-told, map-lent}
 use Rattle.extents.proofs.pair.count.Statement.{statement}
 use Rattle.extents.proofs.pair.count.Tie as tie

@@ -8,7 +8,7 @@ use lib.ListN.{length}
 use denote.Ref.{now}
 use Rattle.runs.specs.Runs.{piecesOf}
 use Rattle.runs.specs.Maps.{bytesOf, lawful}
-use Rattle.extents.specs.Entries.{listedIn}
+use Rattle.maps.specs.Pieces.{listedIn}
 use Rattle.extents.proofs.Pairing.{map-lent}
 use Rattle.extents.proofs.pair.list.Statement.{statement}
 use Rattle.extents.proofs.pair.list.Tie as tie

@@ -13,13 +13,16 @@ returns c =
     let a = c1 .args in
     sym (bytes-fit (now (a .map)) (c1 .pre) .good .ends (a .x) (omega arith))
 
+seek-requires : tie.Need-seek-requires
+seek-requires c κs = search needs
+
 see-requires : tie.Need-see-requires
 see-requires c κs = search needs
 
 returns-2 : tie.Need-returns-2
 returns-2 c =
-    let c1 = c .before .before .before in
+    let c1 = c .before .before .before .before in
     sym (c .see .ensures .cells (c1 .args .x) (omega arith) (c .see .ensures .on))
 
 pub cell-behind-spec : {M : Type 1} → statement M
-cell-behind-spec = tie.close (tie.spec returns see-requires returns-2)
+cell-behind-spec = tie.close (tie.spec returns seek-requires see-requires returns-2)

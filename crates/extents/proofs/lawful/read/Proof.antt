@@ -1,0 +1,197 @@
+-- `extents::lawful::read` meets its contract. Assumes nothing.
+use borrow.Author.Needs.{needs}
+use Rattle.extents.proofs.Doubles.{view-in-fresh, view-law-fresh, pieces-fresh}
+use Rattle.extents.proofs.Doubles.{refused-both, refresh-enough, refresh-short, read-past, read-full, read-long, read-count, read-done}
+use Rattle.extents.proofs.Entering.{pieces-most}
+use Rattle.maps.specs.Pieces.{listedIn}
+use Rattle.extents.specs.Entries.{viewOf, belowOf, refreshedMaps, countOf}
+use Rattle.runs.specs.Runs.{Run, piecesOf}
+use Rattle.runs.specs.Cells.{refreshed}
+use lib.ListN.{length}
+use mathlib.Core.List.{List}
+use denote.Ref.{now}
+use mathlib.Core.Path.{ap, _∙_}
+use native.Mathlib.Omega.{arith}
+use Rattle.extents.proofs.lawful.read.Statement.{statement}
+use Rattle.extents.proofs.lawful.read.Tie as tie
+
+sub-if1 : tie.Need-sub-if1
+sub-if1 c = search needs
+
+returns : tie.Need-returns
+returns c =
+    let p3 = c .before .before .before in
+    let a = p3 .args in
+    refused-both 11 (countOf (piecesOf (refreshed (viewOf (a .space) (a .view) (a .below) (now (a .maps))) (belowOf (a .space) (a .view) (a .below)
+    (now (a .maps)))) (a .start) (a .length))) (refreshedMaps (a .space) (a .view) (a .below) (now (a .maps))) (now (a .maps)) (listedIn (piecesOf
+    (refreshed (viewOf (a .space) (a .view) (a .below) (now (a .maps))) (belowOf (a .space) (a .view) (a .below) (now (a .maps)))) (a .start)
+    (a .length)) (now (a .out))) (now (a .out)) (read-past (a .space) (a .view) (a .below) (now (a .maps)) (a .start) (a .length) (length (now
+    (a .out))) (omega arith) (omega arith) (p3 .pre) (omega (
+      arith,
+      c .if1 .taken,
+    ))) (omega arith)
+
+add-end : tie.Need-add-end
+add-end c = omega (arith, c .if1 .left)
+
+fits-requires : tie.Need-fits-requires
+fits-requires c κs =
+    let p4 = c .before .before .before .before in
+    (p4 .pre, (omega arith, omega arith))
+
+same-length : tie.Need-same-length
+same-length c = search needs
+
+returns-2 : tie.Need-returns-2
+returns-2 c =
+    let p1 = c .before in
+    let p3 = p1 .before .before in
+    let p6 = p3 .before .before .before in
+    let a = p6 .args in
+    refused-both 16 (countOf (piecesOf (refreshed (viewOf (a .space) (a .view) (a .below) (now (a .maps))) (belowOf (a .space) (a .view) (a .below)
+    (now (a .maps)))) (a .start) (a .length))) (refreshedMaps (a .space) (a .view) (a .below) (now (a .maps))) (now (a .maps)) (listedIn (piecesOf
+    (refreshed (viewOf (a .space) (a .view) (a .below) (now (a .maps))) (belowOf (a .space) (a .view) (a .below) (now (a .maps)))) (a .start)
+    (a .length)) (now (a .out))) (now (a .out)) (read-full (a .space) (a .view) (a .below) (now (a .maps)) (a .start) (a .length) (length (now
+    (a .out))) (omega arith) (omega arith) (p6 .pre) (omega (
+      arith,
+      p3 .if1 .left,
+    )) (refresh-short (a .space) (a .view) (a .below) (now (a .maps)) (p1 .fits2 .ensures) (c .if2 .taken))) (omega arith)
+
+count-requires : tie.Need-count-requires
+count-requires c κs =
+    let p7 = c .before .before .before .before .before .before .before in
+    (p7 .pre, (omega arith, omega arith))
+
+same-length-2 : tie.Need-same-length-2
+same-length-2 c = search needs
+
+returns-3 : tie.Need-returns-3
+returns-3 c =
+    let p1 = c .before in
+    let p3 = p1 .before .before in
+    let p4 = p3 .before in
+    let p6 = p4 .before .before in
+    let p9 = p6 .before .before .before in
+    let a = p9 .args in
+    refused-both 17 (countOf (piecesOf (refreshed (viewOf (a .space) (a .view) (a .below) (now (a .maps))) (belowOf (a .space) (a .view) (a .below)
+    (now (a .maps)))) (a .start) (a .length))) (refreshedMaps (a .space) (a .view) (a .below) (now (a .maps))) (now (a .maps)) (listedIn (piecesOf
+    (refreshed (viewOf (a .space) (a .view) (a .below) (now (a .maps))) (belowOf (a .space) (a .view) (a .below) (now (a .maps)))) (a .start)
+    (a .length)) (now (a .out))) (now (a .out)) (read-long (a .space) (a .view) (a .below) (now (a .maps)) (a .start) (a .length) (length (now
+    (a .out))) (omega arith) (omega arith) (p9 .pre) (omega (
+      arith,
+      p6 .if1 .left,
+    )) (refresh-enough (a .space) (a .view) (a .below) (now (a .maps)) (p4 .fits2 .ensures) (p3 .if2 .left)) (omega (
+      arith,
+      c .if3 .taken,
+      read-count (a .space) (a .view) (a .below) (now (a .maps)) (a .start) (a .length) (length (now (a .out))) (p1 .count .ensures),
+    )))
+    (omega arith)
+
+refresh-requires : tie.Need-refresh-requires
+refresh-requires c κs =
+    let p4 = c .before .before .before .before in
+    let p5 = p4 .before in
+    let p10 = p5 .before .before .before .before .before in
+    let a = p10 .args in (
+      p10 .pre,
+      (refresh-enough (a .space)
+          (a .view) (a .below) (now (a .maps)) (p5 .fits2 .ensures) (p4 .if2 .left)),
+    )
+
+list-requires : tie.Need-list-requires
+list-requires c κs =
+    let p4 = c .before .before .before .before in
+    let p6 = p4 .before .before in
+    let p7 = p6 .before in
+    let p9 = p7 .before .before in
+    let p10 = p9 .before in
+    let p12 = p10 .before .before in
+    let p15 = p12 .before .before .before in
+    let a = p15 .args in (
+      view-in-fresh (a .space) (a .view) (a .below) (now (a .maps)) (p15 .pre) (refresh-enough (a .space) (a .view)
+          (a .below) (now (a .maps)) (p10 .fits2 .ensures) (p9 .if2 .left))
+          (p4 .refresh .ensures),
+      (
+        (
+          view-law-fresh (a .space) (a .view) (a .below) (now (a .maps)) (p15 .pre) (refresh-enough (a .space) (a .view) (a .below) (now (a .maps))
+              (p10 .fits2 .ensures) (p9 .if2 .left)) (p4 .refresh .ensures),
+          omega arith,
+        ),
+        omega (
+          arith,
+          ap (λ (l : List Run). length l) (pieces-fresh (a .space) (a .view)
+              (a .below) (now (a .maps)) (p15 .pre) (refresh-enough (a .space) (a .view) (a .below) (now (a .maps)) (p10 .fits2 .ensures)
+              (p9 .if2 .left)) (p4 .refresh .ensures) (a .start) (a .length) (omega
+              (arith, p12 .if1 .left))),
+          p6 .if3 .left,
+          read-count (a .space) (a .view) (a .below) (now (a .maps)) (a .start) (a .length) (length (now
+              (a .out))) (p7 .count .ensures),
+        ),
+      ),
+    )
+
+cast-t10 : tie.Need-cast-t10
+cast-t10 c =
+    let p10 = c .before .before .before .before .before .before .before .before .before .before in
+    let p18 = p10 .before .before .before .before .before .before .before .before in
+    let a = p18 .args in
+    omega (
+      arith,
+      read-count (a .space) (a .view) (a .below) (now (a .maps)) (a .start) (a .length) (length (now (a .out))) (p10 .count .ensures),
+      pieces-most (refreshed (viewOf (a .space) (a .view) (a .below) (now (a .maps))) (belowOf (a .space) (a .view) (a .below) (now (a .maps))))
+          (a .start) (a .length),
+    )
+
+same-length-3 : tie.Need-same-length-3
+same-length-3 c = search needs
+
+same-length-4 : tie.Need-same-length-4
+same-length-4 c = search needs
+
+returns-4 : tie.Need-returns-4
+returns-4 c =
+    let p2 = c .before .before in
+    let p7 = p2 .before .before .before .before .before in
+    let p9 = p7 .before .before in
+    let p10 = p9 .before in
+    let p12 = p10 .before .before in
+    let p13 = p12 .before in
+    let p15 = p13 .before .before in
+    let p18 = p15 .before .before .before in
+    let a = p18 .args in
+    read-done (a .space) (a .view) (a .below) (now (a .maps)) (a .start) (a .length) (length (now (a .out))) (omega (arith, p18 .fits .start)) (omega
+    (arith, p18 .fits .length)) (p18 .pre) (omega (
+      arith,
+      p15 .if1 .left,
+      p18 .fits .start,
+    )) (refresh-enough (a .space) (a .view) (a .below) (now (a .maps)) (p13 .fits2 .ensures) (p12 .if2 .left)) (now
+    (a .out)) (omega (
+      arith,
+      p9 .if3 .left,
+      read-count (a .space) (a .view) (a .below) (now (a .maps)) (a .start) (a .length) (length (now (a .out)))
+          (p10 .count .ensures),
+    )) (read-count (a .space) (a .view) (a .below) (now (a .maps)) (a .start) (a .length) (length (now (a .out)))
+    (p10 .count .ensures)) (p7 .refresh .ensures) (p2 .list .ensures .1 ∙ ap (λ (l : List Run). listedIn l (now (a .out))) (pieces-fresh (a .space)
+    (a .view) (a .below) (now (a .maps)) (p18 .pre)
+    (refresh-enough (a .space) (a .view) (a .below) (now (a .maps)) (p13 .fits2 .ensures) (p12 .if2 .left)) (p7 .refresh .ensures) (a .start)
+    (a .length) (omega (arith, p15 .if1 .left, p18 .fits .start))))
+
+pub read-spec : {M : Type 1} → statement M
+read-spec =
+    tie.close
+    (tie.spec
+    sub-if1
+    returns
+    add-end
+    fits-requires
+    same-length
+    returns-2
+    count-requires
+    same-length-2
+    returns-3
+    refresh-requires
+    list-requires
+    cast-t10
+    same-length-3
+    same-length-4
+    returns-4)

@@ -1,0 +1,162 @@
+-- `extents::pair::most_runs` meets its contract. Assumes nothing.
+use borrow.Author.Needs.{needs}
+use native.Mathlib.Omega.{arith}
+use mathlib.Core.Path.{ap, _∙_}
+use denote.Ref.{now}
+use Rattle.runs.specs.Maps.{lawful}
+use Rattle.extents.proofs.Pairing.{Told, two-told, map-lent}
+use Rattle.extents.proofs.Bounds.{view-room, below-room, marked-room, most-settle, most-other}
+use Rattle.extents.proofs.pair.most_runs.Statement.{statement}
+use Rattle.extents.proofs.pair.most_runs.Tie as tie
+
+-- what is known of the two maps
+told : (c : tie.Start) → let a = c .args in Told (a .space) (a .view) (a .below) (now (a .maps))
+told c = let a = c .args in two-told (a .space) (a .view) (a .below) (now (a .maps)) (c .pre .0)
+
+mul-size : tie.Need-mul-size
+mul-size c = omega (arith, told (c .before) .view-in)
+
+mul-v : tie.Need-mul-v
+mul-v c = omega (arith, told (c .before) .view-in)
+
+add-runs-in : tie.Need-add-runs-in
+add-runs-in c = omega (arith, told (c .before .before) .view-in)
+
+mul-runs-in : tie.Need-mul-runs-in
+mul-runs-in c = omega (arith, told (c .before .before) .view-in)
+
+sub-runs-in : tie.Need-sub-runs-in
+sub-runs-in c = search needs
+
+part-runs-in-start : tie.Need-part-runs-in-start
+part-runs-in-start c = search needs
+
+part-runs-in-end : tie.Need-part-runs-in-end
+part-runs-in-end c = omega (arith, told (c .before .before) .view-in)
+
+runs-in-requires : tie.Need-runs-in-requires
+runs-in-requires c κs =
+    let s = c .before .before .before in
+    let a = s .args in
+    ap lawful (map-lent (a .space) (a .view) (now (a .maps))) ∙ told s .view-law
+
+add-result : tie.Need-add-result
+add-result c =
+    let s = c .before .before .before .before in
+    let a = s .args in
+    omega (arith, told s .view-in, s .good, view-room (a .space) (a .view) (a .below) (now (a .maps)) (s .pre .0) (c .runs-in .ensures))
+
+returns : tie.Need-returns
+returns c =
+    let s = c .before .before .before .before in
+    let a = s .args in
+    λ start n cell. most-settle (a .space) (a .view) (a .below) (now (a .maps)) (s .pre .0) start n cell (a .mode)
+    (c .before .before .if1 .taken) (c .runs-in .ensures)
+
+mul-w : tie.Need-mul-w
+mul-w c = omega (arith, told (c .before .before) .below-in)
+
+add-marked-in : tie.Need-add-marked-in
+add-marked-in c = omega (arith, told (c .before .before) .view-in)
+
+mul-marked-in : tie.Need-mul-marked-in
+mul-marked-in c = omega (arith, told (c .before .before) .view-in)
+
+sub-marked-in : tie.Need-sub-marked-in
+sub-marked-in c = search needs
+
+part-marked-in-start : tie.Need-part-marked-in-start
+part-marked-in-start c = search needs
+
+part-marked-in-end : tie.Need-part-marked-in-end
+part-marked-in-end c = omega (arith, told (c .before .before) .view-in)
+
+marked-in-requires : tie.Need-marked-in-requires
+marked-in-requires c κs =
+    let s = c .before .before .before in
+    let a = s .args in
+    ap lawful (map-lent (a .space) (a .view) (now (a .maps))) ∙ told s .view-law
+
+add-runs-in-2 : tie.Need-add-runs-in-2
+add-runs-in-2 c = omega (arith, told (c .before .before .before .before) .below-in)
+
+mul-runs-in-2 : tie.Need-mul-runs-in-2
+mul-runs-in-2 c = omega (arith, told (c .before .before .before .before) .below-in)
+
+sub-runs-in-2 : tie.Need-sub-runs-in-2
+sub-runs-in-2 c = search needs
+
+part-runs-in-start-2 : tie.Need-part-runs-in-start-2
+part-runs-in-start-2 c = search needs
+
+part-runs-in-end-2 : tie.Need-part-runs-in-end-2
+part-runs-in-end-2 c = omega (arith, told (c .before .before .before .before) .below-in)
+
+runs-in-requires-2 : tie.Need-runs-in-requires-2
+runs-in-requires-2 c κs =
+    let s = c .before .before .before .before .before in
+    let a = s .args in
+    ap lawful (map-lent (a .space) (a .below) (now (a .maps))) ∙ told s .below-law
+
+mul-result : tie.Need-mul-result
+mul-result c =
+    let s = c .before .before .before .before .before .before in
+    let a = s .args in
+    let u = marked-room (a .space) (a .view) (a .below) (now (a .maps)) (s .pre .0) (c .before .before .marked-in .ensures) in
+    let k = below-room (a .space) (a .view) (a .below) (now (a .maps)) (s .pre .0) (c .runs-in2 .ensures) in
+    omega (arith, told s .view-in, s .good, u, k)
+
+add-result-2 : tie.Need-add-result-2
+add-result-2 c =
+    let s = c .before .before .before .before .before .before in
+    let a = s .args in
+    let u = marked-room (a .space) (a .view) (a .below) (now (a .maps)) (s .pre .0) (c .before .before .marked-in .ensures) in
+    let k = below-room (a .space) (a .view) (a .below) (now (a .maps)) (s .pre .0) (c .runs-in2 .ensures) in
+    omega (arith, told s .view-in, s .good, u, k)
+
+add-result-3 : tie.Need-add-result-3
+add-result-3 c =
+    let s = c .before .before .before .before .before .before in
+    let a = s .args in
+    let u = marked-room (a .space) (a .view) (a .below) (now (a .maps)) (s .pre .0) (c .before .before .marked-in .ensures) in
+    let k = below-room (a .space) (a .view) (a .below) (now (a .maps)) (s .pre .0) (c .runs-in2 .ensures) in
+    omega (arith, told s .view-in, s .good, u, k)
+
+returns-2 : tie.Need-returns-2
+returns-2 c =
+    let s = c .before .before .before .before .before .before in
+    let a = s .args in
+    λ start n cell. most-other (a .space) (a .view) (a .below) (now (a .maps)) (s .pre .0) start n cell (a .mode)
+    (c .before .before .before .before .if1 .left) (s .pre .1) (c .runs-in2 .ensures) (c .before .before .marked-in .ensures)
+
+pub most-runs-spec : {M : Type 1} → statement M
+most-runs-spec =
+    tie.close
+    (tie.spec
+    mul-size
+    mul-v
+    add-runs-in
+    mul-runs-in
+    sub-runs-in
+    part-runs-in-start
+    part-runs-in-end
+    runs-in-requires
+    add-result
+    returns
+    mul-w
+    add-marked-in
+    mul-marked-in
+    sub-marked-in
+    part-marked-in-start
+    part-marked-in-end
+    marked-in-requires
+    add-runs-in-2
+    mul-runs-in-2
+    sub-runs-in-2
+    part-runs-in-start-2
+    part-runs-in-end-2
+    runs-in-requires-2
+    mul-result
+    add-result-2
+    add-result-3
+    returns-2)

@@ -1,0 +1,190 @@
+// The entries without question 13, for a caller that knows its maps to be lawful.
+use crate::Answer;
+ghost use Prim.Native.Nat.{_+_, _*_, _≤_};
+ghost use mathlib.Core.Path.{_≡_};
+ghost use mathlib.Core.Bool.{true};
+ghost use lib.ListN.{length};
+ghost use Rattle.runs.specs.Cells.{cellOf, refreshed};
+ghost use Rattle.runs.specs.Runs.{piecesOf};
+ghost use Rattle.runs.specs.Maps.{bytesOf, lawful};
+ghost use Rattle.maps.specs.Pieces.{listedIn};
+ghost use Rattle.extents.specs.Entries.{twoMaps, orRefused, orKept, countOf, markOf, writeRefusal, writtenMap, listRefusal};
+ghost use Rattle.extents.specs.Entries.{viewOf, belowOf, publishRefusal, publishedMaps, refreshRefusal, refreshedMaps, syncRefusal, syncedMaps};
+ghost use Rattle.extents.specs.Entries.{postRefusal, postedMaps, readRefusal};
+ghost use Rattle.extents.specs.declared.Answer.the-variants.{Done};
+
+// Gives a range of a map a row number and a mark.
+pub fn write(map: &mut [u32], start: u32, length: u32, number: u32, unpublished: bool) -> Answer
+    requires { ⌜ lawful (now map) ≡ true ⌝ }
+    ensures answer { λ r. ⌜ r ≡ orRefused (writeRefusal (now (map .entry)) start length number unpublished) Done ⌝ }
+    ensures left { λ r. ⌜ now (map .exit) ≡ orKept (writeRefusal (now (map .entry)) start length number unpublished)
+        (writtenMap (now (map .entry)) start length number unpublished) (now (map .entry)) ⌝ }
+{
+    if number < 1 {
+        return Answer::Refused(14);
+    }
+    if 4096 < number {
+        return Answer::Refused(14);
+    }
+    if 4294967295 - start < length {
+        return Answer::Refused(11);
+    }
+    if length == 0 {
+        return Answer::Done;
+    }
+    if maps::splice::lay(map, start, start + length, cell_of(number, unpublished)) {
+        Answer::Done
+    } else {
+        Answer::Refused(16)
+    }
+}
+
+fn cell_of(number: u32, unpublished: bool) -> u32
+    requires { ⌜ number ≤ 4096 ⌝ }
+    ensures { λ r. ⌜ r ≡ cellOf number (markOf unpublished) ⌝ }
+{
+    if unpublished {
+        return number * 2 + 1;
+    }
+    number * 2
+}
+
+// Puts the pieces of a range into an answer slice.
+pub fn list_range(map: &[u32], start: u32, length: u32, out: &mut [u32]) -> Answer
+    requires { ⌜ lawful (now map) ≡ true ⌝ }
+    ensures answer { λ r. ⌜ r ≡ orRefused (listRefusal (now (map .entry)) start length (lib.ListN.length (now (out .entry))))
+        (countOf (piecesOf (bytesOf (now (map .entry))) start length)) ⌝ }
+    ensures left { λ r. ⌜ now (out .exit) ≡ orKept (listRefusal (now (map .entry)) start length (lib.ListN.length (now (out .entry))))
+        (listedIn (piecesOf (bytesOf (now (map .entry))) start length) (now (out .entry))) (now (out .entry)) ⌝ }
+{
+    if 4294967295 - start < length {
+        return Answer::Refused(11);
+    }
+    let n = maps::scan::count(map, map, 3, start, start + length, 0, 0, 0);
+    if out.len() / 3 < n {
+        return Answer::Refused(17);
+    }
+    maps::list::list(map, start, start + length, out);
+    Answer::Listed(n as u32)
+}
+
+// Publishes a view.
+pub fn publish(maps: &mut [u32], space: usize, view: usize, below: usize) -> Answer
+    requires { ⌜ twoMaps space view below (now maps) ≡ true ⌝ }
+    ensures answer { λ r. ⌜ r ≡ orRefused (publishRefusal space view below (now (maps .entry))) Done ⌝ }
+    ensures left { λ r. ⌜ now (maps .exit) ≡ orKept (publishRefusal space view below (now (maps .entry)))
+        (publishedMaps space view below (now (maps .entry))) (now (maps .entry)) ⌝ }
+{
+    if !crate::pair::fits(maps, space, view, below, 0, 0, 0, 0) {
+        return Answer::Refused(16);
+    }
+    crate::share::share(maps, space, view, below, 0, 0, 0);
+    crate::pair::settle(maps, space, view);
+    Answer::Done
+}
+
+// Refreshes a view.
+pub fn refresh(maps: &mut [u32], space: usize, view: usize, below: usize) -> Answer
+    requires { ⌜ twoMaps space view below (now maps) ≡ true ⌝ }
+    ensures answer { λ r. ⌜ r ≡ orRefused (refreshRefusal space view below (now (maps .entry))) Done ⌝ }
+    ensures left { λ r. ⌜ now (maps .exit) ≡ orKept (refreshRefusal space view below (now (maps .entry)))
+        (refreshedMaps space view below (now (maps .entry))) (now (maps .entry)) ⌝ }
+{
+    if !crate::pair::fits(maps, space, view, below, 2, 0, 0, 0) {
+        return Answer::Refused(16);
+    }
+    crate::merge::refresh(maps, space, view, below);
+    Answer::Done
+}
+
+// Publishes a view, then refreshes it.
+pub fn sync(maps: &mut [u32], space: usize, view: usize, below: usize) -> Answer
+    requires { ⌜ twoMaps space view below (now maps) ≡ true ⌝ }
+    ensures answer { λ r. ⌜ r ≡ orRefused (syncRefusal space view below (now (maps .entry))) Done ⌝ }
+    ensures left { λ r. ⌜ now (maps .exit) ≡ orKept (syncRefusal space view below (now (maps .entry)))
+        (syncedMaps space view below (now (maps .entry))) (now (maps .entry)) ⌝ }
+{
+    if !crate::pair::fits(maps, space, view, below, 0, 0, 0, 0) {
+        return Answer::Refused(16);
+    }
+    crate::share::share(maps, space, view, below, 0, 0, 0);
+    crate::pair::copy(maps, space, below, view);
+    Answer::Done
+}
+
+// Writes a range into a view, then publishes it.
+pub fn post(
+    maps: &mut [u32],
+    space: usize,
+    view: usize,
+    below: usize,
+    start: u32,
+    length: u32,
+    number: u32,
+) -> Answer
+    requires { ⌜ twoMaps space view below (now maps) ≡ true ⌝ }
+    ensures answer { λ r. ⌜ r ≡ orRefused (postRefusal space view below (now (maps .entry)) start length number) Done ⌝ }
+    ensures left { λ r. ⌜ now (maps .exit) ≡ orKept (postRefusal space view below (now (maps .entry)) start length number)
+        (postedMaps space view below (now (maps .entry)) start length number) (now (maps .entry)) ⌝ }
+{
+    if number < 1 {
+        return Answer::Refused(14);
+    }
+    if 4096 < number {
+        return Answer::Refused(14);
+    }
+    if 4294967295 - start < length {
+        return Answer::Refused(11);
+    }
+    let end = start + length;
+    let cell = number * 2;
+    if !crate::pair::fits(maps, space, view, below, 0, start, end, cell) {
+        return Answer::Refused(16);
+    }
+    if !crate::pair::fits(maps, space, view, below, 1, start, end, cell) {
+        return Answer::Refused(16);
+    }
+    crate::share::share(maps, space, view, below, start, end, number);
+    crate::pair::settle(maps, space, view);
+    if start < end {
+        crate::pair::lay(maps, space, view, start, end, cell);
+    }
+    Answer::Done
+}
+
+// Refreshes a view, then puts the pieces of a range of it into an answer slice.
+pub fn read(
+    maps: &mut [u32],
+    space: usize,
+    view: usize,
+    below: usize,
+    start: u32,
+    length: u32,
+    out: &mut [u32],
+) -> Answer
+    requires { ⌜ twoMaps space view below (now maps) ≡ true ⌝ }
+    ensures answer { λ r. ⌜ r ≡ orRefused (readRefusal space view below (now (maps .entry)) start length (lib.ListN.length (now (out .entry))))
+        (countOf (piecesOf (refreshed (viewOf space view below (now (maps .entry))) (belowOf space view below (now (maps .entry)))) start length)) ⌝ }
+    ensures left { λ r. ⌜ now (maps .exit) ≡ orKept
+        (readRefusal space view below (now (maps .entry)) start length (lib.ListN.length (now (out .entry))))
+        (refreshedMaps space view below (now (maps .entry))) (now (maps .entry)) ⌝ }
+    ensures listed { λ r. ⌜ now (out .exit) ≡ orKept
+        (readRefusal space view below (now (maps .entry)) start length (lib.ListN.length (now (out .entry))))
+        (listedIn (piecesOf (refreshed (viewOf space view below (now (maps .entry))) (belowOf space view below (now (maps .entry)))) start length)
+        (now (out .entry))) (now (out .entry)) ⌝ }
+{
+    if 4294967295 - start < length {
+        return Answer::Refused(11);
+    }
+    let end = start + length;
+    if !crate::pair::fits(maps, space, view, below, 2, 0, 0, 0) {
+        return Answer::Refused(16);
+    }
+    let n = crate::pair::count(maps, space, view, below, 4, start, end, 0, 0, 0);
+    if out.len() / 3 < n {
+        return Answer::Refused(17);
+    }
+    crate::merge::refresh(maps, space, view, below);
+    crate::pair::list(maps, space, view, start, end, out);
+    Answer::Listed(n as u32)
+}

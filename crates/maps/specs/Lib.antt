@@ -1,0 +1,4 @@
+pub mod Mixes
+pub mod Cursors
+pub mod Beside
+pub mod Pieces
