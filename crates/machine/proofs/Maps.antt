@@ -1,0 +1,338 @@
+-- A machine's state as two maps at a time: a row changes the published map and one view. Assumes nothing.
+use Prim.Native.Nat.{ℕ, zero, suc, _+_, _*_, _-_, _≤_, _<_}
+use native.Mathlib.Numerals.{add-one}
+use native.Mathlib.Nat.{zero-mul, mul-le-mul-right}
+use native.Mathlib.Decide.{decLt}
+use native.Mathlib.Omega.{arith}
+use mathlib.Core.Path.{_≡_, refl, sym, ap, _∙_}
+use mathlib.Core.Logic.{inr}
+use mathlib.Core.Bool.{Bool, true, false, cond, not, _&&_, and-true, false≢true}
+use mathlib.Core.List.{List, _++_, append-assoc, append-nil}
+use lib.ListN.{length, take, drop, length-drop, take-append-drop}
+use lib.Seq.{length-take-le, ext-getD, take-add, getD-drop}
+use lib.Dec.{leb, ltb, eqb}
+use borrow.Author.Tests.{le-leb, leb-true, eq-eqb, ne-eqb, eqb-true, eqb-false}
+use Rattle.models.specs.Limits.{MODELS, FILES}
+use Rattle.models.specs.Operations.{WRITE}
+use Rattle.models.specs.Table.{publishes, refreshes}
+use Rattle.trace.specs.declared.Row.{Row}
+use Rattle.runs.specs.Cells.{Bytes, cellOf, overwrite, published, settled, refreshed}
+use Rattle.runs.specs.Runs.{Run, runsOf}
+use Rattle.runs.specs.Maps.{mapOf, mapFor, runs, spaceIn, bytesOf, lawful, lawfulPublished, mapAt, withMap}
+use Rattle.layers.specs.Layers.{Layers, withView, written, publishing, refreshing, afterRow}
+use Rattle.layers.specs.States.{Header, mapsLength, allBelow, processLimit, lawfulState, layersIn, layersTo, layersFit}
+use Rattle.layers.specs.States.{lawfulPlain}
+use Rattle.layers.specs.Steps.{makingQuestions, plainMakingQuestions}
+use Rattle.layers.proofs.Stepping.{AllYes}
+use Rattle.layers.proofs.Slices.{all-in, blocks-same}
+use Rattle.runs.proofs.Trips.{both, not-passed, lawful-map, length-map}
+use Rattle.runs.proofs.Longest.{runs-back}
+use Rattle.runs.proofs.Sides.{with-length, with-other, at-same, at-other}
+use Rattle.order.specs.Counting.{blocks}
+use Rattle.extents.specs.Entries.{twoMaps, bothMaps}
+
+-- ---- Numbers below a bound
+
+-- where all pass, each does
+pub all-out : (n : ℕ) (test : ℕ → Bool) → allBelow n test ≡ true → (p : ℕ) → p < n → test p ≡ true
+unfolding allBelow
+all-out zero test e p l = absurd (omega arith)
+all-out (suc n) test e p l = let b = both (allBelow n test) (test n) e in go (decLt p n) (all-out n test (b .0) p) (b .1)
+  where
+    go : Dec (p < n) → (p < n → test p ≡ true) → test n ≡ true → test p ≡ true
+    go (yes q) ih t = ih q
+    go (no q) ih t = let e : p ≡ n = omega arith in ap test e ∙ t
+
+-- none
+pub all-none : (test : ℕ → Bool) → allBelow 0 test ≡ true
+unfolding allBelow
+all-none test = refl
+
+-- one more that passes
+pub all-more : (n : ℕ) (test : ℕ → Bool) → allBelow n test ≡ true → test n ≡ true → allBelow (n + 1) test ≡ true
+unfolding allBelow
+all-more n test a t = ap (λ (k : ℕ). allBelow k test) (add-one n) ∙ (λ i. a i && t i)
+
+-- one that does not pass
+pub all-not : (n : ℕ) (test : ℕ → Bool) (p : ℕ) → p < n → test p ≡ false → allBelow n test ≡ false
+all-not n test p l t = not-passed (allBelow n test) (λ e. false≢true (sym t ∙ all-out n test e p l))
+
+-- where all others pass, one decides
+all-one : (n p : ℕ) (test : ℕ → Bool) → p < n → ((q : ℕ) → (q ≡ p → ⊥) → q < n → test q ≡ true) → allBelow n test ≡ test p
+unfolding allBelow
+all-one zero p test l h = absurd (omega arith)
+all-one (suc n) p test l h = go (decLt p n) (all-one n p test)
+  where
+    go : Dec (p < n) → (p < n → ((q : ℕ) → (q ≡ p → ⊥) → q < n → test q ≡ true) → allBelow n test ≡ test p) → allBelow n test && test n ≡ test p
+    go (yes k) ih =
+        (λ i. ih k (λ q a b. h q a (omega arith)) i && h n (λ e. omega arith) (omega arith) i) ∙ and-true (test p)
+    go (no k) ih =
+        let e : n ≡ p = omega arith in
+        λ i. all-in n test (λ q b. h q (λ z. omega arith) (omega arith)) i && test (e i)
+
+-- ---- Maps of a slice
+
+-- the first map is the front
+pub first-map : (space : ℕ) (xs : List ℕ) → mapAt space 0 xs ≡ take (4 * space) xs
+first-map space xs = λ i. take (4 * space) (drop (zero-mul (4 * space) i) xs)
+
+-- the maps of a slice one after the other are its front
+maps-front : (m : ℕ) (xs : List ℕ) (n : ℕ) → take m (drop (0 * m) xs) ++ blocks n (λ q. take m (drop (suc q * m) xs)) ≡ take (suc n * m) xs
+unfolding blocks
+maps-front m xs zero =
+    let e : m ≡ suc zero * m = omega arith in
+    append-nil (take m (drop (0 * m) xs)) ∙ (λ i. take m (drop (zero-mul m i) xs)) ∙ ap (λ (k : ℕ). take k xs) e
+maps-front m xs (suc n) =
+    let g : ℕ → List ℕ = λ q. take m (drop (suc q * m) xs) in
+    let e : suc n * m + m ≡ suc (suc n) * m = omega arith in
+    sym (append-assoc (take m (drop (0 * m) xs)) (blocks n g) (g n)) ∙ ap (λ (l : List ℕ). l ++ g n) (maps-front m xs n)
+    ∙ sym (take-add (suc n * m) m xs) ∙ ap (λ (k : ℕ). take k xs) e
+
+-- so a slice that has the maps of a layered file, and the numbers of another one behind them, is that one with the maps put in
+to-is : (h : Header) (s : Layers) (xs ys : List ℕ) → mapAt (h .space) 0 ys ≡ mapFor (h .space) (s .shared) →
+    ((q : ℕ) → q < h .processes → mapAt (h .space) (suc q) ys ≡ mapFor (h .space) (s .view q)) → drop (mapsLength h) ys ≡ drop (mapsLength h) xs →
+    layersTo h s xs ≡ ys
+unfolding layersTo
+to-is h s xs ys first views rest =
+    let e : suc (h .processes) * (4 * h .space) ≡ mapsLength h = omega arith in
+    let b = blocks-same (h .processes) (λ q. mapAt (h .space) (suc q) ys) (λ q. mapFor (h .space) (s .view q)) views in
+    sym (λ i. (first i ++ b i) ++ rest i)
+    ∙ (λ i. (maps-front (4 * h .space) ys (h .processes) ∙ ap (λ (k : ℕ). take k ys) e) i ++ drop (mapsLength h) ys)
+    ∙ take-append-drop (mapsLength h) ys
+
+-- what stands behind a map that is put
+drop-with : (space k : ℕ) (m xs : List ℕ) → length m ≡ 4 * space → (k + 1) * (4 * space) ≤ length xs → (n : ℕ) → (k + 1) * (4 * space) ≤ n →
+    drop n (withMap space k m xs) ≡ drop n xs
+drop-with space k m xs size fit n h =
+    let ys = withMap space k m xs in
+    ext-getD 0 (drop n ys) (drop n xs)
+    (length-drop n ys ∙ ap (λ (l : ℕ). l - n) (with-length space k m xs size fit) ∙ sym (length-drop n xs))
+    (λ i _. getD-drop n ys i 0 ∙ with-other space k m xs size fit (n + i) (inr (omega (arith, h))) ∙ sym (getD-drop n xs i 0))
+
+-- a lawful map of a slice fits its space and is written again as it is
+module _ (space k : ℕ) (xs : List ℕ) (law : lawful (mapAt space k xs) ≡ true) (fit : (k + 1) * (4 * space) ≤ length xs) where
+  -- the map
+  abbrev here : List ℕ
+  here = mapAt space k xs
+
+  -- its space
+  here-space : spaceIn here ≡ space
+  here-space =
+      omega (arith, length-take-le (4 * space) (drop (k * (4 * space)) xs) (omega (arith, fit, length-drop (k * (4 * space)) xs)))
+
+  -- the runs of its bytes are its runs
+  here-runs : runsOf (bytesOf here) ≡ runs here
+  here-runs = runs-back (runs here) (lawful-map here law .lawful-runs)
+
+  -- it fits
+  pub here-fit : length (runsOf (bytesOf here)) ≤ space
+  here-fit = omega (arith, ap (λ (l : List Run). length l) here-runs, lawful-map here law .fit, here-space)
+
+  -- it is written again as it is
+  pub here-again : mapFor space (bytesOf here) ≡ here
+  here-again = (λ i. mapOf (sym here-space i) (here-runs i)) ∙ sym (lawful-map here law .whole)
+
+-- ---- A lawful state
+
+module _ (h : Header) (xs : List ℕ) where
+  -- it is as for making, and its maps are lawful
+  pub state-making : lawfulState h xs ≡ true → AllYes (makingQuestions h (length xs)) × (lawfulPublished (mapAt (h .space) 0 xs) ≡ true)
+      × (allBelow (h .processes) (λ p. lawful (mapAt (h .space) (suc p) xs)) ≡ true)
+  unfolding lawfulState makingQuestions
+  state-making law =
+      let e1 = both (ltb (h .model) MODELS) _ law in
+      let e2 = both (processLimit (h .processes)) _ (e1 .1) in
+      let e3 = both (ltb (h .file) FILES) _ (e2 .1) in
+      let e4 = both (leb (mapsLength h) (length xs)) _ (e3 .1) in
+      let e5 = both (lawfulPublished (mapAt (h .space) 0 xs)) _ (e4 .1) in
+      ((e4 .0, (λ i. e1 .0 i && e2 .0 i, (e3 .0, tt))), e5 .0, e5 .1)
+
+  -- a plain one is as for making too, and its map is lawful
+  pub plain-making : lawfulPlain h xs ≡ true → AllYes (plainMakingQuestions h (length xs)) × (lawfulPublished (mapAt (h .space) 0 xs) ≡ true)
+  unfolding lawfulPlain plainMakingQuestions
+  plain-making law =
+      let e1 = both (processLimit (h .processes)) _ law in
+      let e2 = both (ltb (h .file) FILES) _ (e1 .1) in
+      let e3 = both (leb (4 * h .space) (length xs)) _ (e2 .1) in
+      ((e3 .0, (e1 .0, (e2 .0, tt))), e3 .1)
+
+-- its maps lie in the slice, and each is lawful
+module _ (h : Header) (xs : List ℕ) (law : lawfulState h xs ≡ true) where
+  pub state-parts : (mapsLength h ≤ length xs) × (lawfulPublished (mapAt (h .space) 0 xs) ≡ true)
+      × ((q : ℕ) → q < h .processes → lawful (mapAt (h .space) (suc q) xs) ≡ true)
+  unfolding makingQuestions
+  state-parts =
+      let k = state-making h xs law in
+      (leb-true _ _ (k .0 .0), k .1, all-out (h .processes) (λ p. lawful (mapAt (h .space) (suc p) xs)) (k .2))
+
+  -- room for a map
+  map-below : (k : ℕ) → k ≤ h .processes → (k + 1) * (4 * h .space) ≤ mapsLength h
+  map-below k l = let m : k + 1 ≤ h .processes + 1 = omega arith in omega (arith, mul-le-mul-right (4 * h .space) m)
+
+  -- in the slice too
+  map-in : (k : ℕ) → k ≤ h .processes → (k + 1) * (4 * h .space) ≤ length xs
+  map-in k l = omega (arith, map-below k l, state-parts .0)
+
+  -- the published map is lawful by itself
+  shared-law : lawful (mapAt (h .space) 0 xs) ≡ true
+  shared-law = both (lawful (mapAt (h .space) 0 xs)) _ (state-parts .1) .0
+
+  -- it is written again as it is
+  shared-again : mapFor (h .space) (layersIn h xs .shared) ≡ mapAt (h .space) 0 xs
+  shared-again = here-again (h .space) 0 xs shared-law (map-in 0 (omega arith))
+
+  -- and so is each view
+  view-again : (q : ℕ) → q < h .processes → mapFor (h .space) (layersIn h xs .view q) ≡ mapAt (h .space) (suc q) xs
+  view-again q l = here-again (h .space) (suc q) xs (state-parts .2 q l) (map-in (suc q) l)
+
+module _ (h : Header) (xs : List ℕ) (law : lawfulState h xs ≡ true) (p : ℕ) (below : p < h .processes) where
+  -- the view of a process and the published map are two maps of the slice
+  pub state-two : twoMaps (h .space) (suc p) 0 xs ≡ true
+  state-two =
+      λ i.
+      not (ne-eqb (suc p) 0 (omega arith) i)
+      && (le-leb ((suc p + 1) * (4 * h .space)) (length xs) (map-in h xs law (suc p) below) i
+      && (le-leb ((0 + 1) * (4 * h .space)) (length xs) (map-in h xs law 0 (omega arith)) i
+      && (state-parts h xs law .2 p below i && state-parts h xs law .1 i)))
+
+  -- the view is lawful by itself
+  pub state-view : lawful (mapAt (h .space) (suc p) xs) ≡ true
+  state-view = state-parts h xs law .2 p below
+
+  -- and lies within the slice
+  pub state-in : (suc p + 1) * (4 * h .space) ≤ length xs
+  state-in = map-in h xs law (suc p) below
+
+  -- the slice with another view of p: its maps, and what stands behind them
+  module _ (v : Bytes) (fit : length (runsOf v) ≤ h .space) where
+    -- that slice
+    abbrev viewed : List ℕ
+    viewed = withMap (h .space) (suc p) (mapFor (h .space) v) xs
+
+    -- the new map's length
+    v-size : length (mapFor (h .space) v) ≡ 4 * h .space
+    v-size = length-map (h .space) (runsOf v) fit
+
+    -- the views in it
+    viewed-view : (q : ℕ) → q < h .processes → mapAt (h .space) (suc q) viewed ≡ mapFor (h .space) (withView p v (layersIn h xs .view) q)
+    viewed-view q l = go (eqb q p) refl
+      where
+        go : (b : Bool) → eqb q p ≡ b → mapAt (h .space) (suc q) viewed ≡ mapFor (h .space) (cond b v (layersIn h xs .view q))
+        go true e =
+            ap (λ (k : ℕ). mapAt (h .space) (suc k) viewed) (eqb-true q p e) ∙ at-same (h .space) (suc p) (mapFor (h .space) v) xs v-size state-in
+        go false e =
+            let z = eqb-false q p e in
+            at-other (h .space) (suc p) (mapFor (h .space) v) xs v-size state-in (suc q) (λ s. z (omega arith)) ∙ sym (view-again h xs law q l)
+
+    -- the published map in it
+    viewed-shared : mapAt (h .space) 0 viewed ≡ mapAt (h .space) 0 xs
+    viewed-shared = at-other (h .space) (suc p) (mapFor (h .space) v) xs v-size state-in 0 (λ s. omega arith)
+
+    -- its length
+    viewed-length : length viewed ≡ length xs
+    viewed-length = with-length (h .space) (suc p) (mapFor (h .space) v) xs v-size state-in
+
+    -- what stands behind its maps
+    viewed-rest : drop (mapsLength h) viewed ≡ drop (mapsLength h) xs
+    viewed-rest = drop-with (h .space) (suc p) (mapFor (h .space) v) xs v-size state-in (mapsLength h) (map-below h xs law (suc p) below)
+
+  module _ (v w : Bytes) where
+    -- the state with another published map and another view of p
+    abbrev pub anew : Layers
+    anew = record { shared = w; view = withView p v (layersIn h xs .view) }
+
+    -- 16 is asked of these two alone: the other maps fit
+    pub fit-both : layersFit h anew ≡ leb (length (runsOf w)) (h .space) && leb (length (runsOf v)) (h .space)
+    unfolding layersFit
+    fit-both =
+        let test : ℕ → Bool = λ q. leb (length (runsOf (withView p v (layersIn h xs .view) q))) (h .space) in
+        let others : (q : ℕ) → (q ≡ p → ⊥) → q < h .processes → test q ≡ true =
+        λ q a l.
+        rw (ne-eqb q p a) (le-leb _ _ (here-fit (h .space) (suc q) xs (state-parts h xs law .2 q l) (map-in h xs law (suc q) l))) in
+        let own : test p ≡ leb (length (runsOf v)) (h .space) = rw (eq-eqb p p refl) in
+        ap (λ (b : Bool). leb (length (runsOf w)) (h .space) && b) (all-one (h .processes) p test below others ∙ own)
+
+    -- and they alone are put into the slice
+    pub to-both : length (runsOf v) ≤ h .space → length (runsOf w) ≤ h .space → layersTo h anew xs ≡ bothMaps (h .space) (suc p) 0 xs v w
+    unfolding bothMaps
+    to-both vf wf =
+        let ys = viewed v vf in
+        let m = mapFor (h .space) w in
+        let size = length-map (h .space) (runsOf w) wf in
+        let room : (0 + 1) * (4 * h .space) ≤ length ys = omega (arith, map-in h xs law 0 (omega arith), viewed-length v vf) in
+        to-is h anew xs (withMap (h .space) 0 m ys) (at-same (h .space) 0 m ys size room)
+        (λ q l. at-other (h .space) 0 m ys size room (suc q) (λ s. omega arith) ∙ viewed-view v vf q l)
+        (drop-with (h .space) 0 m ys size room (mapsLength h) (map-below h xs law 0 (omega arith)) ∙ viewed-rest v vf)
+
+  -- a published map that is not changed is as it was
+  pub to-view-alone : (v : Bytes) → length (runsOf v) ≤ h .space →
+      layersTo h (record { shared = layersIn h xs .shared; view = withView p v (layersIn h xs .view) }) xs
+      ≡ withMap (h .space) (suc p) (mapFor (h .space) v) xs
+  to-view-alone v fit =
+      to-is h _ xs (viewed v fit) (viewed-shared v fit ∙ sym (shared-again h xs law)) (viewed-view v fit) (viewed-rest v fit)
+
+  -- and so is a state that a row does not change
+  pub to-same : layersTo h (layersIn h xs) xs ≡ xs
+  to-same = to-is h (layersIn h xs) xs xs (sym (shared-again h xs law)) (λ q l. sym (view-again h xs law q l)) refl
+
+-- ---- A row
+
+-- a state whose published map and view of p are these, and whose other views are those of s
+abbrev Both : ℕ → Layers → Layers → Bytes → Bytes → Type 0
+Both p s t w v = (t .shared ≡ w) × (t .view p ≡ v) × ((q : ℕ) → (q ≡ p → ⊥) → t .view q ≡ s .view q)
+
+module _ (p : ℕ) (s : Layers) where
+  -- the view of p is the new one
+  own : (f : Bytes) (views : ℕ → Bytes) → withView p f views p ≡ f
+  own f views = rw (eq-eqb p p refl)
+
+  -- other views are as they were
+  others : (f : Bytes) (views : ℕ → Bytes) (q : ℕ) → (q ≡ p → ⊥) → withView p f views q ≡ views q
+  others f views q a = rw (ne-eqb q p a)
+
+  -- after a write
+  both-written : (b : Bool) (f : Bytes) →
+      Both p s (cond b (record { shared = s .shared; view = withView p f (s .view) }) s) (s .shared) (cond b f (s .view p))
+  both-written true f = (refl, own f (s .view), others f (s .view))
+  both-written false f = (refl, refl, λ q a. refl)
+
+  -- after publishing
+  both-published : (b : Bool) (t : Layers) (w v : Bytes) → Both p s t w v →
+      Both p s (cond b (publishing p t) t) (cond b (published v w) w) (cond b (settled v) v)
+  both-published true t w v k =
+      ((λ i. published (k .1 i) (k .0 i)), own _ (t .view) ∙ ap settled (k .1), λ q a. others _ (t .view) q a ∙ k .2 q a)
+  both-published false t w v k = k
+
+  -- after refreshing
+  both-refreshed : (b : Bool) (t : Layers) (w v : Bytes) → Both p s t w v → Both p s (cond b (refreshing p t) t) w (cond b (refreshed v w) v)
+  both-refreshed true t w v k = (k .0, own _ (t .view) ∙ (λ i. refreshed (k .1 i) (k .0 i)), λ q a. others _ (t .view) q a ∙ k .2 q a)
+  both-refreshed false t w v k = k
+
+-- what a row does, as one new view and one new published map
+module _ (model : ℕ) (r : Row) (number : ℕ) (s : Layers) where
+  -- the view with the range of a write
+  abbrev wrote : Bytes
+  wrote = cond (eqb (r .kind) WRITE) (overwrite (r .offset) (r .length) (cellOf number 1) (s .view (r .process))) (s .view (r .process))
+
+  -- the view after publishing
+  abbrev pub put : Bytes
+  put = cond (publishes model (r .kind)) (settled wrote) wrote
+
+  -- the published map after it
+  abbrev pub shared′ : Bytes
+  shared′ = cond (publishes model (r .kind)) (published wrote (s .shared)) (s .shared)
+
+  -- the view after refreshing
+  abbrev pub view′ : Bytes
+  view′ = cond (refreshes model (r .kind)) (refreshed put shared′) put
+
+  -- the state after the row differs from the one before in these two alone
+  pub row-both : (afterRow model r number s .shared ≡ shared′)
+      × (afterRow model r number s .view (r .process) ≡ view′)
+      × ((q : ℕ) → (q ≡ r .process → ⊥) → afterRow model r number s .view q ≡ s .view q)
+  unfolding afterRow
+  row-both =
+      let p = r .process in
+      let a = both-written p s (eqb (r .kind) WRITE) (overwrite (r .offset) (r .length) (cellOf number 1) (s .view p)) in
+      let b = both-published p s (publishes model (r .kind)) _ _ _ a in
+      both-refreshed p s (refreshes model (r .kind)) _ shared′ put b

@@ -1,0 +1,229 @@
+-- The questions that the machine and the plain file share, by what the code tests. Assumes nothing.
+use Prim.Native.Nat.{ℕ, zero, suc, _+_, _*_, _/_, _≤_, _<_}
+use native.Mathlib.Omega.{arith}
+use mathlib.Core.Path.{_≡_, refl, sym, _∙_}
+use mathlib.Core.Bool.{Bool, true, false, cond, not, _&&_, _||_, and-false}
+use mathlib.Core.List.{List, [], _∷_, _++_}
+use lib.ListN.{drop, getD}
+use lib.Seq.{getD-drop}
+use lib.Dec.{leb, ltb, eqb}
+use borrow.Author.Tests.{le-leb, lt-leb, leb-true, lt-ltb, le-ltb, ltb-true, eq-eqb, ne-eqb}
+use Rattle.models.specs.Limits.{ROWS, OFFSET-MAX}
+use Rattle.models.specs.Operations.{READ, WRITE}
+use Rattle.trace.specs.declared.Row.{Row}
+use Rattle.trace.specs.Rows.{rowHere}
+use Rattle.trace.specs.Questions.{Question, firstNo}
+use Rattle.order.specs.Clock.{rowIn}
+use Rattle.runs.specs.Runs.{Run}
+use Rattle.layers.specs.Layers.{ofFile}
+use Rattle.layers.specs.States.{Header, processLimit}
+use Rattle.layers.specs.Steps.{usesRange, rowAsked, roomAsked}
+use Rattle.layers.proofs.Stepping.{AllYes}
+use Rattle.runs.proofs.Trips.{both}
+
+-- ---- Limits and slices
+
+-- a process limit is 1 or more
+pub limit-low : (n : ℕ) → n < 1 → false ≡ processLimit n
+limit-low n h = sym (λ i. lt-leb 1 n h i && leb n 64)
+
+-- and at most 64
+pub limit-high : (n : ℕ) → 1 ≤ n → leb n 64 ≡ processLimit n
+limit-high n h = sym (λ i. le-leb 1 n h i && leb n 64)
+
+module _ (n rows counts : ℕ) where
+  -- rows that do not fit
+  pub rows-short : rows / 6 < n → false ≡ leb (6 * n) rows && leb n counts
+  rows-short h = sym (λ i. lt-leb (6 * n) rows (omega arith) i && leb n counts)
+
+  -- rows that fit: the counts decide
+  pub rows-long : n ≤ rows / 6 → leb n counts ≡ leb (6 * n) rows && leb n counts
+  rows-long h = sym (λ i. le-leb (6 * n) rows (omega arith) i && leb n counts)
+
+-- six numbers are the row at a place
+pub row-read : (xs : List ℕ) (k : ℕ) →
+    record {
+      process = getD xs (k * 6) 0;
+      kind = getD xs (k * 6 + 1) 0;
+      file = getD xs (k * 6 + 2) 0;
+      offset = getD xs (k * 6 + 3) 0;
+      length = getD xs (k * 6 + 4) 0;
+      message = getD xs (k * 6 + 5) 0;
+    } ≡ rowIn xs k
+unfolding rowHere
+row-read xs k =
+    let first : k * 6 ≡ k * 6 + 0 = omega arith in
+    let zeroth = (λ j. getD xs (first j) 0) ∙ sym (getD-drop (k * 6) xs 0 0) in
+    let at : (n : ℕ) → getD xs (k * 6 + n) 0 ≡ getD (drop (k * 6) xs) n 0 = λ n. sym (getD-drop (k * 6) xs n 0) in
+    λ i. record { process = zeroth i; kind = at 1 i; file = at 2 i; offset = at 3 i; length = at 4 i; message = at 5 i }
+
+-- ---- A row of the file
+
+module _ (file : ℕ) (r : Row) where
+  -- a send, a receive or no kind
+  pub kind-past : 5 < r .kind → false ≡ ofFile file r
+  kind-past h = sym (λ i. le-ltb (r .kind) 6 (omega arith) i && eqb (r .file) file)
+
+  -- another kind: the file decides
+  pub kind-in : r .kind ≤ 5 → eqb (r .file) file ≡ ofFile file r
+  kind-in h = sym (λ i. lt-ltb (r .kind) 6 (omega arith) i && eqb (r .file) file)
+
+-- reads and writes use offset and length
+uses : (r : Row) → r .kind ≤ 1 → usesRange r ≡ true
+uses r h = go (r .kind) h
+  where
+    go : (k : ℕ) → k ≤ 1 → eqb k READ || eqb k WRITE ≡ true
+    go zero l = refl
+    go (suc zero) l = refl
+    go (suc (suc k)) l = absurd (omega arith)
+
+-- other rows do not
+uses-not : (r : Row) → 1 < r .kind → usesRange r ≡ false
+uses-not r h = λ i. ne-eqb (r .kind) READ (λ e. omega arith) i || ne-eqb (r .kind) WRITE (λ e. omega arith) i
+
+-- ---- 15, 14, 10 and 11
+
+module _ (h : Header) (r : Row) (number : ℕ) where
+  -- the questions one by one
+  asks : firstNo (rowAsked h r number) ≡
+      cond (ofFile (h .file) r)
+      (cond (leb 1 number && leb number ROWS)
+      (cond (ltb (r .process) (h .processes) && (not (usesRange r) || (leb (r .offset) OFFSET-MAX && leb (r .length) OFFSET-MAX)))
+      (cond (not (usesRange r) || leb (r .offset + r .length) OFFSET-MAX) 0 11) 10) 14) 15
+  unfolding rowAsked firstNo
+  asks = refl
+
+  -- 15: the kind
+  pub asks-kind : 5 < r .kind → 15 ≡ firstNo (rowAsked h r number)
+  asks-kind l = sym (asks ∙ rw (sym (kind-past (h .file) r l)))
+
+  module _ (kind : r .kind ≤ 5) where
+    -- 15: the file
+    pub asks-file : (r .file ≡ h .file → ⊥) → 15 ≡ firstNo (rowAsked h r number)
+    asks-file l = sym (asks ∙ rw (sym (kind-in (h .file) r kind), ne-eqb (r .file) (h .file) l))
+
+    module _ (same : r .file ≡ h .file) where
+      -- a row of the file
+      own : ofFile (h .file) r ≡ true
+      own = sym (kind-in (h .file) r kind) ∙ eq-eqb (r .file) (h .file) same
+
+      -- 14: number 0
+      pub asks-low : number < 1 → 14 ≡ firstNo (rowAsked h r number)
+      asks-low l = sym (asks ∙ rw (own, lt-leb 1 number l))
+
+      -- 14: a number past the rows
+      pub asks-high : ROWS < number → 14 ≡ firstNo (rowAsked h r number)
+      asks-high l = sym (asks ∙ rw (own, lt-leb number ROWS l, and-false))
+
+      module _ (low : 1 ≤ number) (high : number ≤ ROWS) where
+        -- 10: the process
+        pub asks-process : h .processes ≤ r .process → 10 ≡ firstNo (rowAsked h r number)
+        asks-process l = sym (asks ∙ rw (own, le-leb 1 number low, le-leb number ROWS high, le-ltb (r .process) (h .processes) l))
+
+        module _ (below : r .process < h .processes) where
+          -- a row without a range passes
+          pub asks-none : 1 < r .kind → 0 ≡ firstNo (rowAsked h r number)
+          asks-none l =
+              sym (asks ∙ rw (own, le-leb 1 number low, le-leb number ROWS high, lt-ltb (r .process) (h .processes) below, uses-not r l))
+
+          module _ (range : r .kind ≤ 1) (o : r .offset ≤ OFFSET-MAX) (l : r .length ≤ OFFSET-MAX) where
+            -- a row with a range: its end decides
+            ranged : firstNo (rowAsked h r number) ≡ cond (leb (r .offset + r .length) OFFSET-MAX) 0 11
+            ranged =
+                asks
+                ∙ rw (
+                  own,
+                  le-leb 1 number low,
+                  le-leb number ROWS high,
+                  lt-ltb (r .process) (h .processes) below,
+                  uses r range,
+                  le-leb (r .offset) OFFSET-MAX o,
+                  le-leb (r .length) OFFSET-MAX l,
+                )
+
+            -- 11: past the end
+            pub asks-past : OFFSET-MAX < r .offset + r .length → 11 ≡ firstNo (rowAsked h r number)
+            asks-past p = sym (ranged ∙ rw (lt-leb (r .offset + r .length) OFFSET-MAX p))
+
+            -- it passes
+            pub asks-all : r .offset + r .length ≤ OFFSET-MAX → 0 ≡ firstNo (rowAsked h r number)
+            asks-all p = sym (ranged ∙ rw (le-leb (r .offset + r .length) OFFSET-MAX p))
+
+-- ---- The first No of questions in sequence
+
+-- no question has number 0
+abbrev pub Named : List Question → Type 0
+Named [] = Unit {0}
+Named (q ∷ qs) = (q .number ≡ 0 → ⊥) × Named qs
+
+-- so where there is no first No, every answer is Yes
+pub no-none : (qs : List Question) → Named qs → firstNo qs ≡ 0 → AllYes qs
+unfolding firstNo
+no-none [] named e = tt
+no-none (q ∷ qs) named e = go (q .yes) refl (no-none qs (named .1)) e
+  where
+    go : (b : Bool) → q .yes ≡ b → (firstNo qs ≡ 0 → AllYes qs) → cond b (firstNo qs) (q .number) ≡ 0 → (q .yes ≡ true) × AllYes qs
+    go true y rest z = (y, rest z)
+    go false y rest z = absurd (named .0 z)
+
+-- behind answers that are all Yes
+pub no-behind : (ps qs : List Question) → AllYes ps → firstNo (ps ++ qs) ≡ firstNo qs
+unfolding firstNo
+no-behind [] qs y = refl
+no-behind (p ∷ ps) qs y = (λ i. cond (y .0 i) (firstNo (ps ++ qs)) (p .number)) ∙ no-behind ps qs (y .1)
+
+-- a first No stays the first before other questions
+pub no-before : (ps qs : List Question) → (firstNo ps ≡ 0 → ⊥) → firstNo (ps ++ qs) ≡ firstNo ps
+unfolding firstNo
+no-before [] qs n = absurd (n refl)
+no-before (p ∷ ps) qs n = go (p .yes) (no-before ps qs) n
+  where
+    go : (b : Bool) → ((firstNo ps ≡ 0 → ⊥) → firstNo (ps ++ qs) ≡ firstNo ps) → (cond b (firstNo ps) (p .number) ≡ 0 → ⊥) →
+        cond b (firstNo (ps ++ qs)) (p .number) ≡ cond b (firstNo ps) (p .number)
+    go true rest m = rest m
+    go false rest m = refl
+
+-- numbers of questions one after the other
+pub named-append : (ps qs : List Question) → Named ps → Named qs → Named (ps ++ qs)
+named-append [] qs m n = n
+named-append (p ∷ ps) qs m n = (m .0, named-append ps qs (m .1) n)
+
+-- every answer to the first and to the later of questions one after the other
+pub yes-parts : (ps qs : List Question) → AllYes (ps ++ qs) → AllYes ps × AllYes qs
+yes-parts [] qs y = (tt, y)
+yes-parts (p ∷ ps) qs y = let b = yes-parts ps qs (y .1) in ((y .0, b .0), b .1)
+
+-- 16 and 17 have numbers
+pub room-named : (fit : Bool) (pieces : List Run) (room : ℕ) → Named (roomAsked fit pieces room)
+room-named fit pieces room = ((λ e. omega arith), ((λ e. omega arith), tt))
+
+-- ---- A row that passes
+
+module _ (h : Header) (r : Row) (number : ℕ) where
+  -- 15, 14, 10 and 11 have numbers
+  pub row-named : Named (rowAsked h r number)
+  unfolding rowAsked
+  row-named = ((λ e. omega arith), ((λ e. omega arith), ((λ e. omega arith), ((λ e. omega arith), tt))))
+
+  -- with no first No of them, every answer is Yes
+  pub asked-yes : firstNo (rowAsked h r number) ≡ 0 → AllYes (rowAsked h r number)
+  asked-yes = no-none (rowAsked h r number) row-named
+
+  module _ (all : AllYes (rowAsked h r number)) where
+    -- a row number
+    pub asked-number : (1 ≤ number) × (number ≤ ROWS)
+    unfolding rowAsked
+    asked-number = let b = both (leb 1 number) _ (all .1 .0) in (leb-true _ _ (b .0), leb-true _ _ (b .1))
+
+    -- a process below the limit
+    pub asked-process : r .process < h .processes
+    unfolding rowAsked
+    asked-process = ltb-true _ _ (both (ltb (r .process) (h .processes)) _ (all .1 .1 .0) .0)
+
+    -- and a range that ends in time, where it is used
+    pub asked-range : r .kind ≤ 1 → (r .offset ≤ OFFSET-MAX) × (r .length ≤ OFFSET-MAX) × (r .offset + r .length ≤ OFFSET-MAX)
+    unfolding rowAsked
+    asked-range range =
+        let u = uses r range in
+        let bounds = both (leb (r .offset) OFFSET-MAX) _ (rw u at (both (ltb (r .process) (h .processes)) _ (all .1 .1 .0) .1)) in
+        (leb-true _ _ (bounds .0), leb-true _ _ (bounds .1), leb-true _ _ (rw u at (all .1 .1 .1 .0)))

@@ -1,0 +1,282 @@
+-- A replay turn by turn: what the code has done so far, and that the rest of the definition stands for what is left. Assumes nothing.
+use Prim.Native.Nat.{ℕ, zero, suc, _+_, _*_, _-_, _≤_, _<_}
+use native.Mathlib.Omega.{arith}
+use mathlib.Core.Path.{_≡_, refl, sym, ap, subst, _∙_}
+use mathlib.Core.Bool.{Bool, true, false, cond, _&&_}
+use mathlib.Core.List.{List, _++_, append-nil}
+use lib.ListN.{length, take, drop, set, length-set, length-append, length-drop, drop-of-length-le, take-append-drop}
+use lib.Seq.{length-take-le, take-all}
+use lib.Dec.{leb, eqb}
+use borrow.Author.Tests.{leb-true, eq-eqb, ne-eqb}
+use Rattle.trace.specs.declared.Row.{Row}
+use Rattle.trace.specs.Questions.{firstNo}
+use Rattle.order.specs.Clock.{rowIn}
+use Rattle.runs.proofs.Trips.{both}
+use Rattle.layers.specs.Layers.{ofFile}
+use Rattle.layers.specs.Steps.{Answer, refusing, done, listed, Step, answered}
+use Rattle.extents.specs.declared.Answer as extents
+use Rattle.extents.specs.declared.Answer.the-variants.{Done}
+use Rattle.machine.specs.Answers.{answerOf, refusalOf, countOf, Steps}
+use Rattle.machine.proofs.Keeping.{Keeps, Sound, put-sound}
+use Rattle.machine.specs.Replays.{Replay, refusalIn, countIn, putTo, tried, passed, stopped, onward, after}
+use Rattle.machine.specs.Replays.{replayQuestions, started, replayBy, Replays}
+
+-- the code's refusal is the definition's
+refusal-told : (a : Answer) → refusalOf (answerOf a) ≡ refusalIn a
+refusal-told (refusing number) = refl
+refusal-told done = refl
+refusal-told (listed count) = refl
+
+-- and so is its count of pieces
+count-told : (a : Answer) → countOf (answerOf a) ≡ countIn a
+count-told (refusing number) = refl
+count-told done = refl
+count-told (listed count) = refl
+
+-- ---- A row put to the file that it names
+
+module _ (step : List ℕ → Row → ℕ → List ℕ → Step) (file : ℕ) (xs : List ℕ) (r : Row) (number : ℕ) (out : List ℕ) where
+  -- rows of others change nothing
+  pub put-other : ofFile file r ≡ false → Steps (putTo step file xs r number out) Done xs out
+  unfolding putTo
+  put-other e = rw e (record { answered = refl; maps-left = refl; out-left = refl })
+
+  -- its own do what they do
+  pub put-own : ofFile file r ≡ true → {a : extents.Answer} {ys zs : List ℕ} → Steps (step xs r number out) a ys zs →
+      Steps (putTo step file xs r number out) a ys zs
+  unfolding putTo
+  put-own e k = rw e k
+
+-- ---- One row
+
+module _ (step : List ℕ → Row → ℕ → List ℕ → Step) (file : ℕ) (rows : List ℕ) where
+  -- a row that is refused ends the replay
+  stop-next : (n : ℕ) (s : Replay) → s .refusal ≡ 0 → (refusalIn (tried step file rows s .answer) ≡ 0 → ⊥) →
+      after step file rows (suc n) s ≡ stopped step file rows (refusalIn (tried step file rows s .answer)) s
+  unfolding after onward
+  stop-next n s e k =
+      let t = tried step file rows s in
+      let refused : onward step file rows s ≡ stopped step file rows (refusalIn (t .answer)) s =
+      λ i. cond (ne-eqb (refusalIn (t .answer)) 0 k i) (passed step file rows t s) (stopped step file rows (refusalIn (t .answer)) s) in
+      (λ i. cond (eq-eqb (s .refusal) 0 e i) (after step file rows n (onward step file rows s)) s)
+      ∙ ap (after step file rows n) refused ∙ stay n
+    where
+      stay : (n : ℕ) → after step file rows n (stopped step file rows (refusalIn (tried step file rows s .answer)) s)
+          ≡ stopped step file rows (refusalIn (tried step file rows s .answer)) s
+      stay zero = refl
+      stay (suc n) = rw (ne-eqb (refusalIn (tried step file rows s .answer)) 0 k)
+
+  -- one that is not passes
+  pass-next : (n : ℕ) (s : Replay) → s .refusal ≡ 0 → refusalIn (tried step file rows s .answer) ≡ 0 →
+      after step file rows (suc n) s ≡ after step file rows n (passed step file rows (tried step file rows s) s)
+  unfolding after onward
+  pass-next n s e k =
+      let t = tried step file rows s in
+      (λ i. cond (eq-eqb (s .refusal) 0 e i) (after step file rows n (onward step file rows s)) s)
+      ∙ ap (after step file rows n)
+      (λ i. cond (eq-eqb (refusalIn (t .answer)) 0 k i) (passed step file rows t s) (stopped step file rows (refusalIn (t .answer)) s))
+
+-- ---- Before the rows
+
+module _ (step : List ℕ → Row → ℕ → List ℕ → Step) (law₀ : Bool) (file : ℕ) (rows : List ℕ) (first n : ℕ) (maps₀ counts₀ out₀ : List ℕ) where
+  -- where the slices are long enough and the state is lawful, the rows decide
+  replay-is : leb (6 * n) (length rows) && leb n (length counts₀) ≡ true → law₀ ≡ true →
+      replayBy step law₀ file rows first n maps₀ counts₀ out₀ ≡ after step file rows (n - first) (started 0 first maps₀ counts₀ out₀)
+  unfolding replayBy replayQuestions firstNo
+  replay-is fit l =
+      λ i.
+      cond (eqb (cond (fit i) (cond (l i) 0 13) 1) 0) (after step file rows (n - first) (started 0 first maps₀ counts₀ out₀))
+      (started (cond (fit i) (cond (l i) 0 13) 1) first maps₀ counts₀ out₀)
+
+  -- else the first No answers, and nothing is changed
+  none-gone : (refusal : ℕ) → firstNo (replayQuestions law₀ n (length rows) (length counts₀)) ≡ refusal → (refusal ≡ 0 → ⊥) →
+      Replays (replayBy step law₀ file rows first n maps₀ counts₀ out₀) (record { rows = first; pieces = 0; refusal = refusal }) maps₀ counts₀ out₀
+  unfolding replayBy
+  none-gone refusal e some =
+      rw (e, ne-eqb refusal 0 some)
+      (record { refused = refl; gone = refl; listed = refl; maps-left = refl; counts-left = refl; out-left = refl })
+
+  -- 1: the slices
+  pub short : leb (6 * n) (length rows) && leb n (length counts₀) ≡ false →
+      Replays (replayBy step law₀ file rows first n maps₀ counts₀ out₀) (record { rows = first; pieces = 0; refusal = 1 }) maps₀ counts₀ out₀
+  unfolding replayQuestions firstNo
+  short fit = none-gone 1 (λ i. cond (fit i) (cond law₀ 0 13) 1) (λ z. omega arith)
+
+  -- 13: the state
+  pub unlawful : leb (6 * n) (length rows) && leb n (length counts₀) ≡ true → law₀ ≡ false →
+      Replays (replayBy step law₀ file rows first n maps₀ counts₀ out₀) (record { rows = first; pieces = 0; refusal = 13 }) maps₀ counts₀ out₀
+  unfolding replayQuestions firstNo
+  unlawful fit l = none-gone 13 (λ i. cond (fit i) (cond (l i) 0 13) 1) (λ z. omega arith)
+
+-- ---- Turns
+
+-- how far a replay is that was not refused
+abbrev so-far : List ℕ → List ℕ → List ℕ → ℕ → ℕ → Replay
+so-far maps counts out k pieces = record { refusal = 0; rows = k; pieces = pieces; maps = maps; counts = counts; out = out }
+
+-- what is left gives what the whole gives
+pub record Going {law : List ℕ → Bool} {step : List ℕ → Row → ℕ → List ℕ → Step} (sound : Sound law step) (file : ℕ) (rows : List ℕ)
+    (first n : ℕ) (maps₀ counts₀ out₀ maps counts out : List ℕ) (k pieces : ℕ) : Type 0 where
+  pub whole : replayBy step (law maps₀) file rows first n maps₀ counts₀ out₀ ≡ after step file rows (n - k) (so-far maps counts out k pieces)
+  pub lawful : law maps ≡ true
+  pub listed : 3 * pieces ≤ length out
+  pub rows-fit : 6 * n ≤ length rows
+  pub counts-fit : n ≤ length counts
+  pub maps-size : length maps ≡ length maps₀
+  pub counts-size : length counts ≡ length counts₀
+  pub out-size : length out ≡ length out₀
+
+module _ {law : List ℕ → Bool} {step : List ℕ → Row → ℕ → List ℕ → Step} {sound : Sound law step} {file : ℕ} {rows : List ℕ}
+    {first n : ℕ} {maps₀ counts₀ out₀ : List ℕ} where
+  -- before the first row
+  pub start : leb (6 * n) (length rows) && leb n (length counts₀) ≡ true → law maps₀ ≡ true →
+      Going sound file rows first n maps₀ counts₀ out₀ maps₀ counts₀ out₀ first 0
+  start fit l =
+      let b = both (leb (6 * n) (length rows)) (leb n (length counts₀)) fit in
+      record {
+        whole = replay-is step (law maps₀) file rows first n maps₀ counts₀ out₀ fit l;
+        lawful = l;
+        listed = omega arith;
+        rows-fit = leb-true _ _ (b .0);
+        counts-fit = leb-true _ _ (b .1);
+        maps-size = refl;
+        counts-size = refl;
+        out-size = refl;
+      }
+
+  module _ {maps counts out : List ℕ} {k pieces : ℕ} (g : Going sound file rows first n maps₀ counts₀ out₀ maps counts out k pieces) (less : k < n)
+      {at : ℕ} (e : at ≡ pieces * 3) {row : Row} (here : row ≡ rowIn rows k) {a : extents.Answer} {ys zs : List ℕ}
+      (put : Steps (putTo step file maps row (k + 1) (take (length out - at) (drop at out))) a ys zs) where
+    -- how far it is before the row
+    abbrev s : Replay
+    s = so-far maps counts out k pieces
+
+    -- what lies behind the pieces
+    abbrev rest : List ℕ
+    rest = drop (3 * pieces) out
+
+    -- where that begins
+    there : at ≡ 3 * pieces
+    there = omega (arith, e)
+
+    -- so it is the part lent
+    lent : take (length out - at) (drop at out) ≡ rest
+    lent =
+        let size = length-drop at out in
+        take-all (length out - at) (drop at out) (omega (arith, size)) ∙ ap (λ (m : ℕ). drop m out) there
+
+    -- what the row does
+    abbrev t : Step
+    t = tried step file rows s
+
+    -- the code puts it so
+    t-is : putTo step file maps row (k + 1) (take (length out - at) (drop at out)) ≡ t
+    t-is = let k1 : k + 1 ≡ suc k = omega arith in λ i. putTo step file maps (here i) (k1 i) (lent i)
+
+    -- it keeps what every step keeps
+    kept : Keeps law maps rest t
+    kept = put-sound sound file .each maps (rowIn rows k) (suc k) rest
+
+    -- what the code answers and leaves is told by it
+    told : Steps t a ys zs
+    told = subst (λ (u : Step). Steps u a ys zs) t-is put
+
+    -- what the part comes home to
+    home : take at out ++ (zs ++ drop (length out - at) (drop at out)) ≡ take (3 * pieces) out ++ zs
+    home =
+        let size = length-drop at out in
+        let none : length (drop at out) ≤ length out - at = omega (arith, size) in
+        (λ i. take (there i) out ++ (zs ++ drop-of-length-le (drop at out) none i))
+        ∙ ap (λ (l : List ℕ). take (3 * pieces) out ++ l) (append-nil zs)
+
+    -- one row less is left
+    next : n - k ≡ suc (n - (k + 1))
+    next = omega arith
+
+    -- the part keeps its length
+    rest-size : length zs ≡ length rest
+    rest-size = ap (λ (l : List ℕ). length l) (told .out-left) ∙ kept .size
+
+    -- and so does the slice
+    home-size : length (take (3 * pieces) out ++ zs) ≡ length out
+    home-size =
+        let p = length-append (take (3 * pieces) out) zs in
+        let q = length-take-le (3 * pieces) out (g .listed) in
+        let m = length-drop (3 * pieces) out in
+        let l = g .listed in
+        omega (arith, p, q, m, rest-size)
+
+    -- the refusal is told
+    refusal-is : refusalOf a ≡ refusalIn (t .answer)
+    refusal-is = ap refusalOf (told .answered) ∙ refusal-told (t .answer)
+
+    -- and so is the count of pieces
+    count-is : countOf a ≡ countIn (t .answer)
+    count-is = ap countOf (told .answered) ∙ count-told (t .answer)
+
+    -- a turn
+    pub turn : refusalOf a ≡ 0 → {c : ℕ} → c ≡ countOf a → length ys ≡ length maps →
+        Going sound file rows first n maps₀ counts₀ out₀ ys (set counts k c) (take at out ++ (zs ++ drop (length out - at) (drop at out)))
+        (k + 1) (pieces + c)
+    turn none {c} q same =
+        let is = q ∙ count-is in
+        let k1 : suc k ≡ k + 1 = omega arith in
+        let room = kept .room in
+        let m = length-drop (3 * pieces) out in
+        let l = g .listed in
+        let size = ap (λ (l : List ℕ). length l) home ∙ home-size in
+        let ms = sym (told .maps-left) in
+        let os = ap (λ (l : List ℕ). take (3 * pieces) out ++ l) (sym (told .out-left)) ∙ sym home in
+        let cs = sym is in
+        record {
+          whole = g .whole ∙ ap (λ (m : ℕ). after step file rows m s) next ∙ pass-next step file rows (n - (k + 1)) s refl (sym refusal-is ∙ none)
+              ∙ (λ i. after step file rows (n - (k + 1)) (so-far (ms i) (set counts k (cs i)) (os i) (k1 i) (pieces + cs i)));
+          lawful = ap law (told .maps-left) ∙ kept .lawful (g .lawful);
+          listed = omega (arith, is, room, m, l, size);
+          rows-fit = g .rows-fit;
+          counts-fit = omega (arith, length-set counts k c, g .counts-fit);
+          maps-size = same ∙ g .maps-size;
+          counts-size = length-set counts k c ∙ g .counts-size;
+          out-size = size ∙ g .out-size;
+        }
+
+    -- the answer slice keeps its length
+    pub turn-size : length (take at out ++ (zs ++ drop (length out - at) (drop at out))) ≡ length out₀
+    turn-size = ap (λ (l : List ℕ). length l) home ∙ home-size ∙ g .out-size
+
+    -- its pieces fit
+    pub turn-room : {c : ℕ} → c ≡ countOf a → 3 * (pieces + c) ≤ length out
+    turn-room {c} q =
+        let is = q ∙ count-is in
+        let room = kept .room in
+        let m = length-drop (3 * pieces) out in
+        let l = g .listed in
+        omega (arith, is, room, m, l)
+
+    -- the end at a refusal, which leaves all as it is
+    pub refused-turn : {q : ℕ} → q ≡ refusalOf a → (q ≡ 0 → ⊥) →
+        Replays (replayBy step (law maps₀) file rows first n maps₀ counts₀ out₀) (record { rows = k; pieces = pieces; refusal = q }) ys counts
+        (take at out ++ (zs ++ drop (length out - at) (drop at out)))
+    refused-turn told-so some =
+        let no : refusalIn (t .answer) ≡ 0 → ⊥ = λ z. some (told-so ∙ refusal-is ∙ z) in
+        let still = kept .stays no in
+        let ends = g .whole ∙ ap (λ (m : ℕ). after step file rows m s) next ∙ stop-next step file rows (n - (k + 1)) s refl no in
+        rw ends
+        (record {
+          refused = told-so ∙ refusal-is;
+          gone = refl;
+          listed = refl;
+          maps-left = told .maps-left ∙ still .0;
+          counts-left = refl;
+          out-left = home ∙ ap (λ (l : List ℕ). take (3 * pieces) out ++ l) (told .out-left ∙ still .1) ∙ take-append-drop (3 * pieces) out;
+        })
+
+  -- the end behind the last row
+  pub finish : {maps counts out : List ℕ} {k pieces : ℕ} → Going sound file rows first n maps₀ counts₀ out₀ maps counts out k pieces → n ≤ k →
+      Replays (replayBy step (law maps₀) file rows first n maps₀ counts₀ out₀) (record { rows = k; pieces = pieces; refusal = 0 }) maps counts out
+  unfolding after
+  finish {maps} {counts} {out} {k} {pieces} g past =
+      let none : n - k ≡ 0 = omega arith in
+      let ends = g .whole ∙ ap (λ (m : ℕ). after step file rows m (so-far maps counts out k pieces)) none in
+      rw ends
+      (record { refused = refl; gone = refl; listed = refl; maps-left = refl; counts-left = refl; out-left = refl })

@@ -1,0 +1,79 @@
+-- `machine::make_plain` meets its contract. Assumes nothing.
+use borrow.Author.Needs.{needs}
+use native.Mathlib.Omega.{arith}
+use Prim.Native.Nat.{_*_}
+use mathlib.Core.Path.{_≡_, sym, _∙_}
+use denote.Ref.{now}
+use borrow.Author.Tests.{not-true, not-false}
+use Rattle.machine.specs.Answers.{headerOf}
+use Rattle.machine.proofs.Making.{plain-short, plain-limit, plain-file, plain-made}
+use Rattle.machine.proofs.make_plain.Statement.{statement}
+use Rattle.machine.proofs.make_plain.Tie as tie
+
+cast-space : tie.Need-cast-space
+cast-space c = search needs
+
+returns : tie.Need-returns
+returns c =
+    let p3 = c .before .before .before in
+    let a = p3 .args in
+    plain-short (headerOf (a .plain)) (now (a .map)) (c .if1 .taken)
+
+is-process-limit-requires : tie.Need-is-process-limit-requires
+is-process-limit-requires c κs = tt
+
+returns-2 : tie.Need-returns-2
+returns-2 c =
+    let p2 = c .before .before in
+    let p5 = p2 .before .before .before in
+    let a = p5 .args in
+    let q = c .before .is-process-limit in
+    plain-limit (headerOf (a .plain)) (now (a .map)) (p2 .if1 .left) (sym (q .ensures) ∙ not-true (q .result) (c .if2 .taken))
+
+returns-3 : tie.Need-returns-3
+returns-3 c =
+    let p2 = c .before .before in
+    let p3 = p2 .before in
+    let p6 = p3 .before .before .before in
+    let a = p6 .args in
+    let q = p2 .is-process-limit in
+    plain-file (headerOf (a .plain)) (now (a .map)) (p3 .if1 .left) (sym (q .ensures) ∙ not-false (q .result) (c .before .if2 .left)) (c .if3 .taken)
+
+mul-clear : tie.Need-mul-clear
+mul-clear c = search needs
+
+clear-requires : tie.Need-clear-requires
+clear-requires c κs =
+    let p4 = c .before .before .before .before in
+    omega (arith, p4 .if1 .left)
+
+same-length : tie.Need-same-length
+same-length c = search needs
+
+returns-4 : tie.Need-returns-4
+returns-4 c =
+    let p2 = c .before .before in
+    let p4 = p2 .before .before in
+    let p5 = p4 .before in
+    let p6 = p5 .before in
+    let p7 = p6 .before in
+    let p10 = p7 .before .before .before in
+    let a = p10 .args in
+    let h = headerOf (a .plain) in
+    let q = p6 .is-process-limit in
+    let all : h .space * 4 ≡ 4 * h .space = omega arith in
+    plain-made h (now (a .map)) (p7 .if1 .left) (sym (q .ensures) ∙ not-false (q .result) (p5 .if2 .left)) (p4 .if3 .left) all (p2 .clear .ensures)
+
+pub make-plain-spec : {M : Type 1} → statement M
+make-plain-spec =
+    tie.close
+    (tie.spec
+    cast-space
+    returns
+    is-process-limit-requires
+    returns-2
+    returns-3
+    mul-clear
+    clear-requires
+    same-length
+    returns-4)

@@ -1,0 +1,96 @@
+-- A replay: the rows of a trace from a place on, those of the file put to it one after another, each under its number in the trace.
+use Prim.Native.Nat.{ℕ, zero, suc, _+_, _*_, _-_}
+use mathlib.Core.Path.{_≡_}
+use mathlib.Core.Bool.{Bool, cond, _&&_}
+use mathlib.Core.List.{List, [], _∷_, _++_}
+use lib.ListN.{length, take, drop, set}
+use lib.Dec.{leb, eqb}
+use Rattle.trace.specs.declared.Row.{Row}
+use Rattle.trace.specs.Questions.{Question, firstNo}
+use Rattle.order.specs.Clock.{rowIn}
+use Rattle.layers.specs.Layers.{ofFile}
+use Rattle.layers.specs.States.{Header, lawfulState, lawfulPlain}
+use Rattle.layers.specs.Steps.{Answer, refusing, done, listed, Step, stepOf, plainStepOf}
+use Rattle.machine.specs.declared.Replayed.{Replayed}
+
+-- How far a replay is: 0, or the refusal of the row that is next; the rows gone through; the pieces of its reads; and the slices it leaves.
+pub record Replay : Type 0 where
+  pub refusal : ℕ
+  pub rows : ℕ
+  pub pieces : ℕ
+  pub maps : List ℕ
+  pub counts : List ℕ
+  pub out : List ℕ
+
+abbrev pub refusalIn : Answer → ℕ
+refusalIn (refusing number) = number
+refusalIn done = 0
+refusalIn (listed count) = 0
+
+abbrev pub countIn : Answer → ℕ
+countIn (refusing number) = 0
+countIn done = 0
+countIn (listed count) = count
+
+module _ (step : List ℕ → Row → ℕ → List ℕ → Step) (file : ℕ) where
+  -- a row is put to the file that it names; other rows change nothing
+  unfoldable pub putTo : List ℕ → Row → ℕ → List ℕ → Step
+  putTo xs r number out = cond (ofFile file r) (step xs r number out) (record { answer = done; maps = xs; out = out })
+
+  module _ (rows : List ℕ) where
+    -- the row that is next; a refusal leaves all as it is
+    abbrev pub tried : Replay → Step
+    tried s = putTo (s .maps) (rowIn rows (s .rows)) (suc (s .rows)) (drop (3 * s .pieces) (s .out))
+
+    -- it counts its pieces, and a read's stand behind those of the reads before it
+    abbrev pub passed : Step → Replay → Replay
+    passed t s =
+        record {
+          refusal = 0;
+          rows = suc (s .rows);
+          pieces = s .pieces + countIn (t .answer);
+          maps = t .maps;
+          counts = set (s .counts) (s .rows) (countIn (t .answer));
+          out = take (3 * s .pieces) (s .out) ++ t .out;
+        }
+
+    abbrev pub stopped : ℕ → Replay → Replay
+    stopped refusal s =
+        record { refusal = refusal; rows = s .rows; pieces = s .pieces; maps = s .maps; counts = s .counts; out = s .out }
+
+    unfoldable pub onward : Replay → Replay
+    onward s = let t = tried s in cond (eqb (refusalIn (t .answer)) 0) (passed t s) (stopped (refusalIn (t .answer)) s)
+
+    -- n rows one after the other, none behind a refusal
+    unfoldable pub after : ℕ → Replay → Replay
+    after zero s = s
+    after (suc n) s = cond (eqb (s .refusal) 0) (after n (onward s)) s
+
+-- 1 and 13: six numbers for each row and one for its count; the state
+unfoldable pub replayQuestions : Bool → ℕ → ℕ → ℕ → List Question
+replayQuestions law n rowsLength countsLength =
+    record { number = 1; yes = leb (6 * n) rowsLength && leb n countsLength } ∷ (record { number = 13; yes = law } ∷ [])
+
+abbrev pub started : ℕ → ℕ → List ℕ → List ℕ → List ℕ → Replay
+started refusal first maps counts out = record { refusal = refusal; rows = first; pieces = 0; maps = maps; counts = counts; out = out }
+
+-- from the row behind the first ones up to row n
+unfoldable pub replayBy : (List ℕ → Row → ℕ → List ℕ → Step) → Bool → ℕ → List ℕ → ℕ → ℕ → List ℕ → List ℕ → List ℕ → Replay
+replayBy step law file rows first n maps counts out =
+    let refusal = firstNo (replayQuestions law n (length rows) (length counts)) in
+    cond (eqb refusal 0) (after step file rows (n - first) (started 0 first maps counts out)) (started refusal first maps counts out)
+
+abbrev pub replayOf : Header → List ℕ → ℕ → ℕ → List ℕ → List ℕ → List ℕ → Replay
+replayOf h rows first n maps counts out = replayBy (stepOf h) (lawfulState h maps) (h .file) rows first n maps counts out
+
+abbrev pub plainReplayOf : Header → List ℕ → ℕ → ℕ → List ℕ → List ℕ → List ℕ → Replay
+plainReplayOf h rows first n maps counts out = replayBy (plainStepOf h) (lawfulPlain h maps) (h .file) rows first n maps counts out
+
+-- what a replay answers, and what it leaves of the maps, the counts and the answer slice
+pub record Replays (s : Replay) (r : Replayed) (maps′ counts′ out′ : List ℕ) : Type 0 where
+  pub refused : r .refusal ≡ s .refusal
+  pub gone : r .rows ≡ s .rows
+  pub listed : r .pieces ≡ s .pieces
+  pub maps-left : maps′ ≡ s .maps
+  pub counts-left : counts′ ≡ s .counts
+  pub out-left : out′ ≡ s .out

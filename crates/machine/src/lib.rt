@@ -1,0 +1,232 @@
+// The layered machine of one file and the plain file: making them over a lent slice, stepping them row by row, and replaying a trace.
+ghost use Prim.Native.Nat.{_*_};
+ghost use mathlib.Core.Path.{_≡_};
+ghost use lib.ListN.{length};
+ghost use Rattle.trace.specs.Questions.{firstNo};
+ghost use Rattle.layers.specs.States.{mapsLength};
+ghost use Rattle.layers.specs.Steps.{makingQuestions, plainMakingQuestions, madeTo, stepOf, plainStepOf};
+ghost use Rattle.machine.specs.Answers.{headerOf, madeOf, Steps};
+ghost use Rattle.machine.specs.Replays.{replayOf, plainReplayOf, Replays};
+use extents::Answer;
+use trace::Row;
+
+mod asking;
+mod layered;
+mod plain;
+
+// What a machine serves: a model, processes below a limit, one file, and maps with space for so many pieces each. A plain file's model is not
+// read.
+pub struct Machine {
+    pub model: u32,
+    pub process_limit: u32,
+    pub file: u32,
+    pub map_space: u32,
+}
+
+impl Machine {
+    pub const MODELS: u32 = 4;
+
+    pub const PROCESSES: u32 = 64;
+
+    pub const FILES: u32 = 64;
+
+    pub const ROWS: u32 = 4096;
+
+    // The header of an empty machine.
+    pub fn fresh(model: u32, process_limit: u32, file: u32, map_space: u32) -> Machine
+        ensures { λ r. ⌜ headerOf r ≡ record { model = model; processes = «process_limit»; file = file; space = «map_space» } ⌝ }
+    {
+        Machine {
+            model: model,
+            process_limit: process_limit,
+            file: file,
+            map_space: map_space,
+        }
+    }
+}
+
+// A machine over the slice, or the number of the question that was answered No.
+pub enum Made {
+    Made,
+    Refused(u32),
+}
+
+// Makes a machine: 0 everywhere in its maps. A refusal changes nothing.
+pub fn make(machine: Machine, maps: &mut [u32]) -> Made
+    ensures answer { λ r. ⌜ r ≡ madeOf (firstNo (makingQuestions (headerOf machine) (length (now (maps .entry))))) ⌝ }
+    ensures left { λ r. ⌜ now (maps .exit) ≡ madeTo (firstNo (makingQuestions (headerOf machine) (length (now (maps .entry))))) (mapsLength (headerOf machine)) (now (maps .entry)) ⌝ }
+{
+    let model = machine.model;
+    let limit = machine.process_limit;
+    let file = machine.file;
+    let runs = machine.map_space as u64 * (limit as u64 + 1);
+    if ((maps.len() / 4) as u64) < runs {
+        return Made::Refused(1);
+    }
+    if Machine::MODELS <= model {
+        return Made::Refused(2);
+    }
+    if !asking::is_process_limit(limit) {
+        return Made::Refused(2);
+    }
+    if Machine::FILES <= file {
+        return Made::Refused(10);
+    }
+    asking::clear(maps, runs as usize * 4);
+    Made::Made
+}
+
+// Makes a plain file: one map, 0 everywhere in it.
+pub fn make_plain(plain: Machine, map: &mut [u32]) -> Made
+    ensures answer { λ r. ⌜ r ≡ madeOf (firstNo (plainMakingQuestions (headerOf plain) (length (now (map .entry))))) ⌝ }
+    ensures left { λ r. ⌜ now (map .exit) ≡ madeTo (firstNo (plainMakingQuestions (headerOf plain) (length (now (map .entry))))) (4 * headerOf plain .space) (now (map .entry)) ⌝ }
+{
+    let limit = plain.process_limit;
+    let file = plain.file;
+    let space = plain.map_space as usize;
+    if map.len() / 4 < space {
+        return Made::Refused(1);
+    }
+    if !asking::is_process_limit(limit) {
+        return Made::Refused(2);
+    }
+    if Machine::FILES <= file {
+        return Made::Refused(10);
+    }
+    asking::clear(map, space * 4);
+    Made::Made
+}
+
+// Puts a row of the machine's file to the machine under a row number. A read's pieces go to the answer slice.
+pub fn step(machine: Machine, maps: &mut [u32], row: Row, number: u32, out: &mut [u32]) -> Answer
+    ensures { λ r. ⌜ Steps (stepOf (headerOf machine) (now (maps .entry)) row number (now (out .entry))) r (now (maps .exit)) (now (out .exit)) ⌝ }
+{
+    if !layered::is_state(machine, maps) {
+        return Answer::Refused(13);
+    }
+    layered::advance(machine, maps, row, number, out)
+}
+
+// Puts a row of the file to the plain file under a row number.
+pub fn step_plain(plain: Machine, map: &mut [u32], row: Row, number: u32, out: &mut [u32]) -> Answer
+    ensures { λ r. ⌜ Steps (plainStepOf (headerOf plain) (now (map .entry)) row number (now (out .entry))) r (now (map .exit)) (now (out .exit)) ⌝ }
+{
+    if !plain::is_plain(plain, map) {
+        return Answer::Refused(13);
+    }
+    plain::advance(plain, map, row, number, out)
+}
+
+// How far a replay came: the rows gone through, the pieces of its reads, and 0, or the number of the question that the next row answers No.
+pub struct Replayed {
+    pub rows: u32,
+    pub pieces: usize,
+    pub refusal: u32,
+}
+
+// Puts the rows behind the first ones, up to row n, to the machine, each that names its file, under its number in the trace. The counts get the
+// count of pieces of each row, and the answer slice the pieces of all reads one after the other. A refusal ends it before that row.
+pub fn replay(
+    machine: Machine,
+    maps: &mut [u32],
+    rows: &[u32],
+    first: u32,
+    n: u32,
+    counts: &mut [u32],
+    out: &mut [u32],
+) -> Replayed
+    ensures { λ r. ⌜ Replays (replayOf (headerOf machine) (now (rows .entry)) first n (now (maps .entry)) (now (counts .entry)) (now (out .entry)))
+        r (now (maps .exit)) (now (counts .exit)) (now (out .exit)) ⌝ }
+{
+    if !asking::slices_fit(rows.len(), counts.len(), n) {
+        return Replayed {
+            rows: first,
+            pieces: 0,
+            refusal: 1,
+        };
+    }
+    if !layered::is_state(machine, maps) {
+        return Replayed {
+            rows: first,
+            pieces: 0,
+            refusal: 13,
+        };
+    }
+    let mut k = first;
+    let mut pieces = 0;
+    while k < n {
+        let row = asking::row_at(rows, k as usize);
+        let at = pieces * 3;
+        let answer = layered::put(machine, maps, row, k + 1, &mut out[at..]);
+        let refusal = asking::refusal_in(answer);
+        if refusal != 0 {
+            return Replayed {
+                rows: k,
+                pieces: pieces,
+                refusal: refusal,
+            };
+        }
+        let count = asking::count_in(answer);
+        counts[k as usize] = count;
+        pieces += count as usize;
+        k += 1;
+    }
+    Replayed {
+        rows: k,
+        pieces: pieces,
+        refusal: 0,
+    }
+}
+
+// The same for the plain file.
+pub fn replay_plain(
+    plain: Machine,
+    map: &mut [u32],
+    rows: &[u32],
+    first: u32,
+    n: u32,
+    counts: &mut [u32],
+    out: &mut [u32],
+) -> Replayed
+    ensures { λ r. ⌜ Replays (plainReplayOf (headerOf plain) (now (rows .entry)) first n (now (map .entry)) (now (counts .entry)) (now (out .entry)))
+        r (now (map .exit)) (now (counts .exit)) (now (out .exit)) ⌝ }
+{
+    if !asking::slices_fit(rows.len(), counts.len(), n) {
+        return Replayed {
+            rows: first,
+            pieces: 0,
+            refusal: 1,
+        };
+    }
+    if !plain::is_plain(plain, map) {
+        return Replayed {
+            rows: first,
+            pieces: 0,
+            refusal: 13,
+        };
+    }
+    let mut k = first;
+    let mut pieces = 0;
+    while k < n {
+        let row = asking::row_at(rows, k as usize);
+        let at = pieces * 3;
+        let answer = plain::put(plain, map, row, k + 1, &mut out[at..]);
+        let refusal = asking::refusal_in(answer);
+        if refusal != 0 {
+            return Replayed {
+                rows: k,
+                pieces: pieces,
+                refusal: refusal,
+            };
+        }
+        let count = asking::count_in(answer);
+        counts[k as usize] = count;
+        pieces += count as usize;
+        k += 1;
+    }
+    Replayed {
+        rows: k,
+        pieces: pieces,
+        refusal: 0,
+    }
+}
