@@ -1,15 +1,29 @@
 -- A packed answer leaves what the answer does. Assumes nothing.
-use Prim.Native.Nat.{ℕ}
-use mathlib.Core.Path.{_≡_, sym, ap, _∙_}
-use mathlib.Core.Bool.{Bool}
+use Prim.Native.Nat.{ℕ, _+_, _*_}
+use mathlib.Core.Path.{_≡_, refl, sym, ap, subst, _∙_}
+use mathlib.Core.Bool.{Bool, true, false, cond}
 use mathlib.Core.List.{List}
+use lib.Dec.{eqb}
+use borrow.Author.Tests.{eqb-true}
 use Rattle.order.specs.declared.Filled.{Filled}
 use Rattle.order.specs.Order.{filledOf, filledLeft}
 use Rattle.races.specs.declared.Found.{Found}
 use Rattle.races.specs.Scan.{answerOf, countsAfter}
 use Rattle.trace.specs.declared.Checked.{Checked}
 use Rattle.trace.specs.Questions.{Outcome, Leaves}
-use Rattle.kiqsaryn.specs.Packing.{packed, Gives, packedFilled, Fills, packedFound, Judges}
+use Rattle.trace.specs.Questions.{Question, firstNo}
+use Rattle.extents.specs.declared.Answer as extents
+use Rattle.extents.specs.declared.Answer.the-variants.{Done, Listed, Refused}
+use Rattle.layers.specs.States.{Header}
+use Rattle.layers.specs.Steps as steps
+use Rattle.layers.specs.Steps.{Step, madeTo}
+use Rattle.machine.specs.declared.Machine.{Machine}
+use Rattle.machine.specs.declared.Made as machine
+use Rattle.machine.specs.declared.Made.the-variants as made
+use Rattle.machine.specs.declared.Replayed.{Replayed}
+use Rattle.machine.specs.Answers.{headerOf, answerOf as answeredOf, madeOf, Steps}
+use Rattle.machine.specs.Replays.{Replay, Replays}
+use Rattle.kiqsaryn.specs.Packing.{packed, Gives, packedFilled, Fills, packedFound, Judges, Makes, packedStep, StepGives, ReplayGives}
 
 pub packs : {o : Outcome} {a b : Checked} {rows rows′ counts counts′ : List ℕ} → Leaves o a rows rows′ counts counts′ → a ≡ b →
     Gives o (packed b) rows rows′ counts counts′
@@ -22,3 +36,56 @@ packs-filled e l q = record { answered = ap packedFilled (sym q ∙ e); counts-l
 pub packs-found : {asked : Bool} {n processLimit model : ℕ} {a b : Found} {rows counts counts′ : List ℕ} → a ≡ answerOf asked rows n model →
     counts′ ≡ countsAfter asked n processLimit rows counts → a ≡ b → Judges asked n processLimit model (packedFound b) rows counts counts′
 packs-found e l q = record { answered = ap packedFound (sym q ∙ e); counts-left = l }
+
+-- ---- The machine and the plain file, under the header that was made
+
+-- the number of a refusal, 0 for none
+abbrev pub packedMade : machine.Made → ℕ
+packedMade made.Made = 0
+packedMade (made.Refused number) = number
+
+made-told : (refusal : ℕ) → packedMade (madeOf refusal) ≡ refusal
+made-told refusal = go (eqb refusal 0) refl
+  where
+    go : (b : Bool) → eqb refusal 0 ≡ b → packedMade (cond b made.Made (made.Refused refusal)) ≡ refusal
+    go true e = sym (eqb-true refusal 0 e)
+    go false e = refl
+
+pub packs-made : (questions : Header → List Question) (size : Header → ℕ) {h : Header} {m : Machine} → headerOf m ≡ h → {a b : machine.Made}
+    (xs : List ℕ) {ys : List ℕ} → a ≡ madeOf (firstNo (questions (headerOf m))) →
+    ys ≡ madeTo (firstNo (questions (headerOf m))) (size (headerOf m)) xs → a ≡ b → Makes (questions h) (size h) (packedMade b) xs ys
+packs-made questions size {h} {m} e {a} {b} xs {ys} answer left q =
+    subst (λ (k : Header). Makes (questions k) (size k) (packedMade b) xs ys) e
+    (record { answered = ap packedMade (sym q ∙ answer) ∙ made-told (firstNo (questions (headerOf m))); maps-left = left })
+
+-- the code's answer packed as the definition's
+abbrev pub packedAnswer : extents.Answer → ℕ
+packedAnswer Done = 0
+packedAnswer (Listed count) = count
+packedAnswer (Refused number) = number * 4294967296
+
+step-told : (a : steps.Answer) → packedAnswer (answeredOf a) ≡ packedStep a
+step-told (steps.refusing number) = refl
+step-told steps.done = refl
+step-told (steps.listed count) = refl
+
+pub packs-step : (step : Header → Step) {h : Header} {m : Machine} → headerOf m ≡ h → {a b : extents.Answer} {ys zs : List ℕ} →
+    Steps (step (headerOf m)) a ys zs → a ≡ b → StepGives (step h) (packedAnswer b) ys zs
+packs-step step {h} {m} e {a} {b} {ys} {zs} s q =
+    subst (λ (k : Header). StepGives (step k) (packedAnswer b) ys zs) e
+    (record {
+      answered = ap packedAnswer (sym q ∙ s .answered) ∙ step-told (step (headerOf m) .answer);
+      maps-left = s .maps-left;
+      out-left = s .out-left;
+    })
+
+pub packs-replay : (replay : Header → Replay) {h : Header} {m : Machine} → headerOf m ≡ h → {r : Replayed} {ys cs zs : List ℕ} →
+    Replays (replay (headerOf m)) r ys cs zs → ReplayGives (replay h) (r .refusal * 4294967296 + r .rows) ys cs zs
+packs-replay replay {h} {m} e {r} {ys} {cs} {zs} s =
+    subst (λ (k : Header). ReplayGives (replay k) (r .refusal * 4294967296 + r .rows) ys cs zs) e
+    (record {
+      answered = λ i. s .refused i * 4294967296 + s .gone i;
+      maps-left = s .maps-left;
+      counts-left = s .counts-left;
+      out-left = s .out-left;
+    })

@@ -11,7 +11,12 @@ use Rattle.races.specs.declared.Found.the-variants.{Free, Race, Refused as Refu
 use Rattle.races.specs.Scan.{answerOf, countsAfter}
 use Rattle.trace.specs.declared.Checked.{Checked}
 use Rattle.trace.specs.declared.Checked.the-variants.{Accepted, Refused as RefusedAt}
-use Rattle.trace.specs.Questions.{Outcome, checkedOf, rowsLeft, countsLeft}
+use Rattle.trace.specs.declared.Row.{Row}
+use Rattle.trace.specs.Questions.{Question, firstNo, Outcome, checkedOf, rowsLeft, countsLeft}
+use Rattle.layers.specs.States.{Header}
+use Rattle.layers.specs.Steps as steps
+use Rattle.layers.specs.Steps.{Step, madeTo}
+use Rattle.machine.specs.Replays.{Replay}
 
 -- the row count, or the refusal's number times 2^32 plus its place
 abbrev pub packed : Checked → ℕ
@@ -44,3 +49,35 @@ packedFound RefusedToJudge = 18446744073709551615
 pub record Judges (asked : Bool) (n processLimit model answer : ℕ) (rows counts counts′ : List ℕ) : Type 0 where
   pub answered : answer ≡ packedFound (answerOf asked rows n model)
   pub counts-left : counts′ ≡ countsAfter asked n processLimit rows counts
+
+-- ---- The machine and the plain file
+
+abbrev pub headed : ℕ → ℕ → ℕ → ℕ → Header
+headed model processLimit file mapSpace = record { model = model; processes = processLimit; file = file; space = mapSpace }
+
+abbrev pub rowed : ℕ → ℕ → ℕ → ℕ → ℕ → Row
+rowed process kind file offset size = record { process = process; kind = kind; file = file; offset = offset; length = size; message = 0 }
+
+-- what making answers and leaves: the first No, 0 for none, and zeros in the maps
+pub record Makes (questions : List Question) (size answer : ℕ) (maps maps′ : List ℕ) : Type 0 where
+  pub answered : answer ≡ firstNo questions
+  pub maps-left : maps′ ≡ madeTo (firstNo questions) size maps
+
+-- the count of pieces, 0 for a row that is no read, or a refusal's number times 2^32
+abbrev pub packedStep : steps.Answer → ℕ
+packedStep (steps.refusing number) = number * 4294967296
+packedStep steps.done = 0
+packedStep (steps.listed count) = count
+
+-- what a step answers and leaves
+pub record StepGives (s : Step) (answer : ℕ) (maps′ out′ : List ℕ) : Type 0 where
+  pub answered : answer ≡ packedStep (s .answer)
+  pub maps-left : maps′ ≡ s .maps
+  pub out-left : out′ ≡ s .out
+
+-- what a replay answers and leaves: its refusal times 2^32 plus the rows it has gone through
+pub record ReplayGives (s : Replay) (answer : ℕ) (maps′ counts′ out′ : List ℕ) : Type 0 where
+  pub answered : answer ≡ s .refusal * 4294967296 + s .rows
+  pub maps-left : maps′ ≡ s .maps
+  pub counts-left : counts′ ≡ s .counts
+  pub out-left : out′ ≡ s .out

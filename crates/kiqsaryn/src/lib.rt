@@ -1,14 +1,21 @@
 // The library for C and Rust. Numbers pass as themselves, and a slice as a pointer and then its length.
 ghost use mathlib.Core.Path.{_≡_};
+ghost use Prim.Native.Nat.{_+_, _*_};
 ghost use lib.ListN.{length};
 ghost use Rattle.trace.specs.Questions.{checkTrace};
 ghost use Rattle.order.specs.Order.{fits};
 ghost use Rattle.races.specs.Scan.{judgeable};
 ghost use Rattle.checker.specs.Report.{reportLength, reportIn};
-ghost use Rattle.kiqsaryn.specs.Packing.{Gives, Fills, Judges};
+ghost use Rattle.layers.specs.Steps.{makingQuestions, plainMakingQuestions, stepOf, plainStepOf};
+ghost use Rattle.machine.specs.Replays.{replayOf, plainReplayOf};
+ghost use Rattle.kiqsaryn.specs.Packing.{Gives, Fills, Judges, headed, rowed, Makes, StepGives, ReplayGives};
+use extents::Answer;
+use machine::Machine;
+use machine::Made;
 use order::Filled;
 use races::Found;
 use trace::Checked;
+use trace::Row;
 
 // Checks a trace, as trace::check_trace does. The answer is the row count of an accepted trace, below 2^32, and of a refusal its number
 // times 2^32 plus its place.
@@ -87,4 +94,165 @@ pub extern "C" fn kiqsaryn_report(text: &[u8], out: &mut [u8]) -> usize
     ensures left { λ r. ⌜ now (out .exit) ≡ reportIn (now (text .entry)) (now (out .entry)) ⌝ }
 {
     checker::report(text, out)
+}
+
+// Makes a machine over a slice, as machine::make does. The answer is 0, and the number of a refusal.
+#[no_mangle]
+pub extern "C" fn kiqsaryn_make(
+    model: u32,
+    process_limit: u32,
+    file: u32,
+    map_space: u32,
+    maps: &mut [u32],
+) -> u32
+    ensures { λ r. ⌜ Makes (makingQuestions (headed model «process_limit» file «map_space») (length (now (maps .entry)))) (4 * «map_space» * («process_limit» + 1)) r
+        (now (maps .entry)) (now (maps .exit)) ⌝ }
+{
+    match machine::make(Machine::fresh(model, process_limit, file, map_space), maps) {
+        Made::Made => 0,
+        Made::Refused(number) => number,
+    }
+}
+
+// Makes a plain file over a slice, as machine::make_plain does. The answer is 0, and the number of a refusal.
+#[no_mangle]
+pub extern "C" fn kiqsaryn_make_plain(
+    process_limit: u32,
+    file: u32,
+    map_space: u32,
+    map: &mut [u32],
+) -> u32
+    ensures { λ r. ⌜ Makes (plainMakingQuestions (headed 0 «process_limit» file «map_space») (length (now (map .entry)))) (4 * «map_space») r
+        (now (map .entry)) (now (map .exit)) ⌝ }
+{
+    match machine::make_plain(Machine::fresh(0, process_limit, file, map_space), map) {
+        Made::Made => 0,
+        Made::Refused(number) => number,
+    }
+}
+
+// Puts a row to a machine under a row number, as machine::step does. The answer is the count of pieces, below 2^32, 0 for a row that is no
+// read, and of a refusal its number times 2^32.
+#[no_mangle]
+pub extern "C" fn kiqsaryn_step(
+    model: u32,
+    process_limit: u32,
+    file: u32,
+    map_space: u32,
+    maps: &mut [u32],
+    process: u32,
+    kind: u32,
+    row_file: u32,
+    offset: u32,
+    size: u32,
+    number: u32,
+    out: &mut [u32],
+) -> u64
+    ensures { λ r. ⌜ StepGives (stepOf (headed model «process_limit» file «map_space») (now (maps .entry)) (rowed process kind «row_file» offset size) number (now (out .entry)))
+        r (now (maps .exit)) (now (out .exit)) ⌝ }
+{
+    let row = Row {
+        process: process,
+        kind: kind,
+        file: row_file,
+        offset: offset,
+        length: size,
+        message: 0,
+    };
+    match machine::step(
+        Machine::fresh(model, process_limit, file, map_space),
+        maps,
+        row,
+        number,
+        out,
+    ) {
+        Answer::Done => 0,
+        Answer::Listed(count) => count as u64,
+        Answer::Refused(k) => k as u64 * 4294967296,
+    }
+}
+
+// Puts a row to a plain file under a row number, as machine::step_plain does. The answer is the count of pieces, below 2^32, 0 for a row that is no
+// read, and of a refusal its number times 2^32.
+#[no_mangle]
+pub extern "C" fn kiqsaryn_step_plain(
+    process_limit: u32,
+    file: u32,
+    map_space: u32,
+    map: &mut [u32],
+    process: u32,
+    kind: u32,
+    row_file: u32,
+    offset: u32,
+    size: u32,
+    number: u32,
+    out: &mut [u32],
+) -> u64
+    ensures { λ r. ⌜ StepGives (plainStepOf (headed 0 «process_limit» file «map_space») (now (map .entry)) (rowed process kind «row_file» offset size) number (now (out .entry)))
+        r (now (map .exit)) (now (out .exit)) ⌝ }
+{
+    let row = Row {
+        process: process,
+        kind: kind,
+        file: row_file,
+        offset: offset,
+        length: size,
+        message: 0,
+    };
+    match machine::step_plain(
+        Machine::fresh(0, process_limit, file, map_space),
+        map,
+        row,
+        number,
+        out,
+    ) {
+        Answer::Done => 0,
+        Answer::Listed(count) => count as u64,
+        Answer::Refused(k) => k as u64 * 4294967296,
+    }
+}
+
+// Replays the rows behind the first ones, up to row n, as machine::replay does. The answer is how many rows it has gone through, those first ones
+// included, plus 2^32 times the number of the refusal that ended it, 0 for none.
+#[no_mangle]
+pub extern "C" fn kiqsaryn_replay(
+    model: u32,
+    process_limit: u32,
+    file: u32,
+    map_space: u32,
+    maps: &mut [u32],
+    rows: &[u32],
+    first: u32,
+    n: u32,
+    counts: &mut [u32],
+    out: &mut [u32],
+) -> u64
+    ensures { λ r. ⌜ ReplayGives (replayOf (headed model «process_limit» file «map_space») (now (rows .entry)) first n (now (maps .entry)) (now (counts .entry)) (now (out .entry)))
+        r (now (maps .exit)) (now (counts .exit)) (now (out .exit)) ⌝ }
+{
+    let header = Machine::fresh(model, process_limit, file, map_space);
+    let r = machine::replay(header, maps, rows, first, n, counts, out);
+    r.refusal as u64 * 4294967296 + r.rows as u64
+}
+
+// Replays the rows behind the first ones, up to row n, as machine::replay_plain does. The answer is how many rows it has gone through, those first ones
+// included, plus 2^32 times the number of the refusal that ended it, 0 for none.
+#[no_mangle]
+pub extern "C" fn kiqsaryn_replay_plain(
+    process_limit: u32,
+    file: u32,
+    map_space: u32,
+    map: &mut [u32],
+    rows: &[u32],
+    first: u32,
+    n: u32,
+    counts: &mut [u32],
+    out: &mut [u32],
+) -> u64
+    ensures { λ r. ⌜ ReplayGives (plainReplayOf (headed 0 «process_limit» file «map_space») (now (rows .entry)) first n (now (map .entry)) (now (counts .entry)) (now (out .entry)))
+        r (now (map .exit)) (now (counts .exit)) (now (out .exit)) ⌝ }
+{
+    let header = Machine::fresh(0, process_limit, file, map_space);
+    let r = machine::replay_plain(header, map, rows, first, n, counts, out);
+    r.refusal as u64 * 4294967296 + r.rows as u64
 }

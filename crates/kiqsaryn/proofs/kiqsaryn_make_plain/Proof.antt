@@ -1,0 +1,50 @@
+use borrow.Author.Needs.{needs}
+use Rattle.kiqsaryn.proofs.kiqsaryn_make_plain.Statement.{statement}
+use Rattle.kiqsaryn.proofs.kiqsaryn_make_plain.Tie as tie
+use Rattle.kiqsaryn.proofs.kiqsaryn_make_plain.Reads as reads
+use Rattle.kiqsaryn.proofs.kiqsaryn_make_plain.Lts as lts
+use Rattle.machine.proofs.Machine.fresh.Reads as fresh-reads
+use Rattle.machine.proofs.make_plain.Reads as make-plain-reads
+use Prim.Native.Nat.{_*_}
+use lib.ListN.{length}
+use denote.Ref.{now}
+use Rattle.layers.specs.States.{Header}
+use Rattle.layers.specs.Steps.{plainMakingQuestions}
+use Rattle.kiqsaryn.proofs.Packs.{packs-made}
+
+fresh-requires : tie.Need-fresh-requires
+fresh-requires c κs = search needs
+
+make-plain-requires : tie.Need-make-plain-requires
+make-plain-requires c κs = search needs
+
+enum-told : tie.Need-enum-told
+enum-told c = search needs
+
+enum-known-number : tie.Need-enum-known-number
+enum-known-number c = search needs
+
+same-length : tie.Need-same-length
+same-length c = search needs
+
+returns : tie.Need-returns
+returns c = packs-made (λ (h : Header). plainMakingQuestions h (length (now (c .before .before .before .before .before .before .before .before .args .map)))) (λ (h : Header). 4 * h .space) (c .before .before .before .before .before .before .fresh .ensures) (now (c .before .before .before .before .before .before .before .before .args .map)) (c .before .before .before .before .make-plain .ensures .0) (c .before .before .before .before .make-plain .ensures .1) (c .enum-told .given .1)
+
+same-length-2 : tie.Need-same-length-2
+same-length-2 c = search needs
+
+returns-2 : tie.Need-returns-2
+returns-2 c = packs-made (λ (h : Header). plainMakingQuestions h (length (now (c .before .before .before .before .before .before .before .before .before .args .map)))) (λ (h : Header). 4 * h .space) (c .before .before .before .before .before .before .before .fresh .ensures) (now (c .before .before .before .before .before .before .before .before .before .args .map)) (c .before .before .before .before .before .make-plain .ensures .0) (c .before .before .before .before .before .make-plain .ensures .1) (c .before .number .given .1)
+
+pub kiqsaryn-make-plain-spec : {M : Type 1} → statement M
+kiqsaryn-make-plain-spec =
+    tie.close
+    (tie.spec
+    fresh-requires
+    make-plain-requires
+    enum-told
+    enum-known-number
+    same-length
+    returns
+    same-length-2
+    returns-2)
