@@ -1,44 +1,82 @@
-//! The proved library, for Rust: each call takes slices as they are and is total.
+//! The proved library, for Rust. Each call takes numbers and slices as they are and is total: lengths are passed on unchanged, and whatever
+//! is not right comes back as a [`Refusal`].
 
-mod ffi {
-    extern "C" {
-        #[allow(clippy::too_many_arguments)]
-        pub fn kiqsaryn_check_trace(
-            text: *const u8,
-            text_len: usize,
-            header: u32,
-            model: u32,
-            row_limit: u32,
-            process_limit: u32,
-            byte_limit: usize,
-            rows: *mut u32,
-            rows_len: usize,
-            counts: *mut u16,
-            counts_len: usize,
-        ) -> u64;
+mod ffi;
+mod refusal;
 
-        pub fn kiqsaryn_fill_counts(
-            rows: *const u32,
-            rows_len: usize,
-            n: u32,
-            process_limit: u32,
-            counts: *mut u16,
-            counts_len: usize,
-        ) -> u32;
+pub use refusal::Refusal;
 
-        pub fn kiqsaryn_verdict(
-            rows: *const u32,
-            rows_len: usize,
-            n: u32,
-            process_limit: u32,
-            model: u32,
-            counts: *mut u16,
-            counts_len: usize,
-        ) -> u64;
+/// The largest limits that the library takes.
+pub const ROWS: u32 = 4096;
+pub const PROCESSES: u32 = 64;
+pub const FILES: u32 = 64;
 
-        pub fn kiqsaryn_report(text: *const u8, text_len: usize, out: *mut u8, out_len: usize) -> usize;
+/// A consistency model.
+#[derive(Clone, Copy, Debug, PartialEq, Eq)]
+pub enum Model {
+    Posix,
+    Commit,
+    Session,
+    MpiIo,
+}
+
+impl Model {
+    pub const ALL: [Model; 4] = [Model::Posix, Model::Commit, Model::Session, Model::MpiIo];
+
+    /// The number that the library takes.
+    pub fn number(self) -> u32 {
+        self as u32
+    }
+
+    pub fn name(self) -> &'static str {
+        match self {
+            Model::Posix => "posix",
+            Model::Commit => "commit",
+            Model::Session => "session",
+            Model::MpiIo => "mpiio",
+        }
+    }
+
+    pub fn from_name(name: &str) -> Option<Model> {
+        Self::ALL.into_iter().find(|m| m.name() == name)
     }
 }
+
+/// The kinds of rows, by their numbers.
+pub const KINDS: [&str; 8] = ["read", "write", "commit", "open", "close", "sync", "send", "recv"];
+pub const READ: u32 = 0;
+pub const WRITE: u32 = 1;
+pub const COMMIT: u32 = 2;
+pub const OPEN: u32 = 3;
+pub const CLOSE: u32 = 4;
+pub const SYNC: u32 = 5;
+pub const SEND: u32 = 6;
+pub const RECV: u32 = 7;
+
+/// A row of a trace. A field that its kind does not use is 0.
+#[derive(Clone, Copy, Debug, PartialEq, Eq, Default)]
+pub struct Row {
+    pub process: u32,
+    pub kind: u32,
+    pub file: u32,
+    pub offset: u32,
+    pub length: u32,
+    pub message: u32,
+}
+
+impl Row {
+    /// The row at a place of a slice with six numbers for each row.
+    pub fn at(rows: &[u32], k: usize) -> Option<Row> {
+        match rows.get(k.checked_mul(6)?..)? {
+            [process, kind, file, offset, length, message, ..] => {
+                Some(Row { process: *process, kind: *kind, file: *file, offset: *offset, length: *length, message: *message })
+            }
+            _ => None,
+        }
+    }
+}
+
+// ---- Traces
 
 /// What a trace comes to.
 #[derive(Clone, Copy, Debug, PartialEq, Eq)]
@@ -46,7 +84,7 @@ pub enum Checked {
     /// The number of rows.
     Accepted(u32),
     /// The question that was answered No, and the record's place: 0 for the header, rows from 1.
-    Refused { number: u32, place: u32 },
+    Refused { refusal: Refusal, place: u32 },
 }
 
 /// How a trace is to be read.
@@ -61,7 +99,12 @@ pub struct Settings {
     pub byte_limit: usize,
 }
 
-/// Reads a trace into the lent rows, six numbers each.
+/// The refusal of a number that the library answers; it answers no other.
+fn refused(number: u32) -> Refusal {
+    Refusal::from_number(number).expect("the library's refusals have a number from 1 to 17")
+}
+
+/// Reads a trace into the lent rows, six numbers each. Refusals 1 to 3 keep both slices, 4 to 12 fill them with 0.
 pub fn check_trace(text: &[u8], s: Settings, rows: &mut [u32], counts: &mut [u16]) -> Checked {
     // The three slices are live for the call, and the two lent for writing are borrowed by it alone.
     let answer = unsafe {
@@ -83,7 +126,7 @@ pub fn check_trace(text: &[u8], s: Settings, rows: &mut [u32], counts: &mut [u16
     if number == 0 {
         Checked::Accepted(value)
     } else {
-        Checked::Refused { number, place: value }
+        Checked::Refused { refusal: refused(number), place: value }
     }
 }
 
@@ -91,8 +134,7 @@ pub fn check_trace(text: &[u8], s: Settings, rows: &mut [u32], counts: &mut [u16
 /// limit past its largest value or a slice too short; the counts are then as they were.
 pub fn fill_counts(rows: &[u32], n: u32, process_limit: u32, counts: &mut [u16]) -> bool {
     // Both slices are live for the call, and the one lent for writing is borrowed by it alone.
-    let answer =
-        unsafe { ffi::kiqsaryn_fill_counts(rows.as_ptr(), rows.len(), n, process_limit, counts.as_mut_ptr(), counts.len()) };
+    let answer = unsafe { ffi::kiqsaryn_fill_counts(rows.as_ptr(), rows.len(), n, process_limit, counts.as_mut_ptr(), counts.len()) };
     answer == 1
 }
 
@@ -101,7 +143,10 @@ pub fn fill_counts(rows: &[u32], n: u32, process_limit: u32, counts: &mut [u16])
 pub enum Verdict {
     Free,
     /// The row numbers of the first race.
-    Race { earlier: u32, later: u32 },
+    Race {
+        earlier: u32,
+        later: u32,
+    },
     /// A limit or the model past its largest value, a slice too short, or a process not below the limit.
     Refused,
 }
@@ -109,8 +154,7 @@ pub enum Verdict {
 /// The verdict on the first `n` rows under a model; the counts are filled on the way, and kept where the call refuses.
 pub fn verdict(rows: &[u32], n: u32, process_limit: u32, model: u32, counts: &mut [u16]) -> Verdict {
     // Both slices are live for the call, and the one lent for writing is borrowed by it alone.
-    let answer =
-        unsafe { ffi::kiqsaryn_verdict(rows.as_ptr(), rows.len(), n, process_limit, model, counts.as_mut_ptr(), counts.len()) };
+    let answer = unsafe { ffi::kiqsaryn_verdict(rows.as_ptr(), rows.len(), n, process_limit, model, counts.as_mut_ptr(), counts.len()) };
     match answer {
         0 => Verdict::Free,
         u64::MAX => Verdict::Refused,
@@ -125,4 +169,164 @@ pub fn report(text: &[u8]) -> Vec<u8> {
     let n = unsafe { ffi::kiqsaryn_report(text.as_ptr(), text.len(), out.as_mut_ptr(), out.len()) };
     out.truncate(n);
     out
+}
+
+// ---- The machine and the plain file
+
+/// What a machine or a plain file serves. A plain file has no model.
+#[derive(Clone, Copy, Debug, PartialEq, Eq)]
+pub struct Header {
+    pub process_limit: u32,
+    pub file: u32,
+    /// How many runs each map has space for, four numbers each.
+    pub map_space: u32,
+}
+
+impl Header {
+    /// How many numbers the maps of a machine take; `None` where no slice can be so long.
+    pub fn maps_len(self) -> Option<usize> {
+        let runs = u128::from(self.map_space) * (u128::from(self.process_limit) + 1);
+        usize::try_from(runs * 4).ok()
+    }
+
+    /// How many numbers the map of a plain file takes.
+    pub fn map_len(self) -> Option<usize> {
+        usize::try_from(u128::from(self.map_space) * 4).ok()
+    }
+}
+
+fn made(number: u32) -> Result<(), Refusal> {
+    match number {
+        0 => Ok(()),
+        _ => Err(refused(number)),
+    }
+}
+
+fn stepped(answer: u64) -> Result<u32, Refusal> {
+    match (answer >> 32) as u32 {
+        0 => Ok(answer as u32),
+        number => Err(refused(number)),
+    }
+}
+
+/// Makes a machine over a slice: 0 everywhere in its maps, and nothing behind them is touched.
+pub fn make(model: u32, h: Header, maps: &mut [u32]) -> Result<(), Refusal> {
+    // The slice is live for the call and borrowed by it alone.
+    made(unsafe { ffi::kiqsaryn_make(model, h.process_limit, h.file, h.map_space, maps.as_mut_ptr(), maps.len()) })
+}
+
+/// Makes a plain file over a slice.
+pub fn make_plain(h: Header, map: &mut [u32]) -> Result<(), Refusal> {
+    // The slice is live for the call and borrowed by it alone.
+    made(unsafe { ffi::kiqsaryn_make_plain(h.process_limit, h.file, h.map_space, map.as_mut_ptr(), map.len()) })
+}
+
+/// Puts a row to a machine under a row number. A read's pieces (start, length, row number) go to the front of the answer slice, and their
+/// count is the answer; it is 0 for any other row. A refusal changes nothing.
+pub fn step(model: u32, h: Header, maps: &mut [u32], row: Row, number: u32, out: &mut [u32]) -> Result<u32, Refusal> {
+    // Both slices are live for the call and borrowed by it alone.
+    stepped(unsafe {
+        ffi::kiqsaryn_step(
+            model,
+            h.process_limit,
+            h.file,
+            h.map_space,
+            maps.as_mut_ptr(),
+            maps.len(),
+            row.process,
+            row.kind,
+            row.file,
+            row.offset,
+            row.length,
+            number,
+            out.as_mut_ptr(),
+            out.len(),
+        )
+    })
+}
+
+/// The same for a plain file.
+pub fn step_plain(h: Header, map: &mut [u32], row: Row, number: u32, out: &mut [u32]) -> Result<u32, Refusal> {
+    // Both slices are live for the call and borrowed by it alone.
+    stepped(unsafe {
+        ffi::kiqsaryn_step_plain(
+            h.process_limit,
+            h.file,
+            h.map_space,
+            map.as_mut_ptr(),
+            map.len(),
+            row.process,
+            row.kind,
+            row.file,
+            row.offset,
+            row.length,
+            number,
+            out.as_mut_ptr(),
+            out.len(),
+        )
+    })
+}
+
+/// How far a replay came.
+#[derive(Clone, Copy, Debug, PartialEq, Eq)]
+pub struct Replayed {
+    /// The rows gone through, the first ones that were left out included.
+    pub rows: u32,
+    /// The refusal of the next row, or of the call: 1 for a short slice, 13 for an unlawful state.
+    pub refusal: Option<Refusal>,
+}
+
+impl Replayed {
+    fn of(answer: u64) -> Replayed {
+        let number = (answer >> 32) as u32;
+        Replayed { rows: answer as u32, refusal: if number == 0 { None } else { Some(refused(number)) } }
+    }
+}
+
+/// Puts the rows behind the first ones, up to row `n`, to a machine, each that names its file, under its number in the trace. `counts[k]` gets
+/// the count of pieces of row k + 1, and `out` the pieces of all reads one after the other. A refusal ends it before that row, with the state
+/// and slices as the rows before it left them, so that it can be taken up again from there.
+#[allow(clippy::too_many_arguments)]
+pub fn replay(model: u32, h: Header, maps: &mut [u32], rows: &[u32], first: u32, n: u32, counts: &mut [u32], out: &mut [u32]) -> Replayed {
+    // The slices are live for the call, and those lent for writing are borrowed by it alone.
+    Replayed::of(unsafe {
+        ffi::kiqsaryn_replay(
+            model,
+            h.process_limit,
+            h.file,
+            h.map_space,
+            maps.as_mut_ptr(),
+            maps.len(),
+            rows.as_ptr(),
+            rows.len(),
+            first,
+            n,
+            counts.as_mut_ptr(),
+            counts.len(),
+            out.as_mut_ptr(),
+            out.len(),
+        )
+    })
+}
+
+/// The same for a plain file.
+pub fn replay_plain(h: Header, map: &mut [u32], rows: &[u32], first: u32, n: u32, counts: &mut [u32], out: &mut [u32]) -> Replayed {
+    // The slices are live for the call, and those lent for writing are borrowed by it alone.
+    Replayed::of(unsafe {
+        ffi::kiqsaryn_replay_plain(
+            h.process_limit,
+            h.file,
+            h.map_space,
+            map.as_mut_ptr(),
+            map.len(),
+            rows.as_ptr(),
+            rows.len(),
+            first,
+            n,
+            counts.as_mut_ptr(),
+            counts.len(),
+            out.as_mut_ptr(),
+            out.len(),
+        )
+    })
 }

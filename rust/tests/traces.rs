@@ -1,6 +1,6 @@
 //! Every vector of `vectors/traces.txt`: the answer and both slices whole.
 
-use kiqsaryn::{check_trace, fill_counts, verdict, Checked, Settings, Verdict};
+use kiqsaryn::{check_trace, fill_counts, verdict, Checked, Refusal, Settings, Verdict};
 
 fn bytes(hex: &str) -> Vec<u8> {
     if hex == "-" {
@@ -46,7 +46,8 @@ fn every_trace_vector() {
         let v = |k: usize| a[k].parse::<u32>().expect("a number");
         if a[1] == "refused" {
             let (number, place) = (v(2), v(3));
-            assert_eq!(got, Checked::Refused { number, place }, "vector {}", w[1]);
+            let refusal = Refusal::from_number(number).expect("a refusal");
+            assert_eq!(got, Checked::Refused { refusal, place }, "vector {}", w[1]);
             let left = if number <= 3 { fill } else { 0 };
             assert!(rows.iter().all(|x| *x == left), "rows of vector {}", w[1]);
             assert!(counts.iter().all(|x| u32::from(*x) == left), "counts of vector {}", w[1]);

@@ -1,0 +1,42 @@
+/* Trace B through the library for C, from its text to the verdicts, and its read replayed on a machine for session and on the plain file. */
+#include "kiqsaryn.h"
+#include <stdio.h>
+#include <string.h>
+
+enum { ROWS = 16, PROCESSES = 2, SPACE = 4 };
+
+static const char *const names[4] = {"posix", "commit", "session", "mpiio"};
+
+int main(void) {
+    const char *text = "process,kind,file,offset,length,message\r\n"
+                       "0,write,1,0,10,\r\n0,commit,1,,,\r\n0,send,,,,7\r\n1,recv,,,,7\r\n1,read,1,5,10,\r\n";
+    uint32_t rows[6 * ROWS], seen[ROWS], maps[4 * SPACE * (PROCESSES + 1)], map[4 * SPACE], pieces[3 * 8];
+    uint16_t counts[ROWS * PROCESSES];
+
+    uint64_t checked =
+        kiqsaryn_check_trace((const uint8_t *)text, strlen(text), 1, 1, ROWS, PROCESSES, SIZE_MAX, rows, 6 * ROWS, counts, ROWS * PROCESSES);
+    if (checked >> 32) {
+        printf("refused %u at %u\n", (unsigned)(checked >> 32), (unsigned)checked);
+        return 2;
+    }
+    uint32_t n = (uint32_t)checked;
+    printf("%u rows\n", (unsigned)n);
+    for (uint32_t model = 0; model < 4; model++) {
+        uint64_t found = kiqsaryn_verdict(rows, 6 * ROWS, n, PROCESSES, model, counts, ROWS * PROCESSES);
+        if (found == 0)
+            printf("%s free\n", names[model]);
+        else
+            printf("%s race %u %u\n", names[model], (unsigned)(found >> 32), (unsigned)found);
+    }
+    if (kiqsaryn_make(2, PROCESSES, 1, SPACE, maps, 4 * SPACE * (PROCESSES + 1)) || kiqsaryn_make_plain(PROCESSES, 1, SPACE, map, 4 * SPACE))
+        return 2;
+    if (kiqsaryn_replay(2, PROCESSES, 1, SPACE, maps, 4 * SPACE * (PROCESSES + 1), rows, 6 * ROWS, 0, n, seen, ROWS, pieces, 24) != n)
+        return 2;
+    for (uint32_t i = 0; i < seen[4]; i++)
+        printf("session: %u bytes from %u are of row %u\n", (unsigned)pieces[3 * i + 1], (unsigned)pieces[3 * i], (unsigned)pieces[3 * i + 2]);
+    if (kiqsaryn_replay_plain(PROCESSES, 1, SPACE, map, 4 * SPACE, rows, 6 * ROWS, 0, n, seen, ROWS, pieces, 24) != n)
+        return 2;
+    for (uint32_t i = 0; i < seen[4]; i++)
+        printf("plain: %u bytes from %u are of row %u\n", (unsigned)pieces[3 * i + 1], (unsigned)pieces[3 * i], (unsigned)pieces[3 * i + 2]);
+    return 0;
+}

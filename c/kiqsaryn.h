@@ -1,0 +1,78 @@
+/* The proved library for C. Link target/staticlib/libkiqsaryn.a, which `rt staticlib kiqsaryn` writes.
+ *
+ * Every call is total: it ends for all numbers and for all lengths of slices, and reads and writes nothing outside them. A slice is a pointer
+ * and then how many elements it has; the pointer must not be null and must be aligned, also where the length is 0, and a slice lent for
+ * writing must not overlap another one of the call. The contracts stand in crates/kiqsaryn/src/lib.rt.
+ *
+ * Models: 0 POSIX, 1 commit, 2 session, 3 MPI-IO. Kinds: 0 read, 1 write, 2 commit, 3 open, 4 close, 5 sync, 6 send, 7 recv. A row is six
+ * numbers: process, kind, file, offset, length, message. A piece is three: start, length, row number (0 for unwritten bytes). A run is four:
+ * start, length, row number, mark (1 while unpublished).
+ *
+ * Refusals, the first question that is answered No:
+ *   1 slices long enough          7 six fields                      13 lawful state
+ *   2 limits                      8 a known kind                    14 row number 1 to 4,096
+ *   3 header word 0 or 1          9 used fields filled, others not  15 a row of this file that is no send or recv
+ *   4 record well formed         10 numbers plain and in range      16 every map fits its space
+ *   5 the header's six names     11 offset + length                 17 the pieces fit the answer slice
+ *   6 row and byte limit         12 messages in order
+ */
+#ifndef KIQSARYN_H
+#define KIQSARYN_H
+
+#include <stddef.h>
+#include <stdint.h>
+
+#ifdef __cplusplus
+extern "C" {
+#endif
+
+/* Reads a trace into `rows`, six numbers each. `header` is 1 where the first record is the header and 0 where it is row 1; no byte past
+ * `byte_limit` is looked at (SIZE_MAX for none). The answer is the row count, below 2^32, or a refusal's number times 2^32 plus the record's
+ * place (0 for the header, rows from 1). `rows` takes 6 * row_limit numbers and `counts` row_limit * process_limit. Refusals 1 to 3 keep both;
+ * 4 to 12 fill them with 0; an accepted trace clears what lies behind its rows, and the counts. */
+uint64_t kiqsaryn_check_trace(const uint8_t *text, size_t text_len, uint32_t header, uint32_t model, uint32_t row_limit, uint32_t process_limit,
+                              size_t byte_limit, uint32_t *rows, size_t rows_len, uint16_t *counts, size_t counts_len);
+
+/* Fills the happens-before counts of the first n rows, process_limit each: how many rows of each process happen before the row or are it.
+ * The answer is 1, or 0 where a limit is too large or a slice too short, and then nothing changes. */
+uint32_t kiqsaryn_fill_counts(const uint32_t *rows, size_t rows_len, uint32_t n, uint32_t process_limit, uint16_t *counts, size_t counts_len);
+
+/* The verdict on the first n rows under a model, with the counts filled on the way. The answer is 0 for free, the earlier row's number times
+ * 2^32 plus the later row's for the first race, and 2^64 - 1 where it cannot judge (a model, limit or process too large, a slice too short),
+ * and then nothing changes. */
+uint64_t kiqsaryn_verdict(const uint32_t *rows, size_t rows_len, uint32_t n, uint32_t process_limit, uint32_t model, uint16_t *counts,
+                          size_t counts_len);
+
+/* What the program verdict prints of a trace with header, put at the front of a slice of 256 bytes or more. The answer is its length, and 0
+ * for a shorter slice. */
+size_t kiqsaryn_report(const uint8_t *text, size_t text_len, uint8_t *out, size_t out_len);
+
+/* Makes a machine over 4 * map_space * (process_limit + 1) numbers, or a plain file over 4 * map_space: 0 everywhere in its maps; what lies
+ * behind them is not touched. The answer is 0, or the number of a refusal (1, 2 or 10), which changes nothing. */
+uint32_t kiqsaryn_make(uint32_t model, uint32_t process_limit, uint32_t file, uint32_t map_space, uint32_t *maps, size_t maps_len);
+uint32_t kiqsaryn_make_plain(uint32_t process_limit, uint32_t file, uint32_t map_space, uint32_t *map, size_t map_len);
+
+/* Puts a row to a machine or a plain file under a row number. The answer is the count of a read's pieces, below 2^32, which stand at the front
+ * of `out`; 0 for any other row; or a refusal's number (13, 15, 14, 10, 11, 16 or 17) times 2^32, which changes nothing. */
+uint64_t kiqsaryn_step(uint32_t model, uint32_t process_limit, uint32_t file, uint32_t map_space, uint32_t *maps, size_t maps_len,
+                       uint32_t process, uint32_t kind, uint32_t row_file, uint32_t offset, uint32_t size, uint32_t number, uint32_t *out,
+                       size_t out_len);
+uint64_t kiqsaryn_step_plain(uint32_t process_limit, uint32_t file, uint32_t map_space, uint32_t *map, size_t map_len, uint32_t process,
+                             uint32_t kind, uint32_t row_file, uint32_t offset, uint32_t size, uint32_t number, uint32_t *out, size_t out_len);
+
+/* Puts the rows behind the first ones, up to row n, to a machine or a plain file, each that names its file, under its number in the trace.
+ * counts[k] gets the count of pieces of row k + 1, and `out` the pieces of all reads one after the other. The answer is how many rows it has
+ * gone through, those first ones included, plus 2^32 times the number of the refusal that ended it before the next row, 0 for none. Then the
+ * state and the slices are as the rows before it left them, and it can be taken up again from there. 1: `rows` has fewer than 6 * n numbers or
+ * `counts` fewer than n; 13: the state is not lawful. */
+uint64_t kiqsaryn_replay(uint32_t model, uint32_t process_limit, uint32_t file, uint32_t map_space, uint32_t *maps, size_t maps_len,
+                         const uint32_t *rows, size_t rows_len, uint32_t first, uint32_t n, uint32_t *counts, size_t counts_len, uint32_t *out,
+                         size_t out_len);
+uint64_t kiqsaryn_replay_plain(uint32_t process_limit, uint32_t file, uint32_t map_space, uint32_t *map, size_t map_len, const uint32_t *rows,
+                               size_t rows_len, uint32_t first, uint32_t n, uint32_t *counts, size_t counts_len, uint32_t *out, size_t out_len);
+
+#ifdef __cplusplus
+}
+#endif
+
+#endif

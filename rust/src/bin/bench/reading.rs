@@ -1,0 +1,293 @@
+//! Reading a trace, next to a parser that goes over the bytes once and copies none.
+
+use crate::{timed, Case, Timed, SIZES};
+use kiqsaryn::{check_trace, Checked, Settings, KINDS, READ, RECV, SEND, WRITE};
+use std::hint::black_box;
+
+// ---- The plain version
+
+/// A field's bytes without its outer quotes. Where a quote is among them the field is no name, no kind and no number.
+type Field<'a> = &'a [u8];
+
+const NAMES: [&[u8]; 6] = [b"process", b"kind", b"file", b"offset", b"length", b"message"];
+
+const TEXT: [bool; 256] = {
+    let mut table = [false; 256];
+    let mut b = 0x20;
+    while b < 0x7F {
+        table[b] = b != b'"' as usize && b != b',' as usize;
+        b += 1;
+    }
+    table
+};
+
+/// The fields of the record at a place, how many there are, and the place behind it; or 4, or 6 where the byte limit is met.
+fn record<'a>(text: &'a [u8], cut: bool, mut i: usize, fields: &mut [Field<'a>; 6]) -> Result<(usize, usize), u32> {
+    let short = if cut { 6 } else { 4 };
+    let mut n = 0;
+    loop {
+        let field;
+        if text.get(i) == Some(&b'"') {
+            let start = i + 1;
+            i = start;
+            loop {
+                match text.get(i) {
+                    Some(b'"') if text.get(i + 1) == Some(&b'"') => i += 2,
+                    Some(b'"') => break,
+                    Some(b) if TEXT[*b as usize] || matches!(b, b',' | b'\r' | b'\n') => i += 1,
+                    Some(_) => return Err(4),
+                    None => return Err(short),
+                }
+            }
+            field = &text[start..i];
+            i += 1;
+        } else {
+            let start = i;
+            while text.get(i).is_some_and(|b| TEXT[*b as usize]) {
+                i += 1;
+            }
+            field = &text[start..i];
+        }
+        if n < 6 {
+            fields[n] = field;
+        }
+        n += 1;
+        match text.get(i) {
+            Some(b',') => i += 1,
+            Some(b'\r') => match text.get(i + 1) {
+                Some(b'\n') => return Ok((n, i + 2)),
+                Some(_) => return Err(4),
+                None => return Err(short),
+            },
+            Some(_) => return Err(4),
+            None if cut => return Err(6),
+            None => return Ok((n, i)),
+        }
+    }
+}
+
+fn number(field: Field, most: u32) -> Result<u32, u32> {
+    match field {
+        [b'0'] => Ok(0),
+        [b'1'..=b'9', ..] => {
+            let mut value = 0u64;
+            for b in field {
+                if !b.is_ascii_digit() {
+                    return Err(10);
+                }
+                value = 10 * value + u64::from(b - b'0');
+                if value > u64::from(most) {
+                    return Err(10);
+                }
+            }
+            Ok(value as u32)
+        }
+        _ => Err(10),
+    }
+}
+
+/// Where messages were sent and received: in a table by message, or found among the rows before as the library does.
+trait Messages {
+    fn sender(&self, rows: &[u32], message: u32) -> Option<u32>;
+    fn received(&self, rows: &[u32], message: u32) -> bool;
+    fn note(&mut self, kind: u32, process: u32, message: u32);
+}
+
+struct Table(Vec<u8>);
+
+impl Messages for Table {
+    fn sender(&self, _: &[u32], message: u32) -> Option<u32> {
+        self.0.get(message as usize).filter(|x| **x != 0).map(|x| u32::from(x & 127) - 1)
+    }
+
+    fn received(&self, _: &[u32], message: u32) -> bool {
+        self.0.get(message as usize).is_some_and(|x| x & 128 != 0)
+    }
+
+    fn note(&mut self, kind: u32, process: u32, message: u32) {
+        self.0.resize(65_536, 0);
+        self.0[message as usize] |= if kind == SEND { process as u8 + 1 } else { 128 };
+    }
+}
+
+struct Scan;
+
+impl Messages for Scan {
+    fn sender(&self, rows: &[u32], message: u32) -> Option<u32> {
+        rows.chunks_exact(6).find(|row| row[1] == SEND && row[5] == message).map(|row| row[0])
+    }
+
+    fn received(&self, rows: &[u32], message: u32) -> bool {
+        rows.chunks_exact(6).any(|row| row[1] == RECV && row[5] == message)
+    }
+
+    fn note(&mut self, _: u32, _: u32, _: u32) {}
+}
+
+fn row(f: &[Field; 6], s: Settings, rows: &[u32], messages: &mut impl Messages) -> Result<[u32; 6], u32> {
+    let kind = match f[1] {
+        b"read" => 0,
+        b"write" => 1,
+        b"commit" => 2,
+        b"open" => 3,
+        b"close" => 4,
+        b"sync" => 5,
+        b"send" => 6,
+        b"recv" => 7,
+        _ => return Err(8),
+    };
+    let filled = |k: usize| !f[k].is_empty();
+    let mut row = [0, kind, 0, 0, 0, 0];
+    match kind {
+        READ | WRITE => {
+            if !filled(0) || !filled(2) || !filled(3) || !filled(4) || filled(5) {
+                return Err(9);
+            }
+            row[0] = number(f[0], s.process_limit - 1)?;
+            row[2] = number(f[2], 63)?;
+            row[3] = number(f[3], u32::MAX)?;
+            row[4] = number(f[4], u32::MAX)?;
+            row[3].checked_add(row[4]).ok_or(11u32)?;
+        }
+        SEND | RECV => {
+            if !filled(0) || filled(2) || filled(3) || filled(4) || !filled(5) {
+                return Err(9);
+            }
+            row[0] = number(f[0], s.process_limit - 1)?;
+            row[5] = number(f[5], 65_535)?;
+            let sender = messages.sender(rows, row[5]);
+            let right = match kind {
+                SEND => sender.is_none(),
+                _ => sender.is_some_and(|p| p != row[0]) && !messages.received(rows, row[5]),
+            };
+            if !right {
+                return Err(12);
+            }
+            messages.note(kind, row[0], row[5]);
+        }
+        _ => {
+            if !filled(0) || !filled(2) || filled(3) || filled(4) || filled(5) {
+                return Err(9);
+            }
+            row[0] = number(f[0], s.process_limit - 1)?;
+            row[2] = number(f[2], 63)?;
+        }
+    }
+    Ok(row)
+}
+
+fn read_rows(text: &[u8], s: Settings, rows: &mut [u32], messages: &mut impl Messages) -> Result<usize, (u32, usize)> {
+    let cut = text.len() > s.byte_limit;
+    let text = &text[..text.len().min(s.byte_limit)];
+    let mut fields = [Field::default(); 6];
+    let (mut i, mut n) = (0, 0);
+    if s.header == 1 {
+        if text.is_empty() {
+            return Err((5, 0));
+        }
+        let (count, behind) = record(text, cut, 0, &mut fields).map_err(|x| (if x == 6 { 5 } else { x }, 0))?;
+        if count != 6 || fields.iter().zip(NAMES).any(|(f, name)| *f != name) {
+            return Err((5, 0));
+        }
+        i = behind;
+    }
+    while i < text.len() || cut {
+        let (count, behind) = record(text, cut, i, &mut fields).map_err(|x| (x, n + 1))?;
+        if n >= s.row_limit as usize {
+            return Err((6, n + 1));
+        }
+        if count != 6 {
+            return Err((7, n + 1));
+        }
+        let (front, rest) = rows.split_at_mut(6 * n);
+        let row = row(&fields, s, front, messages).map_err(|x| (x, n + 1))?;
+        rest[..6].copy_from_slice(&row);
+        n += 1;
+        i = behind;
+    }
+    Ok(n)
+}
+
+#[inline(never)]
+fn plain(text: &[u8], s: Settings, rows: &mut [u32], counts: &mut [u16], messages: &mut impl Messages) -> Result<usize, (u32, usize)> {
+    if (rows.len() as u64) < 6 * u64::from(s.row_limit) || (counts.len() as u64) < u64::from(s.row_limit) * u64::from(s.process_limit) {
+        return Err((1, 0));
+    }
+    if s.model > 3 || !(1..=4096).contains(&s.row_limit) || !(1..=64).contains(&s.process_limit) {
+        return Err((2, 0));
+    }
+    if s.header > 1 {
+        return Err((3, 0));
+    }
+    counts.fill(0);
+    let answer = read_rows(text, s, rows, messages);
+    rows[6 * answer.unwrap_or(0)..].fill(0);
+    answer
+}
+
+// ---- Texts
+
+/// Six fields of a row, the unused ones empty.
+fn line(process: usize, kind: u32, numbers: [Option<usize>; 4], quoted: bool) -> String {
+    let empty = String::new;
+    let mut fields = vec![process.to_string(), KINDS[kind as usize].to_string()];
+    fields.extend(numbers.map(|x| x.map_or_else(empty, |x| x.to_string())));
+    if quoted {
+        fields.iter_mut().for_each(|field| *field = format!("\"{field}\""));
+    }
+    fields.join(",") + "\r\n"
+}
+
+fn text(shape: &str, rows: usize) -> Vec<u8> {
+    let mut text = String::from("process,kind,file,offset,length,message\r\n");
+    for i in 0..rows {
+        let (p, quoted) = (i / 4 % 64, shape == "quoted fields");
+        let data = [Some(p % 8), Some(i * 48_271 % 2_147_483_647), Some(4096), None];
+        text += &match (shape, i % 4) {
+            ("messages", 0) => line(p, WRITE, data, false),
+            ("messages", 1) => line(p, 2, [Some(p % 8), None, None, None], false),
+            ("messages", 2) => line(p, SEND, [None, None, None, Some(i / 4)], false),
+            ("messages", _) => line((p + 1) % 64, RECV, [None, None, None, Some(i / 4)], false),
+            (_, k) => line(p, [WRITE, READ, WRITE, 2][k], if k == 3 { [data[0], None, None, None] } else { data }, quoted),
+        };
+    }
+    text.into_bytes()
+}
+
+fn case(shape: &'static str, n: usize) -> Timed {
+    let text = text(shape, n);
+    let s = Settings { header: 1, model: 1, row_limit: n as u32, process_limit: 64, byte_limit: usize::MAX };
+    let lent = move || (vec![7u32; 6 * n], vec![7u16; 64 * n]);
+    let [(mut rows, mut counts), (mut table_rows, mut table_counts), (mut scan_rows, mut scan_counts)] = [lent(), lent(), lent()];
+    let [ours, table, scan, all] = [text.clone(), text.clone(), text.clone(), text];
+    Timed {
+        library: Box::new(move || timed(|| check_trace(black_box(&ours), s, &mut rows, &mut counts))),
+        plain: vec![
+            (
+                "one pass",
+                Box::new(move || timed(|| plain(black_box(&table), s, &mut table_rows, &mut table_counts, &mut Table(Vec::new())))),
+            ),
+            (
+                "one pass, messages scanned",
+                Box::new(move || timed(|| plain(black_box(&scan), s, &mut scan_rows, &mut scan_counts, &mut Scan))),
+            ),
+        ],
+        same: Box::new(move || {
+            let [mut a, mut b, mut c] = [lent(), lent(), lent()];
+            let answer = check_trace(&all, s, &mut a.0, &mut a.1);
+            assert_eq!(answer, Checked::Accepted(n as u32));
+            assert_eq!(plain(&all, s, &mut b.0, &mut b.1, &mut Table(Vec::new())), Ok(n));
+            assert_eq!(plain(&all, s, &mut c.0, &mut c.1, &mut Scan), Ok(n));
+            assert!(a == b && a == c);
+            None
+        }),
+    }
+}
+
+pub fn cases() -> Vec<Case> {
+    let mut all = Vec::new();
+    for shape in ["data rows", "quoted fields", "messages"] {
+        all.extend(SIZES.map(|rows| Case { name: shape.to_string(), rows, make: Box::new(move || case(shape, rows)) }));
+    }
+    all
+}

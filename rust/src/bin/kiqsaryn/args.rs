@@ -1,0 +1,194 @@
+//! The command line.
+
+use kiqsaryn::{Model, FILES, PROCESSES};
+use std::ffi::OsString;
+use std::path::PathBuf;
+
+#[derive(Clone, Copy, Debug, PartialEq, Eq)]
+pub enum Topic {
+    All,
+    Check,
+    Replay,
+    Diagram,
+}
+
+pub enum Source {
+    Standard,
+    Path(PathBuf),
+}
+
+/// What every command is told of a trace.
+pub struct Common {
+    pub trace: Source,
+    pub header: bool,
+    pub processes: u32,
+}
+
+pub enum Request {
+    Help(Topic),
+    Version,
+    Check { common: Common, models: Vec<Model>, csv: bool },
+    Replay { common: Common, file: u32, model: Model },
+    Diagram { common: Common, model: Model, output: Option<PathBuf> },
+}
+
+/// The options as they were given, not yet held against the command.
+#[derive(Default)]
+struct Given {
+    trace: Option<OsString>,
+    header: Option<OsString>,
+    processes: Option<OsString>,
+    model: Option<OsString>,
+    file: Option<OsString>,
+    output: Option<OsString>,
+    csv: bool,
+    help: bool,
+}
+
+const WHY_HEADER: &str = "say --header yes or --header no
+  yes: the first record holds the names process,kind,file,offset,length,message
+  no:  the first record is row 1
+It is never guessed: a first row taken for a header would be lost, and a
+header taken for a row would be refused or shift every row number.";
+
+/// Splits `--name=value`; a name alone has no value yet.
+fn split(arg: &str) -> (&str, Option<OsString>) {
+    match arg.split_once('=') {
+        Some((name, value)) if name.starts_with("--") => (name, Some(OsString::from(value))),
+        _ => (arg, None),
+    }
+}
+
+fn gather(args: impl Iterator<Item = OsString>, allowed: &[&str]) -> Result<Given, String> {
+    let mut args = args;
+    let mut given = Given::default();
+    let mut only_paths = false;
+    while let Some(arg) = args.next() {
+        let is_option = !only_paths && arg != "-" && arg.as_encoded_bytes().first() == Some(&b'-');
+        if !is_option {
+            if given.trace.replace(arg).is_some() {
+                return Err("more than one TRACE is given".to_string());
+            }
+            continue;
+        }
+        let word = arg.to_string_lossy().into_owned();
+        let (name, value) = split(&word);
+        let slot = match name {
+            "--" => {
+                only_paths = true;
+                continue;
+            }
+            "--help" | "-h" => {
+                given.help = true;
+                continue;
+            }
+            _ if !allowed.contains(&name) => return Err(format!("this command has no option {name:?}")),
+            "--csv" => {
+                if value.is_some() {
+                    return Err("--csv takes no value".to_string());
+                }
+                given.csv = true;
+                continue;
+            }
+            "--header" => &mut given.header,
+            "--processes" => &mut given.processes,
+            "--model" => &mut given.model,
+            "--file" => &mut given.file,
+            _ => &mut given.output,
+        };
+        let Some(value) = value.or_else(|| args.next()) else {
+            return Err(format!("{name} has no value"));
+        };
+        if slot.replace(value).is_some() {
+            return Err(format!("{name} is given twice"));
+        }
+    }
+    Ok(given)
+}
+
+/// A plain number of a range.
+fn number(name: &str, value: &OsString, from: u32, to: u32) -> Result<u32, String> {
+    let word = value.to_str().unwrap_or("");
+    let digits = !word.is_empty() && word.bytes().all(|b| b.is_ascii_digit());
+    match word.parse::<u32>() {
+        Ok(n) if digits && (from..=to).contains(&n) => Ok(n),
+        _ => Err(format!("{name} is a number from {from} to {to}, not {value:?}")),
+    }
+}
+
+fn one_model(value: &OsString) -> Result<Model, String> {
+    let model = value.to_str().and_then(Model::from_name);
+    model.ok_or_else(|| format!("--model is posix, commit, session or mpiio, not {value:?}"))
+}
+
+impl Given {
+    fn common(&mut self) -> Result<Common, String> {
+        let trace = match self.trace.take() {
+            None => return Err("no TRACE is given".to_string()),
+            Some(t) if t == "-" => Source::Standard,
+            Some(t) => Source::Path(PathBuf::from(t)),
+        };
+        let header = match self.header.as_ref().map(|h| h.to_str()) {
+            Some(Some("yes")) => true,
+            Some(Some("no")) => false,
+            _ => return Err(WHY_HEADER.to_string()),
+        };
+        let processes = self.processes.as_ref().map_or(Ok(PROCESSES), |v| number("--processes", v, 1, PROCESSES))?;
+        Ok(Common { trace, header, processes })
+    }
+}
+
+/// The request of a command line without the program's name. An error is a sentence, and the help that goes with it.
+pub fn parse(args: impl Iterator<Item = OsString>) -> Result<Request, (String, Topic)> {
+    let mut args = args;
+    let Some(command) = args.next() else {
+        return Err(("no command is given".to_string(), Topic::All));
+    };
+    let topic = match command.to_str() {
+        Some("--help" | "-h") => return Ok(Request::Help(Topic::All)),
+        Some("--version" | "-V") => return Ok(Request::Version),
+        Some("check") => Topic::Check,
+        Some("replay") => Topic::Replay,
+        Some("diagram") => Topic::Diagram,
+        _ => return Err((format!("there is no command {command:?}"), Topic::All)),
+    };
+    request(topic, args).map_err(|e| (e, topic))
+}
+
+fn request(topic: Topic, args: impl Iterator<Item = OsString>) -> Result<Request, String> {
+    let allowed: &[&str] = match topic {
+        Topic::All => &[],
+        Topic::Check => &["--header", "--processes", "--model", "--csv"],
+        Topic::Replay => &["--header", "--processes", "--model", "--file"],
+        Topic::Diagram => &["--header", "--processes", "--model", "-o"],
+    };
+    let mut given = gather(args, allowed)?;
+    if given.help {
+        return Ok(Request::Help(topic));
+    }
+    let common = given.common()?;
+    match topic {
+        Topic::All => Ok(Request::Help(topic)),
+        Topic::Check => {
+            let models = match &given.model {
+                None => Model::ALL.to_vec(),
+                Some(word) if word == "all" => Model::ALL.to_vec(),
+                Some(word) => vec![one_model(word).map_err(|e| e.replace("posix,", "all, posix,"))?],
+            };
+            Ok(Request::Check { common, models, csv: given.csv })
+        }
+        Topic::Replay => {
+            let Some(file) = &given.file else {
+                return Err("say which file: --file 0 to --file 63".to_string());
+            };
+            let Some(model) = &given.model else {
+                return Err("say which model: --model posix, commit, session or mpiio".to_string());
+            };
+            Ok(Request::Replay { common, file: number("--file", file, 0, FILES - 1)?, model: one_model(model)? })
+        }
+        Topic::Diagram => {
+            let model = given.model.as_ref().map_or(Ok(Model::Commit), one_model)?;
+            Ok(Request::Diagram { common, model, output: given.output.map(PathBuf::from) })
+        }
+    }
+}

@@ -1,0 +1,284 @@
+//! `diagram`: the trace as an SVG picture. Lanes stand side by side, one for each process that occurs; rows go from top to bottom in the
+//! order of the trace, one to a line, so that boxes never cover each other.
+
+use crate::check::judge;
+use crate::explain::explain;
+use crate::input::Trace;
+use crate::text::{counted, describe, wrap};
+use crate::words::words;
+use kiqsaryn::{Model, Row, Verdict, KINDS, READ, RECV, SEND, WRITE};
+use std::collections::BTreeMap;
+
+/// Sizes in pixels: the margin, a row's line and its box, the gap between lanes, and the line of lane heads, which comes again behind so
+/// many rows.
+const MARGIN: usize = 20;
+const LINE: usize = 30;
+const BOX: usize = 22;
+const GAP: usize = 50;
+const HEAD: usize = 34;
+const HEAD_EVERY: usize = 40;
+/// Bytes in a line of text above the lanes.
+const TEXT: usize = 100;
+
+const STYLE: &str = "text{font-family:monospace;font-size:12px;fill:#111}
+.big{font-size:15px;font-weight:bold}
+.head{font-weight:bold;text-anchor:middle;paint-order:stroke;stroke:#fff;stroke-width:6px}
+.race{fill:#b00020;font-weight:bold}
+.free{fill:#0b6b2e;font-weight:bold}
+rect{stroke:#555;stroke-width:1}
+.paper{fill:#fff;stroke:none}
+.read{fill:#d6e6fb}
+.write{fill:#fde3ae}
+.share{fill:#d5efd8}
+.message{fill:#ececec}
+.racing{stroke:#b00020;stroke-width:3}
+.lane{stroke:#bbb;stroke-width:1}
+.arrow{stroke:#333;stroke-width:1.3;fill:none;marker-end:url(#tip)}
+.note{paint-order:stroke;stroke:#fff;stroke-width:5px}
+.pair{stroke:#b00020;stroke-width:1.5;stroke-dasharray:5 4;fill:none}
+";
+
+fn xml(text: &str) -> String {
+    let mut s = String::new();
+    for c in text.chars() {
+        match c {
+            '&' => s.push_str("&amp;"),
+            '<' => s.push_str("&lt;"),
+            '>' => s.push_str("&gt;"),
+            '"' => s.push_str("&quot;"),
+            _ => s.push(c),
+        }
+    }
+    s
+}
+
+/// The width of a line of text.
+fn wide(bytes: usize) -> usize {
+    bytes * 15 / 2
+}
+
+fn write_text(s: &mut String, class: &str, x: usize, y: usize, text: &str) {
+    let class = if class.is_empty() { String::new() } else { format!(" class=\"{class}\"") };
+    s.push_str(&format!("<text{class} x=\"{x}\" y=\"{y}\">{}</text>\n", xml(text)));
+}
+
+/// The end of a long name.
+fn short_name(name: &str) -> String {
+    let count = name.chars().count();
+    let most = TEXT - 30;
+    if count <= most {
+        return name.to_string();
+    }
+    format!("...{}", name.chars().skip(count - most).collect::<String>())
+}
+
+/// The short text in a row's box.
+fn label(number: u32, row: Row, received: bool) -> String {
+    let kind = KINDS.get(row.kind as usize).copied().unwrap_or("?");
+    let rest = match row.kind {
+        READ | WRITE => match row.length {
+            0 => format!("f{} no bytes", row.file),
+            1 => format!("f{} {}", row.file, row.offset),
+            n => format!("f{} {}-{}", row.file, row.offset, u64::from(row.offset) + u64::from(n) - 1),
+        },
+        SEND if !received => format!("m{}, not received", row.message),
+        SEND | RECV => format!("m{}", row.message),
+        _ => format!("f{}", row.file),
+    };
+    format!("{number} {kind} {rest}")
+}
+
+fn class(kind: u32) -> &'static str {
+    match kind {
+        READ => "read",
+        WRITE => "write",
+        SEND | RECV => "message",
+        _ => "share",
+    }
+}
+
+/// A row's box.
+struct Shape {
+    number: u32,
+    row: Row,
+    label: String,
+    x: usize,
+    y: usize,
+    width: usize,
+}
+
+impl Shape {
+    fn right(&self) -> usize {
+        self.x + self.width
+    }
+
+    fn middle(&self) -> usize {
+        self.y + BOX / 2
+    }
+}
+
+/// A lane: its left end and its width.
+struct Lane {
+    x: usize,
+    width: usize,
+}
+
+/// The lanes by process, and where the last one ends.
+fn lanes(rows: &[(u32, Row, String)]) -> (BTreeMap<u32, Lane>, usize) {
+    let mut widths: BTreeMap<u32, usize> = BTreeMap::new();
+    for (_, row, label) in rows {
+        let w = widths.entry(row.process).or_insert(wide("process 63".len()));
+        *w = (*w).max(wide(label.len()) + 12);
+    }
+    let mut x = MARGIN;
+    let mut all = BTreeMap::new();
+    for (process, width) in widths {
+        all.insert(process, Lane { x, width });
+        x += width + GAP;
+    }
+    (all, x)
+}
+
+/// What is said above the lanes: a class and a line each.
+fn heading(trace: &Trace, model: Model, race: Option<(u32, u32)>) -> (Vec<(&'static str, String)>, Option<String>) {
+    let rows = trace.rows();
+    let mut lines = vec![("big", format!("{}: {}", short_name(&trace.name), counted(u64::from(trace.n), "row")))];
+    let mut shared = None;
+    match race {
+        None => lines.push(("free", format!("Free under {}: no two rows race.", model.name()))),
+        Some((earlier, later)) => {
+            lines.push(("race", format!("Race under {}: row {earlier} and row {later}.", model.name())));
+            match explain(&rows, model, earlier, later).and_then(|e| words(&e, &rows)) {
+                None => lines.push(("race", "no explanation found; please report this trace".to_string())),
+                Some(w) => {
+                    let mut say =
+                        |label: &str, text: &str| lines.extend(wrap(&format!("{label}: {text}"), TEXT).into_iter().map(|l| ("", l)));
+                    say("Shared", &format!("{}.", w.shared));
+                    w.lines.iter().for_each(|(label, line)| say(label, line));
+                    shared = Some(w.shared);
+                }
+            }
+        }
+    }
+    (lines, shared)
+}
+
+/// The legend, from a height on.
+fn legend(s: &mut String, y: usize) {
+    let mut x = MARGIN;
+    let samples = [("read", "read"), ("write", "write"), ("share", "commit open close sync"), ("message", "send recv")];
+    for (class, words) in samples {
+        let width = wide(words.len()) + 12;
+        s.push_str(&format!("<rect class=\"{class}\" x=\"{x}\" y=\"{y}\" width=\"{width}\" height=\"{BOX}\" rx=\"3\"/>\n"));
+        write_text(s, "", x + 6, y + 15, words);
+        x += width + 14;
+    }
+    let middle = y + BOX / 2;
+    s.push_str(&format!("<path class=\"arrow\" d=\"M{x} {middle}L{} {middle}\"/>\n", x + 34));
+    write_text(s, "", x + 42, y + 15, "message");
+    x += 42 + wide("message".len()) + 14;
+    s.push_str(&format!("<rect class=\"paper racing\" x=\"{x}\" y=\"{y}\" width=\"34\" height=\"{BOX}\" rx=\"3\"/>\n"));
+    write_text(s, "", x + 42, y + 15, "racing row");
+    let words = "In a box: row number, kind, f file, first-last byte, m message. Rows go down in the order of the trace.";
+    write_text(s, "", MARGIN, y + BOX + 18, words);
+}
+
+/// The heads of the lanes.
+fn lane_heads(s: &mut String, lanes: &BTreeMap<u32, Lane>, y: usize) {
+    for (process, lane) in lanes {
+        write_text(s, "head", lane.x + lane.width / 2, y, &format!("process {process}"));
+    }
+}
+
+/// A bracket left of the lanes for the racing pair, and the shared bytes beside both rows.
+fn bracket(s: &mut String, a: &Shape, b: &Shape, shared: &str) {
+    let (x, from, to) = (MARGIN / 2, a.middle(), b.middle());
+    s.push_str(&format!("<path class=\"pair\" d=\"M{} {from}L{x} {from}L{x} {to}L{} {to}\"/>\n", a.x, b.x));
+    for (row, other) in [(a, b), (b, a)] {
+        write_text(s, "race note", row.right() + 10, row.middle() + 4, &note(shared, other.number));
+    }
+}
+
+fn note(shared: &str, other: u32) -> String {
+    format!("shares {shared} with row {other}")
+}
+
+/// The arrows of the messages; `received` has the row that receives each.
+fn arrows(s: &mut String, shapes: &[Shape], received: &BTreeMap<u32, u32>) {
+    for a in shapes.iter().filter(|a| a.row.kind == SEND) {
+        if let Some(b) = received.get(&a.row.message).and_then(|k| shape(shapes, *k)) {
+            let (x, end) = if a.x < b.x { (a.right(), b.x) } else { (a.x, b.right()) };
+            s.push_str(&format!("<path class=\"arrow\" d=\"M{x} {}L{end} {}\"/>\n", a.middle(), b.middle()));
+        }
+    }
+}
+
+/// The boxes of the rows, those of a racing pair framed.
+fn boxes(s: &mut String, shapes: &[Shape], lanes: &BTreeMap<u32, Lane>, race: Option<(u32, u32)>) {
+    for (k, a) in shapes.iter().enumerate() {
+        if k % HEAD_EVERY == 0 {
+            lane_heads(s, lanes, a.y.saturating_sub(8));
+        }
+        let racing = if race.is_some_and(|(e, l)| a.number == e || a.number == l) { " racing" } else { "" };
+        let (x, y, width, class) = (a.x, a.y, a.width, class(a.row.kind));
+        s.push_str(&format!("<g><title>row {}: {}</title>", a.number, xml(&describe(a.row))));
+        s.push_str(&format!("<rect class=\"{class}{racing}\" x=\"{x}\" y=\"{y}\" width=\"{width}\" height=\"{BOX}\" rx=\"3\"/>"));
+        s.push_str(&format!("<text x=\"{}\" y=\"{}\">{}</text></g>\n", x + 6, y + 15, xml(&a.label)));
+    }
+}
+
+/// The box of a row number.
+fn shape(shapes: &[Shape], number: u32) -> Option<&Shape> {
+    shapes.get((number as usize).checked_sub(1)?)
+}
+
+/// The whole picture. An error is a sentence.
+pub fn svg(trace: &Trace, model: Model) -> Result<String, String> {
+    let race = match judge(trace, &[model])?.first() {
+        Some((_, Verdict::Race { earlier, later })) => Some((*earlier, *later)),
+        _ => None,
+    };
+    let received: BTreeMap<u32, u32> = trace.rows().all().filter(|(_, r)| r.kind == RECV).map(|(k, r)| (r.message, k)).collect();
+    let rows: Vec<(u32, Row, String)> = trace.rows().all().map(|(k, r)| (k, r, label(k, r, received.contains_key(&r.message)))).collect();
+    let (lanes, lanes_end) = lanes(&rows);
+    let (lines, shared) = heading(trace, model, race);
+
+    let legend_y = MARGIN + 20 * lines.len() + 10;
+    let top = legend_y + BOX + 18 + HEAD;
+    let mut shapes = Vec::new();
+    for (k, (number, row, label)) in rows.into_iter().enumerate() {
+        let Some(lane) = lanes.get(&row.process) else {
+            continue;
+        };
+        let y = top + k * LINE + (k / HEAD_EVERY) * HEAD + HEAD / 2;
+        shapes.push(Shape { number, row, label, x: lane.x, y, width: lane.width });
+    }
+    let pair = race.and_then(|(earlier, later)| Some((shape(&shapes, earlier)?, shape(&shapes, later)?))).zip(shared.as_deref());
+    let notes_end = pair.map_or(0, |((a, b), text)| a.right().max(b.right()) + 10 + wide(note(text, a.number.max(b.number)).len()));
+    let width = lanes_end.max(notes_end).max(MARGIN + wide(TEXT + 6)) + MARGIN;
+    let bottom = shapes.last().map_or(top, |s| s.y + BOX + 8);
+    let height = bottom + MARGIN;
+
+    let size = format!("width=\"{width}\" height=\"{height}\" viewBox=\"0 0 {width} {height}\"");
+    let mut s = "<?xml version=\"1.0\" encoding=\"UTF-8\"?>\n".to_string();
+    s.push_str(&format!("<svg xmlns=\"http://www.w3.org/2000/svg\" {size}>\n"));
+    s.push_str(&format!("<title>{}</title>\n<style>{STYLE}</style>\n", xml(&trace.name)));
+    s.push_str("<defs><marker id=\"tip\" viewBox=\"0 0 8 8\" refX=\"8\" refY=\"4\" markerWidth=\"8\" markerHeight=\"8\" orient=\"auto\">");
+    s.push_str("<path d=\"M0 0L8 4L0 8z\" fill=\"#333\"/></marker></defs>\n");
+    s.push_str(&format!("<rect class=\"paper\" x=\"0\" y=\"0\" width=\"{width}\" height=\"{height}\"/>\n"));
+    for (i, (class, line)) in lines.iter().enumerate() {
+        write_text(&mut s, class, MARGIN, MARGIN + 20 * i + 8, line);
+    }
+    legend(&mut s, legend_y);
+    for lane in lanes.values() {
+        let x = lane.x + lane.width / 2;
+        s.push_str(&format!("<path class=\"lane\" d=\"M{x} {top}L{x} {bottom}\"/>\n"));
+    }
+    arrows(&mut s, &shapes, &received);
+    if let Some(((a, b), text)) = pair {
+        bracket(&mut s, a, b, text);
+    }
+    boxes(&mut s, &shapes, &lanes, race);
+    s.push_str("</svg>\n");
+    Ok(s)
+}

@@ -1,0 +1,112 @@
+//! The help texts.
+
+use crate::args::Topic;
+
+const ALL: &str = "kiqsaryn - finds storage races in the trace of a storage shelf
+
+  kiqsaryn check TRACE --header yes|no      verdicts, and why rows race
+  kiqsaryn replay TRACE --header yes|no --file F --model M
+                                            what each read returned
+  kiqsaryn diagram TRACE --header yes|no    the trace as a picture (SVG)
+  kiqsaryn COMMAND --help                   the options of a command
+  kiqsaryn --version
+
+TRACE is a CSV file with the fields process,kind,file,offset,length,message
+and lines that end in CR LF; - reads standard input. It has at most 4096 rows,
+64 processes and 64 files.
+
+--header says whether the first record holds these names (yes) or is row 1
+(no). It is always asked and never guessed.
+
+Exit status:
+  0  free under every model asked for; replay or diagram done
+  1  a race under at least one of them
+  2  the trace is refused
+  3  the command line is wrong, or a file cannot be read or written
+
+Example:
+  kiqsaryn check shelf.csv --header yes
+";
+
+const CHECK: &str = "kiqsaryn check TRACE --header yes|no [--processes N] [--model NAME] [--csv]
+
+Says what was read, to hold against the recorder, then the verdict under each
+model. For a race it shows both rows, the bytes they share, and what is missing
+between them.
+
+  --header yes|no   the first record holds the names (yes) or is row 1 (no)
+  --processes N     process numbers are below N; 1 to 64, 64 if left out
+  --model NAME      posix, commit, session, mpiio, or all; all if left out
+  --csv             only the lines model,verdict,earlier,later (CR LF), or
+                    refused,NUMBER,PLACE
+
+A verdict names the first race: the one with the smallest later row, then the
+smallest earlier row. There may be more behind it; check again after a repair.
+
+\"Row 2 happens before row 7\" means: both are of one process, or messages lead
+from the one to the other. The place in the trace alone orders nothing.
+
+Exit status: 0 free, 1 race, 2 refused, 3 wrong command line or file error.
+
+Examples:
+  kiqsaryn check shelf.csv --header yes
+  kiqsaryn check old-shelf.csv --header no --model commit
+  kiqsaryn check - --header yes --csv < shelf.csv
+";
+
+const REPLAY: &str = "kiqsaryn replay TRACE --header yes|no --file F --model M [--processes N]
+
+Puts the rows of one file, in the order of the trace, to the buffers of the
+model and to one plain file. For each read it lists the bytes and the row that
+wrote them, in both. STALE marks bytes where the two differ.
+
+  --header yes|no   the first record holds the names (yes) or is row 1 (no)
+  --file F          the file, 0 to 63
+  --model M         posix, commit, session or mpiio
+  --processes N     process numbers are below N; 1 to 64, 64 if left out
+
+The last line counts the reads, the bytes read and the stale bytes.
+It shows the one order that was recorded; check judges every allowed order.
+
+Exit status: 0 done, 2 refused, 3 wrong command line or file error.
+
+Example:
+  kiqsaryn replay shelf.csv --header yes --file 1 --model commit
+";
+
+const DIAGRAM: &str = "kiqsaryn diagram TRACE --header yes|no [--model M] [--processes N] [-o FILE]
+
+Draws the trace as an SVG picture for a browser: a lane for each process, the
+rows from top to bottom in the order of the trace, messages as arrows. The
+first race under the model is framed in red, with the bytes that both rows
+touch and what is missing between them.
+
+  --header yes|no   the first record holds the names (yes) or is row 1 (no)
+  --model M         posix, commit, session or mpiio; commit if left out
+  --processes N     process numbers are below N; 1 to 64, 64 if left out
+  -o FILE           write to FILE; standard output if left out
+
+Exit status: 0 done, 2 refused, 3 wrong command line or file error.
+
+Example:
+  kiqsaryn diagram shelf.csv --header yes -o shelf.svg
+";
+
+pub fn help(topic: Topic) -> &'static str {
+    match topic {
+        Topic::All => ALL,
+        Topic::Check => CHECK,
+        Topic::Replay => REPLAY,
+        Topic::Diagram => DIAGRAM,
+    }
+}
+
+/// How to ask for the help that goes with an error.
+pub fn hint(topic: Topic) -> &'static str {
+    match topic {
+        Topic::All => "kiqsaryn --help shows the commands.",
+        Topic::Check => "kiqsaryn check --help shows the options.",
+        Topic::Replay => "kiqsaryn replay --help shows the options.",
+        Topic::Diagram => "kiqsaryn diagram --help shows the options.",
+    }
+}

@@ -1,0 +1,89 @@
+//! Rows and bytes in words.
+
+use kiqsaryn::{Row, CLOSE, COMMIT, OPEN, READ, RECV, SEND, SYNC, WRITE};
+
+/// Lines of a report are no wider, save for records shown as they stand.
+pub const WIDTH: usize = 78;
+
+/// Bytes as printable text on one line. At most `most` of them are shown.
+pub fn escape(bytes: &[u8], most: usize) -> String {
+    let mut s = String::new();
+    for b in bytes.iter().take(most) {
+        match b {
+            b'\\' => s.push_str("\\\\"),
+            b'\r' => s.push_str("\\r"),
+            b'\n' => s.push_str("\\n"),
+            b'\t' => s.push_str("\\t"),
+            0x20..=0x7e => s.push(char::from(*b)),
+            _ => s.push_str(&format!("\\x{b:02x}")),
+        }
+    }
+    if bytes.len() > most {
+        s.push_str(" ... (cut here)");
+    }
+    s
+}
+
+/// A range of bytes by its first and last.
+pub fn bytes_of(offset: u32, length: u32) -> String {
+    match length {
+        0 => format!("no bytes (offset {offset}, length 0)"),
+        1 => format!("byte {offset}"),
+        _ => format!("bytes {offset} to {}", u64::from(offset) + u64::from(length) - 1),
+    }
+}
+
+/// What a row says, as a sentence without its stop.
+pub fn describe(row: Row) -> String {
+    let (p, f) = (row.process, row.file);
+    match row.kind {
+        READ => format!("process {p} reads {} of file {f}", bytes_of(row.offset, row.length)),
+        WRITE => format!("process {p} writes {} of file {f}", bytes_of(row.offset, row.length)),
+        COMMIT => format!("process {p} commits file {f}"),
+        OPEN => format!("process {p} opens file {f}"),
+        CLOSE => format!("process {p} closes file {f}"),
+        SYNC => format!("process {p} syncs file {f}"),
+        SEND => format!("process {p} sends message {}", row.message),
+        RECV => format!("process {p} receives message {}", row.message),
+        _ => format!("process {p}"),
+    }
+}
+
+/// "1 row", "2 rows".
+pub fn counted(n: u64, one: &str) -> String {
+    if n == 1 {
+        format!("{n} {one}")
+    } else {
+        format!("{n} {one}s")
+    }
+}
+
+/// Breaks text between words into lines of at most `width` bytes; a longer word has a line of its own.
+pub fn wrap(text: &str, width: usize) -> Vec<String> {
+    let mut lines = Vec::new();
+    let mut line = String::new();
+    for word in text.split(' ') {
+        if !line.is_empty() && line.len() + 1 + word.len() > width {
+            lines.push(std::mem::take(&mut line));
+        }
+        if !line.is_empty() {
+            line.push(' ');
+        }
+        line.push_str(word);
+    }
+    lines.push(line);
+    lines
+}
+
+/// Text behind a label, its further lines indented as the first.
+pub fn labelled(label: &str, text: &str) -> String {
+    let mut s = String::new();
+    let mut lead = label.to_string();
+    for line in wrap(text, WIDTH.saturating_sub(label.len())) {
+        s.push_str(&lead);
+        s.push_str(&line);
+        s.push('\n');
+        lead = " ".repeat(label.len());
+    }
+    s
+}

@@ -1,0 +1,82 @@
+//! Refusals by number and in words.
+
+/// The question that was answered No.
+#[derive(Clone, Copy, Debug, PartialEq, Eq)]
+pub enum Refusal {
+    ShortSlice,
+    Limits,
+    HeaderWord,
+    Malformed,
+    Header,
+    TooManyRows,
+    NotSixFields,
+    UnknownKind,
+    FieldsUsed,
+    NumberRange,
+    RangeEnd,
+    MessageOrder,
+    UnlawfulState,
+    RowNumber,
+    NotOfFile,
+    MapSpace,
+    AnswerSpace,
+}
+
+impl Refusal {
+    pub const ALL: [Refusal; 17] = [
+        Refusal::ShortSlice,
+        Refusal::Limits,
+        Refusal::HeaderWord,
+        Refusal::Malformed,
+        Refusal::Header,
+        Refusal::TooManyRows,
+        Refusal::NotSixFields,
+        Refusal::UnknownKind,
+        Refusal::FieldsUsed,
+        Refusal::NumberRange,
+        Refusal::RangeEnd,
+        Refusal::MessageOrder,
+        Refusal::UnlawfulState,
+        Refusal::RowNumber,
+        Refusal::NotOfFile,
+        Refusal::MapSpace,
+        Refusal::AnswerSpace,
+    ];
+
+    /// The number that the documents give it, from 1.
+    pub fn number(self) -> u32 {
+        self as u32 + 1
+    }
+
+    /// The refusal of a number; `None` for 0 and for numbers that no question has.
+    pub fn from_number(number: u32) -> Option<Refusal> {
+        number.checked_sub(1).and_then(|k| Self::ALL.get(k as usize)).copied()
+    }
+
+    /// The question, and so what was found not to hold.
+    pub fn question(self) -> &'static str {
+        match self {
+            Refusal::ShortSlice => "Are the lent slices long enough?",
+            Refusal::Limits => "Are model 0 to 3, row limit 1 to 4,096 and process limit 1 to 64?",
+            Refusal::HeaderWord => "Is the header word 0 (absent) or 1 (present)?",
+            Refusal::Malformed => {
+                "Is the record well formed (RFC 4180: quotes in pairs, nothing behind a closing quote, CR LF at its end)?"
+            }
+            Refusal::Header => "Is the first record the header process,kind,file,offset,length,message?",
+            Refusal::TooManyRows => "Is the row within the row limit, and its record within the byte limit?",
+            Refusal::NotSixFields => "Has the record six fields?",
+            Refusal::UnknownKind => "Is the kind read, write, commit, open, close, sync, send or recv?",
+            Refusal::FieldsUsed => "Are the fields that the kind uses filled, and the others empty?",
+            Refusal::NumberRange => "Is each number plain (digits, no leading zero) and within its range?",
+            Refusal::RangeEnd => "Is offset + length at most 4,294,967,295?",
+            Refusal::MessageOrder => {
+                "Is a send's message unsent so far, and a recv's sent earlier by another process and not yet received?"
+            }
+            Refusal::UnlawfulState => "Is the state one that making and steps leave?",
+            Refusal::RowNumber => "Is the row number 1 to 4,096?",
+            Refusal::NotOfFile => "Is the row a read, write, commit, open, close or sync of this file?",
+            Refusal::MapSpace => "Does every map after the row fit its space?",
+            Refusal::AnswerSpace => "Does the read's list of pieces fit the lent answer slice?",
+        }
+    }
+}

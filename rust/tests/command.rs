@@ -1,0 +1,998 @@
+//! The command `kiqsaryn`: its output on the examples, its exit status on every kind of input, and its explanations against the
+//! definitions.
+
+#![allow(dead_code)]
+
+use kiqsaryn::{check_trace, fill_counts, report, verdict, Checked, Model, Row, Settings, Verdict};
+use kiqsaryn::{CLOSE, COMMIT, OPEN, READ, RECV, SEND, SYNC, WRITE};
+use std::io::Write;
+use std::path::{Path, PathBuf};
+use std::process::{Command, Output, Stdio};
+use std::time::{Duration, Instant};
+
+#[path = "../src/bin/kiqsaryn/args.rs"]
+mod args;
+#[path = "../src/bin/kiqsaryn/explain.rs"]
+mod explain;
+#[path = "../src/bin/kiqsaryn/input.rs"]
+mod input;
+#[path = "../src/bin/kiqsaryn/replay.rs"]
+mod replay;
+#[path = "../src/bin/kiqsaryn/text.rs"]
+mod text;
+#[path = "../src/bin/kiqsaryn/words.rs"]
+mod words;
+
+use explain::{explain, Claim, Explanation, Rows};
+
+const EXE: &str = env!("CARGO_BIN_EXE_kiqsaryn");
+const NAMES: &str = "process,kind,file,offset,length,message\r\n";
+
+fn examples() -> PathBuf {
+    PathBuf::from(concat!(env!("CARGO_MANIFEST_DIR"), "/../examples"))
+}
+
+/// A file of this test run.
+fn scratch(name: &str) -> PathBuf {
+    let folder = PathBuf::from(env!("CARGO_TARGET_TMPDIR"));
+    folder.join(format!("command-{name}"))
+}
+
+/// Runs the command in the folder of the examples. A child that does not read its input is no failure.
+fn run(args: &[&str], input: &[u8]) -> Output {
+    let mut child = Command::new(EXE)
+        .args(args)
+        .current_dir(examples())
+        .stdin(Stdio::piped())
+        .stdout(Stdio::piped())
+        .stderr(Stdio::piped())
+        .spawn()
+        .expect("the command starts");
+    let mut stdin = child.stdin.take().expect("a pipe");
+    let input = input.to_vec();
+    let writer = std::thread::spawn(move || {
+        let _ = stdin.write_all(&input);
+    });
+    let output = child.wait_with_output().expect("the command ends");
+    writer.join().expect("the input is written");
+    output
+}
+
+fn status(o: &Output) -> i32 {
+    o.status.code().expect("an exit status and no signal")
+}
+
+fn words_of(bytes: &[u8]) -> String {
+    String::from_utf8(bytes.to_vec()).expect("text")
+}
+
+fn out(o: &Output) -> String {
+    words_of(&o.stdout)
+}
+
+fn err(o: &Output) -> String {
+    words_of(&o.stderr)
+}
+
+// ---- The examples
+
+#[test]
+fn check_prints_what_stands_beside_every_example() {
+    let mut ran = 0;
+    for entry in std::fs::read_dir(examples()).expect("the examples") {
+        let path = entry.expect("an entry").path();
+        if path.extension().is_none_or(|e| e != "csv") {
+            continue;
+        }
+        let name = path.file_name().and_then(|n| n.to_str()).expect("a name");
+        let o = run(&["check", name, "--header", "yes"], b"");
+        let want = std::fs::read_to_string(path.with_extension("check.txt")).expect("the output beside it");
+        assert_eq!(out(&o), want, "{name}");
+        assert_eq!(err(&o), "", "{name}");
+        let short = std::fs::read_to_string(path.with_extension("out")).expect("the short output beside it");
+        let expected = if short.starts_with("refused") {
+            2
+        } else if short.contains("race") {
+            1
+        } else {
+            0
+        };
+        assert_eq!(status(&o), expected, "{name}");
+        let o = run(&["check", name, "--header=yes", "--csv"], b"");
+        assert_eq!((out(&o), status(&o)), (short, expected), "{name}");
+        ran += 1;
+    }
+    assert_eq!(ran, 7, "examples");
+}
+
+#[test]
+fn replay_prints_what_stands_beside_the_examples() {
+    for (name, model) in [("commit_missing", "commit"), ("open_too_early", "session")] {
+        let trace = format!("{name}.csv");
+        let o = run(&["replay", &trace, "--header", "yes", "--file", "1", "--model", model], b"");
+        let want = std::fs::read_to_string(examples().join(format!("{name}.replay.txt"))).expect("the output beside it");
+        assert_eq!((out(&o), status(&o)), (want, 0), "{name}");
+    }
+}
+
+#[test]
+fn diagram_draws_what_stands_beside_the_example() {
+    let o = run(&["diagram", "commit_missing.csv", "--header", "yes"], b"");
+    let want = std::fs::read_to_string(examples().join("commit_missing.svg")).expect("the picture beside it");
+    assert_eq!((out(&o), status(&o)), (want, 0));
+}
+
+// ---- The command line
+
+#[test]
+fn wrong_command_lines_have_status_3() {
+    let wrong: &[&[&str]] = &[
+        &[],
+        &["judge"],
+        &["check"],
+        &["check", "commit_free.csv"],
+        &["check", "commit_free.csv", "--header"],
+        &["check", "commit_free.csv", "--header", "maybe"],
+        &["check", "commit_free.csv", "--header", "yes", "--header", "no"],
+        &["check", "commit_free.csv", "commit_free.csv", "--header", "yes"],
+        &["check", "--header", "yes"],
+        &["check", "commit_free.csv", "--header", "yes", "--model", "nfs"],
+        &["check", "commit_free.csv", "--header", "yes", "--processes", "0"],
+        &["check", "commit_free.csv", "--header", "yes", "--processes", "65"],
+        &["check", "commit_free.csv", "--header", "yes", "--processes", "+8"],
+        &["check", "commit_free.csv", "--header", "yes", "--processes", "99999999999999999999"],
+        &["check", "commit_free.csv", "--header", "yes", "--csv=1"],
+        &["check", "commit_free.csv", "--header", "yes", "--file", "1"],
+        &["check", "commit_free.csv", "--header", "yes", "-o", "x"],
+        &["replay", "commit_free.csv", "--header", "yes"],
+        &["replay", "commit_free.csv", "--header", "yes", "--file", "1"],
+        &["replay", "commit_free.csv", "--header", "yes", "--model", "commit"],
+        &["replay", "commit_free.csv", "--header", "yes", "--file", "64", "--model", "commit"],
+        &["replay", "commit_free.csv", "--header", "yes", "--file", "1", "--model", "all"],
+        &["replay", "commit_free.csv", "--file", "1", "--model", "commit"],
+        &["diagram", "commit_free.csv"],
+        &["diagram", "commit_free.csv", "--header", "yes", "--model", "all"],
+        &["diagram", "commit_free.csv", "--header", "yes", "-o"],
+        &["check", ".", "--header", "yes"],
+        &["check", "no_such_file.csv", "--header", "yes"],
+        &["replay", "no_such_file.csv", "--header", "no", "--file", "1", "--model", "commit"],
+        &["diagram", "no_such_file.csv", "--header", "no"],
+        &["diagram", "commit_free.csv", "--header", "yes", "-o", "."],
+    ];
+    for args in wrong {
+        let o = run(args, b"");
+        assert_eq!(status(&o), 3, "{args:?}");
+        assert_eq!(out(&o), "", "{args:?}");
+        assert!(err(&o).starts_with("kiqsaryn: ") && !err(&o).contains("panicked"), "{args:?}: {}", err(&o));
+    }
+}
+
+#[test]
+fn a_missing_header_word_says_why_it_is_asked() {
+    let o = run(&["check", "commit_free.csv"], b"");
+    let text = err(&o);
+    assert!(text.contains("--header yes or --header no"), "{text}");
+    assert!(text.contains("never guessed") && text.contains("lost") && text.contains("shift every row number"), "{text}");
+}
+
+#[test]
+fn help_and_version() {
+    for (args, part) in [
+        (&["--help"][..], "kiqsaryn replay TRACE"),
+        (&["check", "--help"], "kiqsaryn check shelf.csv --header yes"),
+        (&["replay", "-h"], "kiqsaryn replay shelf.csv --header yes --file 1 --model commit"),
+        (&["diagram", "x", "--help"], "kiqsaryn diagram shelf.csv --header yes -o shelf.svg"),
+        (&["--version"], "kiqsaryn 0."),
+    ] {
+        let o = run(args, b"");
+        assert_eq!((status(&o), err(&o)), (0, String::new()), "{args:?}");
+        assert!(out(&o).contains(part), "{args:?}");
+        assert!(out(&o).lines().all(|l| l.len() < 80), "{args:?}");
+    }
+}
+
+#[test]
+fn the_header_word_decides() {
+    let text = std::fs::read(examples().join("commit_free.csv")).expect("the trace");
+    let rows = &text[NAMES.len()..];
+    let o = run(&["check", "-", "--header", "no"], rows);
+    assert_eq!(status(&o), 1);
+    assert!(out(&o).contains("  header: no (the first record is row 1)\n  5 rows\n  first row: 0,write,1,0,10,\n"), "{}", out(&o));
+    let o = run(&["check", "-", "--header", "no"], &text);
+    assert_eq!(status(&o), 2);
+    assert!(out(&o).contains("Refused: number 8, at row 1."), "{}", out(&o));
+    let o = run(&["check", "-", "--header", "yes"], rows);
+    assert_eq!(status(&o), 2);
+    assert!(out(&o).contains("Refused: number 5, at the header."), "{}", out(&o));
+}
+
+#[test]
+fn records_are_shown_as_they_stand() {
+    let text = b"\"0\",write,\"1\",0,10,\"\"\r\n1,\"read\",1,5,10,";
+    let o = run(&["check", "-", "--header", "no", "--model", "posix"], text);
+    assert_eq!(status(&o), 1);
+    for part in [
+        "  first row: \"0\",write,\"1\",0,10,\"\"\n",
+        "  last row: 1,\"read\",1,5,10,\n",
+        "  row 1: \"0\",write,\"1\",0,10,\"\"\n         process 0 writes bytes 0 to 9 of file 1\n",
+        "  row 2: 1,\"read\",1,5,10,\n         process 1 reads bytes 5 to 14 of file 1\n  shared: bytes 5 to 9 of file 1 (5 bytes)\n",
+        "  process 0: 1 row\n  process 1: 1 row\n  file 1: 2 rows\n",
+    ] {
+        assert!(out(&o).contains(part), "{part} in {}", out(&o));
+    }
+}
+
+#[test]
+fn standard_input_and_one_model() {
+    let text = std::fs::read(examples().join("commit_free.csv")).expect("the trace");
+    for (model, expected) in [("posix", 0), ("commit", 0), ("session", 1), ("mpiio", 1), ("all", 1)] {
+        let o = run(&["check", "--model", model, "--header", "yes", "-"], &text);
+        assert_eq!(status(&o), expected, "{model}");
+        assert!(out(&o).starts_with("Trace: standard input\n"), "{model}");
+    }
+    let o = run(&["check", "--model", "session", "--csv", "--header", "yes", "-"], &text);
+    assert_eq!(out(&o), "model,verdict,earlier,later\r\nsession,race,1,5\r\n");
+    let o = run(&["check", "-", "--header", "no", "--csv"], b"");
+    assert_eq!(out(&o), "model,verdict,earlier,later\r\nposix,free,,\r\ncommit,free,,\r\nsession,free,,\r\nmpiio,free,,\r\n");
+}
+
+// ---- Refusals
+
+#[test]
+fn refusals_name_number_place_question_and_record() {
+    let cases: &[(&str, &[u8], &[&str])] = &[
+        ("yes", b"", &["number 5, at the header", "0 bytes, header yes", "the record:  none"]),
+        ("no", b"0,write,1,0,10,\r\n\r\n", &["number 7, at row 2", "Has the record six fields?", "the record:  empty"]),
+        ("no", b"0,write,1,0,10,\n0,read,1,0,1,\n", &["number 4, at row 1", "0,write,1,0,10,\\n\n", "Records end in CR LF"]),
+        ("yes", b"\xef\xbb\xbfprocess,kind\r\n", &["number 4, at the header", "\\xef\\xbb\\xbfprocess,kind\n", "byte order mark"]),
+        ("no", b"\x7fELF\x02\x01\x01\0\0\0", &["number 4, at row 1", "\\x7fELF\\x02\\x01\\x01\\x00\\x00\\x00\n"]),
+        ("no", b"64,write,1,0,10,\r\n", &["number 10, at row 1", "process is 0 to 63 (--processes 64)"]),
+        ("no", b"0,write,1,4294967295,1,", &["number 11, at row 1", "Is offset + length at most 4,294,967,295?"]),
+        ("no", b"0,send,,,,1\r\n0,recv,,,,1\r\n", &["number 12, at row 2", "0,recv,,,,1\n"]),
+    ];
+    for (header, input, parts) in cases {
+        for command in [&["check"][..], &["replay", "--file", "1", "--model", "commit"], &["diagram"]] {
+            let args: Vec<&str> = command.iter().copied().chain(["-", "--header", header]).collect();
+            let o = run(&args, input);
+            let text = if command[0] == "diagram" { err(&o) } else { out(&o) };
+            assert_eq!(status(&o), 2, "{text}");
+            assert!(parts.iter().all(|part| text.contains(part)), "{parts:?} in {text}");
+        }
+    }
+    let text = out(&run(&["check", "-", "--header", "no"], b"0,\"write,1,0,10,\r\n"));
+    assert!(text.contains("number 4, at row 1") && text.contains("0,\"write,1,0,10,\\r\\n\n") && !text.contains("line feed"), "{text}");
+    let many = "0,commit,1,,,\r\n".repeat(5_000);
+    let text = out(&run(&["check", "-", "--header", "no"], many.as_bytes()));
+    assert!(text.contains("number 6, at row 4097") && text.contains("a trace has at most 4096 rows"), "{text}");
+    let mut long = b"0,write,1,0,".to_vec();
+    long.extend([b'9'; 5000]);
+    let text = out(&run(&["check", "-", "--header", "no"], &long));
+    assert!(text.contains("(cut here)") && text.lines().all(|l| l.len() < 250), "{text}");
+}
+
+/// The longest acceptable trace: every field quoted, the longest contents, 4,096 rows.
+fn longest(header: bool) -> Vec<u8> {
+    let mut text = Vec::new();
+    if header {
+        text.extend(b"\"process\",\"kind\",\"file\",\"offset\",\"length\",\"message\"\r\n");
+    }
+    for _ in 0..4096 {
+        text.extend(b"\"63\",\"write\",\"63\",\"2147483647\",\"2147483648\",\"\"\r\n");
+    }
+    text
+}
+
+#[test]
+fn the_longest_acceptable_trace_is_read_whole_and_one_byte_more_is_not() {
+    for (header, word) in [(true, "yes"), (false, "no")] {
+        let mut text = longest(header);
+        assert_eq!(text.len(), input::byte_limit(header));
+        let o = run(&["check", "-", "--header", word], &text);
+        assert_eq!(status(&o), 0, "{}", out(&o));
+        assert!(out(&o).contains(&format!("  {} bytes\n", text.len())) && out(&o).contains("  4096 rows\n"));
+        text.push(b'0');
+        let o = run(&["check", "-", "--header", word], &text);
+        assert_eq!(status(&o), 2);
+        assert!(out(&o).contains("number 6, at row 4097") && out(&o).contains("reading stopped after"), "{}", out(&o));
+    }
+}
+
+/// No contents of an acceptable field are longer than those that the limit is worked out from.
+#[test]
+fn no_acceptable_record_is_longer() {
+    let quoted = |fields: [&str; 6]| fields.map(|f| format!("\"{f}\"")).join(",") + "\r\n";
+    let longest = quoted(["63", "write", "63", "2147483647", "2147483648", ""]).len();
+    for fields in [["63", "commit", "63", "", "", ""], ["63", "close", "63", "", "", ""], ["63", "send", "", "", "", "65535"]] {
+        let record = quoted(fields);
+        assert!(record.len() <= longest);
+        let o = run(&["check", "-", "--header", "no"], record.as_bytes());
+        assert_eq!(status(&o), 0, "{record}");
+    }
+}
+
+/// 100 MB of digits through a pipe: refused soon, in little memory.
+#[test]
+fn a_long_input_is_refused_soon() {
+    let started = Instant::now();
+    let mut child = Command::new("sh")
+        .args(["-c", "ulimit -v 65536; exec \"$0\" check - --header no", EXE])
+        .stdin(Stdio::piped())
+        .stdout(Stdio::piped())
+        .stderr(Stdio::piped())
+        .spawn()
+        .expect("the command starts");
+    let mut stdin = child.stdin.take().expect("a pipe");
+    let chunk = vec![b'7'; 1 << 20];
+    let mut written = 0;
+    while written < 100 && stdin.write_all(&chunk).is_ok() {
+        written += 1;
+    }
+    drop(stdin);
+    let o = child.wait_with_output().expect("the command ends");
+    assert_eq!(status(&o), 2, "{}", err(&o));
+    assert!(out(&o).contains("number 6, at row 1") && out(&o).contains("reading stopped after 196608 bytes"), "{}", out(&o));
+    assert!(written < 100 && started.elapsed() < Duration::from_secs(20), "{written} MB in {:?}", started.elapsed());
+}
+
+/// A file of four gigabytes: what follows the first bad record is not read.
+#[test]
+fn a_huge_file_is_refused_soon() {
+    let path = scratch("huge.csv");
+    let file = std::fs::File::create(&path).expect("a file");
+    (&file).write_all(NAMES.as_bytes()).expect("a header");
+    file.set_len(4 << 30).expect("a sparse file");
+    let started = Instant::now();
+    let o = run(&["check", path.to_str().expect("a path"), "--header", "yes"], b"");
+    std::fs::remove_file(&path).expect("the file is removed");
+    assert_eq!(status(&o), 2);
+    assert!(out(&o).contains("number 4, at row 1") && out(&o).contains("\\x00\\x00"), "{}", out(&o));
+    assert!(started.elapsed() < Duration::from_secs(20));
+}
+
+// ---- Output that cannot be written
+
+#[test]
+fn output_that_cannot_be_written_has_status_3() {
+    let mut child = Command::new(EXE)
+        .args(["check", "-", "--header", "yes"])
+        .stdin(Stdio::piped())
+        .stdout(Stdio::piped())
+        .stderr(Stdio::piped())
+        .spawn()
+        .expect("the command starts");
+    drop(child.stdout.take());
+    let text = std::fs::read(examples().join("commit_free.csv")).expect("the trace");
+    child.stdin.take().expect("a pipe").write_all(&text).expect("the input is written");
+    let o = child.wait_with_output().expect("the command ends");
+    assert_eq!(status(&o), 3);
+    assert!(err(&o).starts_with("kiqsaryn: cannot write") && !err(&o).contains("panicked"), "{}", err(&o));
+
+    let full = Path::new("/dev/full");
+    if full.exists() {
+        for args in [&["check", "commit_free.csv", "--header", "yes"][..], &["diagram", "commit_free.csv", "--header", "yes"]] {
+            let full = std::fs::OpenOptions::new().write(true).open(full).expect("the full device");
+            let o = Command::new(EXE).args(args).current_dir(examples()).stdout(full).output().expect("the command ends");
+            assert_eq!(status(&o), 3);
+            assert!(!err(&o).contains("panicked"), "{}", err(&o));
+        }
+    }
+}
+
+#[test]
+fn a_diagram_goes_to_a_file_but_never_over_its_trace() {
+    let (trace, picture) = (scratch("trace.csv"), scratch("trace.svg"));
+    std::fs::copy(examples().join("commit_missing.csv"), &trace).expect("a copy");
+    let (t, p) = (trace.to_str().expect("a path"), picture.to_str().expect("a path"));
+    let o = run(&["diagram", t, "--header", "yes", "-o", p], b"");
+    assert_eq!((status(&o), out(&o), err(&o)), (0, String::new(), String::new()));
+    well_formed(&std::fs::read_to_string(&picture).expect("the picture"));
+    let before = std::fs::read(&trace).expect("the trace");
+    let o = run(&["diagram", t, "--header", "yes", "-o", t], b"");
+    assert_eq!(status(&o), 3);
+    assert_eq!(std::fs::read(&trace).expect("the trace"), before);
+    let _ = (std::fs::remove_file(&trace), std::fs::remove_file(&picture));
+}
+
+// ---- Random inputs
+
+/// Numbers from a fixed seed.
+struct Dice(u64);
+
+impl Dice {
+    fn next(&mut self) -> u64 {
+        self.0 ^= self.0 << 13;
+        self.0 ^= self.0 >> 7;
+        self.0 ^= self.0 << 17;
+        self.0.wrapping_mul(0x2545_f491_4f6c_dd1d) >> 33
+    }
+
+    fn below(&mut self, n: u64) -> u32 {
+        (self.next() % n) as u32
+    }
+
+    fn of<T: Copy>(&mut self, all: &[T]) -> T {
+        all[self.below(all.len() as u64) as usize]
+    }
+}
+
+/// Rows that pass every question: messages go once, from one process to another. Some hand a file over from one process to the next, with
+/// or without one of the rows that this takes.
+fn random_rows(dice: &mut Dice, most: u64, processes: u64) -> Vec<Row> {
+    let mut rows: Vec<Row> = Vec::new();
+    let mut open: Vec<(u32, u32)> = Vec::new();
+    let mut sent = 0;
+    let n = if dice.below(2) == 0 { most as usize } else { dice.below(most + 1) as usize };
+    let files = 1 + u64::from(dice.below(2));
+    while rows.len() < n {
+        let (process, file) = (dice.below(processes), dice.below(files));
+        let (next, hands_over) = (dice.below(processes), dice.below(3) == 0);
+        let kinds = if hands_over {
+            vec![(process, dice.of(&[COMMIT, CLOSE, SYNC])), (process, SEND), (next, RECV), (next, dice.of(&[OPEN, OPEN, SYNC]))]
+        } else {
+            vec![(process, dice.of(&[READ, READ, READ, WRITE, WRITE, WRITE, READ, WRITE, COMMIT, OPEN, CLOSE, SYNC, SEND, RECV, RECV]))]
+        };
+        for (process, kind) in kinds {
+            if hands_over && dice.below(8) == 0 {
+                continue;
+            }
+            let row = Row { process, file, kind, ..Row::default() };
+            rows.push(match kind {
+                READ | WRITE => Row { offset: dice.below(6), length: dice.of(&[0, 1, 2, 3, 3, 4, 5]), ..row },
+                SEND => {
+                    sent += 1;
+                    open.push((sent, process));
+                    Row { file: 0, message: sent, ..row }
+                }
+                RECV => match open.iter().rposition(|(_, p)| *p != process) {
+                    Some(at) => Row { file: 0, message: open.remove(at).0, ..row },
+                    None => continue,
+                },
+                _ => row,
+            });
+        }
+    }
+    rows.truncate(n);
+    rows
+}
+
+fn csv_of(rows: &[Row]) -> String {
+    let mut s = String::new();
+    for r in rows {
+        let kind = kiqsaryn::KINDS[r.kind as usize];
+        s.push_str(&match r.kind {
+            READ | WRITE => format!("{},{kind},{},{},{},\r\n", r.process, r.file, r.offset, r.length),
+            SEND | RECV => format!("{},{kind},,,,{}\r\n", r.process, r.message),
+            _ => format!("{},{kind},{},,,\r\n", r.process, r.file),
+        });
+    }
+    s
+}
+
+fn random_text(dice: &mut Dice) -> Vec<u8> {
+    let mut text = match dice.below(4) {
+        0 => (0..dice.below(60)).map(|_| dice.below(256) as u8).collect(),
+        1 => (0..dice.below(120)).map(|_| dice.of(b"0123459,,,\"\r\n\r\nreadwrite -")).collect(),
+        _ => {
+            let rows = csv_of(&random_rows(dice, 20, 4));
+            [if dice.below(4) > 0 { NAMES } else { "" }, &rows].concat().into_bytes()
+        }
+    };
+    for _ in 0..dice.of(&[0, 0, 0, 0, 1, 1, 2, 5]) {
+        if text.is_empty() {
+            break;
+        }
+        let at = dice.below(text.len() as u64) as usize;
+        match dice.below(4) {
+            0 => text.truncate(at),
+            1 => text[at] = dice.below(256) as u8,
+            2 => text.insert(at, dice.of(b"\",\r\n0991 x\0")),
+            _ => {
+                text.remove(at);
+            }
+        }
+    }
+    text
+}
+
+#[test]
+fn no_input_makes_it_crash() {
+    let mut dice = Dice(20_240_817);
+    let mut seen = [0; 4];
+    for k in 0..2_000 {
+        let text = random_text(&mut dice);
+        let header = match (text.starts_with(NAMES.as_bytes()), dice.below(8)) {
+            (_, 0) => dice.of(&["yes", "no"]),
+            (true, _) => "yes",
+            (false, _) => "no",
+        };
+        let model = dice.of(&["posix", "commit", "session", "mpiio"]);
+        let file = dice.below(3).to_string();
+        let processes = dice.of(&["2", "4", "4", "64", "64"]);
+        let mut args = vec!["check", "-", "--header", header, "--processes", processes];
+        match dice.below(5) {
+            0 => args.extend(["--model", model, "--csv"]),
+            1 => {
+                args[0] = "replay";
+                args.extend(["--model", model, "--file", &file]);
+            }
+            2 => {
+                args[0] = "diagram";
+                args.extend(["--model", model]);
+            }
+            _ => {}
+        }
+        let o = run(&args, &text);
+        let code = o.status.code().unwrap_or(-1);
+        assert!((0..=2).contains(&code), "input {k}: {args:?} {:?}", words_of(&text.escape_ascii().collect::<Vec<u8>>()));
+        assert!(!err(&o).contains("panicked") && !out(&o).contains("please report"), "input {k}");
+        if args[0] == "diagram" && code == 0 {
+            well_formed(&out(&o));
+        }
+        seen[code as usize] += 1;
+    }
+    assert!(seen[0] > 200 && seen[1] > 100 && seen[2] > 500, "{seen:?}");
+}
+
+#[test]
+fn csv_is_what_the_program_verdict_prints() {
+    let mut dice = Dice(7_131_719);
+    for k in 0..400 {
+        let text = random_text(&mut dice);
+        let o = run(&["check", "-", "--header", "yes", "--processes", "8", "--csv"], &text);
+        assert_eq!(o.stdout, report(&text), "input {k}");
+    }
+}
+
+// ---- Explanations against the definitions
+
+/// Happens-before as the transitive closure of its edges, by row numbers from 1.
+fn closure(rows: &[Row]) -> Vec<Vec<bool>> {
+    let n = rows.len();
+    let mut hb = vec![vec![false; n + 1]; n + 1];
+    for j in 1..=n {
+        for i in 1..j {
+            let (a, b) = (rows[i - 1], rows[j - 1]);
+            hb[i][j] = a.process == b.process || (a.kind == SEND && b.kind == RECV && a.message == b.message);
+        }
+    }
+    for k in 1..=n {
+        for i in 1..=n {
+            for j in 1..=n {
+                hb[i][j] |= hb[i][k] && hb[k][j];
+            }
+        }
+    }
+    hb
+}
+
+/// The bytes that two rows share, one by one.
+fn common_bytes(a: Row, b: Row) -> Vec<u32> {
+    (a.offset..a.offset + a.length).filter(|x| (b.offset..b.offset + b.length).contains(x)).collect()
+}
+
+fn conflict(a: Row, b: Row) -> bool {
+    let data = |r: Row| r.kind == READ || r.kind == WRITE;
+    data(a)
+        && data(b)
+        && a.file == b.file
+        && a.process != b.process
+        && (a.kind == WRITE || b.kind == WRITE)
+        && !common_bytes(a, b).is_empty()
+}
+
+/// The kinds of the model's chain.
+fn publishes(model: Model, kind: u32) -> bool {
+    match model {
+        Model::Posix => false,
+        Model::Commit => kind == COMMIT,
+        Model::Session => kind == CLOSE,
+        Model::MpiIo => kind == CLOSE || kind == SYNC,
+    }
+}
+
+fn refreshes(model: Model, kind: u32) -> bool {
+    match model {
+        Model::Posix | Model::Commit => false,
+        Model::Session => kind == OPEN,
+        Model::MpiIo => kind == OPEN || kind == SYNC,
+    }
+}
+
+/// A naive view of a trace: rows by number, and happens-before.
+struct Naive {
+    rows: Vec<Row>,
+    hb: Vec<Vec<bool>>,
+}
+
+impl Naive {
+    fn row(&self, k: u32) -> Row {
+        self.rows[k as usize - 1]
+    }
+
+    fn before(&self, i: u32, j: u32) -> bool {
+        self.hb[i as usize][j as usize]
+    }
+
+    fn numbers(&self) -> impl DoubleEndedIterator<Item = u32> {
+        1..=self.rows.len() as u32
+    }
+
+    /// Rows of the process that publish the file after a row.
+    fn published(&self, model: Model, file: u32, process: u32, after: u32) -> Vec<u32> {
+        let of = |k: &u32| self.row(*k).process == process && self.row(*k).file == file;
+        self.numbers().filter(of).filter(|k| *k > after && publishes(model, self.row(*k).kind)).collect()
+    }
+
+    fn refreshed(&self, model: Model, file: u32, process: u32, before: u32) -> Vec<u32> {
+        let of = |k: &u32| self.row(*k).process == process && self.row(*k).file == file;
+        self.numbers().filter(of).filter(|k| *k < before && refreshes(model, self.row(*k).kind)).collect()
+    }
+
+    /// Document 01's table, by trying every chain.
+    fn synchronized(&self, model: Model, x: u32, y: u32) -> bool {
+        let (a, b) = (self.row(x), self.row(y));
+        let commits = self.published(model, a.file, a.process, x);
+        match (a.kind, model) {
+            (READ, _) | (_, Model::Posix) => self.before(x, y),
+            (_, Model::Commit) => commits.iter().any(|c| self.before(*c, y)),
+            _ => commits.iter().any(|c| self.refreshed(model, a.file, b.process, y).iter().any(|o| self.before(*c, *o))),
+        }
+    }
+
+    fn first_race(&self, model: Model) -> Verdict {
+        for later in self.numbers() {
+            for earlier in 1..later {
+                if conflict(self.row(earlier), self.row(later)) && !self.synchronized(model, earlier, later) {
+                    return Verdict::Race { earlier, later };
+                }
+            }
+        }
+        Verdict::Free
+    }
+
+    fn holds(&self, e: &Explanation, claim: &Claim) -> bool {
+        let (x, y) = (self.row(e.earlier), self.row(e.later));
+        match *claim {
+            Claim::NoPublish { process, after } => {
+                process == x.process && after == e.earlier && self.published(e.model, e.file, process, after).is_empty()
+            }
+            Claim::FirstPublish { process, after, row } => {
+                process == x.process && after == e.earlier && self.published(e.model, e.file, process, after).first() == Some(&row)
+            }
+            Claim::NoRefresh { process, before } => {
+                process == y.process && before == e.later && self.refreshed(e.model, e.file, process, before).is_empty()
+            }
+            Claim::LastRefresh { process, before, row } => {
+                process == y.process && before == e.later && self.refreshed(e.model, e.file, process, before).last() == Some(&row)
+            }
+            Claim::NotBefore { from, to } => {
+                !self.before(from, to) && self.row(from).process != self.row(to).process && !self.reaches(from, to)
+            }
+            Claim::LastBefore { process, row, last } => {
+                let known = self.numbers().rev().find(|k| self.row(*k).process == process && self.before(*k, row));
+                known == last && self.row(row).process != process && last.is_none_or(|k| self.row(k).kind == SEND)
+            }
+        }
+    }
+
+    /// Whether a message that the one row's process sends after it reaches the other row's process before that row, directly or through
+    /// other processes: the processes that have it, row by row.
+    fn reaches(&self, from: u32, to: u32) -> bool {
+        let mut has = vec![self.row(from).process];
+        let mut carried = Vec::new();
+        for k in from + 1..to {
+            let r = self.row(k);
+            if r.kind == SEND && has.contains(&r.process) {
+                carried.push(r.message);
+            }
+            if r.kind == RECV && carried.contains(&r.message) {
+                has.push(r.process);
+            }
+        }
+        from < to && has.contains(&self.row(to).process)
+    }
+
+    /// Whether the claims leave no chain: a side of it has no row, or its best rows are not in order.
+    fn settles(&self, e: &Explanation) -> bool {
+        let read = self.row(e.earlier).kind == READ;
+        let mut from = (read || e.model == Model::Posix).then_some(e.earlier);
+        let mut to = (read || matches!(e.model, Model::Posix | Model::Commit)).then_some(e.later);
+        for claim in &e.claims {
+            match *claim {
+                Claim::NoPublish { .. } if from.is_none() => return true,
+                Claim::NoRefresh { .. } if to.is_none() => return true,
+                Claim::FirstPublish { row, .. } if from.is_none() => from = Some(row),
+                Claim::LastRefresh { row, .. } if to.is_none() => to = Some(row),
+                Claim::NotBefore { from: a, to: b } => return from == Some(a) && to == Some(b),
+                _ => {}
+            }
+        }
+        false
+    }
+}
+
+/// The rows as the library reads them, with their counts.
+fn read_rows(text: &str, processes: u32) -> (Vec<u32>, u32, Vec<u16>) {
+    let mut rows = vec![0; 64 * 6];
+    let mut counts = vec![0; 64 * processes as usize];
+    let settings = Settings { header: 0, model: 0, row_limit: 64, process_limit: processes, byte_limit: usize::MAX };
+    let Checked::Accepted(n) = check_trace(text.as_bytes(), settings, &mut rows, &mut counts) else {
+        panic!("an accepted trace: {text}");
+    };
+    assert!(fill_counts(&rows, n, processes, &mut counts));
+    (rows, n, counts)
+}
+
+#[test]
+fn every_claim_of_every_explanation_holds() {
+    let mut dice = Dice(99_991);
+    let (mut races, mut in_order, mut racing_traces) = (0, 0, 0);
+    let mut kinds = [0; 6];
+    for k in 0..3_000 {
+        let most = 4 + u64::from(dice.below(22));
+        let rows = random_rows(&mut dice, most, 3);
+        let text = csv_of(&rows);
+        let (numbers, n, counts) = read_rows(&text, 3);
+        let given = Rows { rows: &numbers, n, processes: 3, counts: &counts };
+        let naive = Naive { hb: closure(&rows), rows };
+        for model in Model::ALL {
+            let mut scratch = vec![0; counts.len()];
+            let judged = verdict(&numbers, n, 3, model.number(), &mut scratch);
+            assert_eq!(judged, naive.first_race(model), "trace {k}: {text}");
+            racing_traces += u32::from(judged != Verdict::Free);
+            for later in 1..=n {
+                for earlier in 1..later {
+                    let racing = conflict(naive.row(earlier), naive.row(later)) && !naive.synchronized(model, earlier, later);
+                    let e = explain(&given, model, earlier, later);
+                    assert_eq!(e.is_some(), racing, "trace {k}, {model:?}, rows {earlier} and {later}: {text}");
+                    let Some(e) = e else {
+                        in_order += u32::from(conflict(naive.row(earlier), naive.row(later)));
+                        continue;
+                    };
+                    let bytes = common_bytes(naive.row(earlier), naive.row(later));
+                    assert_eq!((Some(&e.shared.0), Some(&e.shared.1)), (bytes.first(), bytes.last()));
+                    assert_eq!((e.model, e.file, e.earlier, e.later), (model, naive.row(earlier).file, earlier, later));
+                    for claim in &e.claims {
+                        assert!(naive.holds(&e, claim), "trace {k}: {claim:?} of {e:?}: {text}");
+                        kinds[match claim {
+                            Claim::NoPublish { .. } => 0,
+                            Claim::FirstPublish { .. } => 1,
+                            Claim::NoRefresh { .. } => 2,
+                            Claim::LastRefresh { .. } => 3,
+                            Claim::NotBefore { .. } => 4,
+                            Claim::LastBefore { .. } => 5,
+                        }] += 1;
+                    }
+                    assert!(naive.settles(&e), "trace {k}: {e:?}: {text}");
+                    let w = words::words(&e, &given).expect("words");
+                    assert_eq!(w.lines.len(), e.claims.len() + 1);
+                    races += 1;
+                }
+            }
+        }
+    }
+    let enough = races > 5_000 && in_order > 500 && racing_traces > 1_000 && kinds.iter().all(|n| *n > 300);
+    assert!(enough, "{races}, {in_order}, {racing_traces}, {kinds:?}");
+}
+
+#[test]
+fn sentences() {
+    let rows = "0,write,1,0,10,\r\n0,send,,,,7\r\n0,sync,1,,,\r\n2,recv,,,,7\r\n\
+                2,open,1,,,\r\n2,read,1,9,10,\r\n1,write,1,0,1,\r\n0,commit,1,,,\r\n";
+    let (numbers, n, counts) = read_rows(rows, 3);
+    let given = Rows { rows: &numbers, n, processes: 3, counts: &counts };
+    let say = |model, earlier, later| {
+        let e = explain(&given, model, earlier, later).expect("a race");
+        let w = words::words(&e, &given).expect("words");
+        let lines: Vec<String> = w.lines.iter().map(|(label, line)| format!("{label}: {line}")).collect();
+        (w.shared, lines.join("\n"))
+    };
+    let (shared, lines) = say(Model::Commit, 1, 6);
+    assert_eq!(shared, "byte 9 of file 1");
+    assert_eq!(
+        lines,
+        "Needed: process 0 commits file 1 after row 1, and that commit happens before row 6.\n\
+         Found: process 0's first commit of file 1 after row 1 is row 8.\n\
+         Missing: row 8 does not happen before row 6: it stands behind it in the trace.\n\
+         Order: the last row of process 0 that happens before row 6 is row 2 (send of message 7)."
+    );
+    assert_eq!(
+        say(Model::MpiIo, 1, 6).1,
+        "Needed: process 0 closes or syncs file 1 after row 1, process 2 opens or syncs it before row 6, \
+         and the first of these happens before the second.\n\
+         Found: process 0's first close or sync of file 1 after row 1 is row 3 (sync).\n\
+         Found: process 2's last open or sync of file 1 before row 6 is row 5 (open).\n\
+         Missing: row 3 does not happen before row 5: no message that process 0 sends after row 3 reaches process 2 \
+         before row 5, directly or through other processes.\n\
+         Order: the last row of process 0 that happens before row 5 is row 2 (send of message 7)."
+    );
+    assert_eq!(
+        say(Model::Session, 1, 7).1,
+        "Needed: process 0 closes file 1 after row 1, process 1 opens it before row 7, and that close happens before that open.\n\
+         Missing: process 0 has no close of file 1 after row 1.\n\
+         Missing: process 1 has no open of file 1 before row 7.\n\
+         Order: no row of process 0 happens before row 7."
+    );
+}
+
+// ---- Replays
+
+/// A file as document 01 has it, byte by byte: what each read gets from the layered and from the plain file.
+fn naive_replay(rows: &[Row], file: u32, model: Model, processes: u32) -> (u64, u64, u64) {
+    const BYTES: usize = 16;
+    let mut published = [0u32; BYTES];
+    let mut plain = [0u32; BYTES];
+    let mut views = vec![[(0u32, false); BYTES]; processes as usize];
+    let (mut reads, mut bytes, mut stale) = (0, 0, 0);
+    for (k, r) in rows.iter().enumerate().filter(|(_, r)| r.kind < SEND && r.file == file) {
+        let view = &mut views[r.process as usize];
+        let range = r.offset as usize..(r.offset + r.length) as usize;
+        if r.kind == WRITE {
+            for b in range.clone() {
+                view[b] = (k as u32 + 1, true);
+                plain[b] = k as u32 + 1;
+            }
+        }
+        if publishes(model, r.kind) || (model == Model::Posix && r.kind == WRITE) {
+            for b in 0..BYTES {
+                if view[b].1 {
+                    published[b] = view[b].0;
+                    view[b].1 = false;
+                }
+            }
+        }
+        if refreshes(model, r.kind) || (matches!(model, Model::Posix | Model::Commit) && r.kind == READ) {
+            for b in 0..BYTES {
+                if !view[b].1 {
+                    view[b].0 = published[b];
+                }
+            }
+        }
+        if r.kind == READ {
+            reads += 1;
+            bytes += u64::from(r.length);
+            stale += range.filter(|b| view[*b].0 != plain[*b]).count() as u64;
+        }
+    }
+    (reads, bytes, stale)
+}
+
+#[test]
+fn replays_count_stale_bytes() {
+    let mut dice = Dice(31_337);
+    let mut some = 0;
+    for k in 0..1_000 {
+        let rows = random_rows(&mut dice, 24, 3);
+        let text = csv_of(&rows);
+        let (numbers, n, counts) = read_rows(&text, 3);
+        let trace =
+            input::Trace { name: "x".into(), text: text.clone().into_bytes(), header: false, processes: 3, n, rows: numbers, counts };
+        for model in Model::ALL {
+            let report = replay::report(&trace, 1, model).expect("a replay");
+            let (reads, bytes, stale) = naive_replay(&rows, 1, model, 3);
+            let last = report.lines().last().expect("a last line");
+            assert_eq!(last, format!("Reads: {reads}, bytes read: {bytes}, stale bytes: {stale}"), "trace {k}, {model:?}: {text}");
+            assert_eq!(report.contains(" STALE\n"), stale > 0);
+            some += u64::from(stale > 0);
+        }
+    }
+    assert!(some > 200, "{some}");
+}
+
+/// More pieces than an answer slice holds: the replay is taken up again and again.
+#[test]
+fn replays_of_many_pieces() {
+    let mut text = String::new();
+    for k in 0..1_500 {
+        text.push_str(&format!("{},write,5,{},1,\r\n", k % 3, 2 * k));
+    }
+    text.push_str("0,commit,5,,,\r\n");
+    for k in 0..60 {
+        text.push_str(&format!("{},read,5,0,3000,\r\n", k % 4));
+    }
+    let o = run(&["replay", "-", "--header", "no", "--file", "5", "--model", "posix"], text.as_bytes());
+    assert_eq!(out(&o).lines().last(), Some("Reads: 60, bytes read: 180000, stale bytes: 0"));
+    assert_eq!(out(&o).lines().filter(|l| l.starts_with("  ") && l.contains(" row ")).count(), 60 * 1_500);
+    let o = run(&["replay", "-", "--header", "no", "--file", "5", "--model", "commit"], text.as_bytes());
+    // Process 0 has committed; 1 and 2 see their own writes besides, 3 nothing else.
+    let stale = 15 * (1_000 + 500 + 500 + 1_000);
+    assert_eq!(out(&o).lines().last(), Some(format!("Reads: 60, bytes read: 180000, stale bytes: {stale}").as_str()));
+}
+
+// ---- Pictures
+
+/// Well-formed XML as far as these pictures use it: tags in pairs, attributes in quotes, no bare & or <, and nothing from elsewhere.
+fn well_formed(text: &str) {
+    let body = text.strip_prefix("<?xml version=\"1.0\" encoding=\"UTF-8\"?>\n").expect("the first line");
+    assert!(text.chars().all(|c| c == '\n' || (' '..='~').contains(&c)), "plain text");
+    let entities = |s: &str| {
+        for part in s.split('&').skip(1) {
+            assert!(["amp;", "lt;", "gt;", "quot;"].iter().any(|e| part.starts_with(e)), "&{part}");
+        }
+    };
+    let mut open = Vec::new();
+    let mut roots = 0;
+    let mut rest = body;
+    while let Some(at) = rest.find('<') {
+        entities(&rest[..at]);
+        assert!(!open.is_empty() || rest[..at].trim().is_empty(), "text outside");
+        let end = rest[at..].find('>').expect("a tag's end") + at;
+        let tag = &rest[at + 1..end];
+        rest = &rest[end + 1..];
+        if let Some(name) = tag.strip_prefix('/') {
+            assert_eq!(open.pop(), Some(name), "a closing tag");
+            continue;
+        }
+        let (tag, closed) = tag.strip_suffix('/').map_or((tag, false), |t| (t, true));
+        let mut parts = tag.splitn(2, ' ');
+        let name = parts.next().expect("a name");
+        let attributes: Vec<&str> = parts.next().unwrap_or("").split('"').collect();
+        assert!(attributes.len() % 2 == 1 && attributes.last() == Some(&""), "{tag}");
+        for pair in attributes.chunks_exact(2) {
+            let attribute = pair[0].trim_start().strip_suffix('=').expect("an attribute");
+            assert!(!attribute.contains("href") && !attribute.contains("src"), "{tag}");
+            assert!(!pair[1].contains("http") || attribute == "xmlns", "{tag}");
+            entities(pair[1]);
+        }
+        roots += u32::from(open.is_empty());
+        if !closed {
+            open.push(name);
+        }
+    }
+    assert!(open.is_empty() && roots == 1 && rest.trim().is_empty());
+    assert!(body.starts_with("<svg "));
+}
+
+#[test]
+fn a_picture_shows_every_row_and_message() {
+    let mut dice = Dice(4_242);
+    for _ in 0..40 {
+        let rows = random_rows(&mut dice, 120, 9);
+        let o = run(&["diagram", "-", "--header", "no", "--model", "mpiio"], csv_of(&rows).as_bytes());
+        let picture = out(&o);
+        well_formed(&picture);
+        let arrows = rows.iter().filter(|r| r.kind == RECV).count();
+        assert_eq!(picture.matches("<path class=\"arrow\"").count(), arrows + 1, "messages and the legend's");
+        assert_eq!(picture.matches("<g><title>row ").count(), rows.len());
+        let mut processes: Vec<u32> = rows.iter().map(|r| r.process).collect();
+        processes.sort();
+        processes.dedup();
+        assert_eq!(picture.matches("<path class=\"lane\"").count(), processes.len());
+        let racing = if picture.contains(">Race under mpiio: ") { 2 } else { 0 };
+        assert_eq!(picture.matches(" racing\"").count(), racing + 1, "the pair and the legend's");
+    }
+}
+
+#[test]
+fn a_picture_of_a_strange_name_is_well_formed() {
+    let path = scratch("a&b<c>\"d'.csv");
+    std::fs::copy(examples().join("commit_missing.csv"), &path).expect("a copy");
+    let o = run(&["diagram", path.to_str().expect("a path"), "--header", "yes"], b"");
+    std::fs::remove_file(&path).expect("the copy is removed");
+    assert_eq!(status(&o), 0);
+    well_formed(&out(&o));
+}
+
+/// A full trace of 4,096 rows and 64 processes goes through every command.
+#[test]
+fn a_full_trace() {
+    let mut text = String::new();
+    for k in 0..1024 {
+        let (p, q) = (k % 64, (k + 1) % 64);
+        text.push_str(&format!("{p},write,1,{},90,\r\n{p},commit,1,,,\r\n{p},send,,,,{k}\r\n{q},recv,,,,{k}\r\n", p * 100));
+    }
+    for (args, expected) in [
+        (&["check", "--model", "commit"][..], 0),
+        (&["check"], 0),
+        (&["replay", "--file", "1", "--model", "session"], 0),
+        (&["diagram"], 0),
+    ] {
+        let args: Vec<&str> = args.iter().copied().chain(["-", "--header", "no"]).collect();
+        let o = run(&args, text.as_bytes());
+        assert_eq!(status(&o), expected, "{args:?}: {}", err(&o));
+        assert!(!o.stdout.is_empty());
+        if args[0] == "diagram" {
+            well_formed(&out(&o));
+        }
+    }
+}

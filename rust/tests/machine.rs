@@ -1,0 +1,92 @@
+//! Every vector of `vectors/machine.txt`: the answer, the whole slice of maps and the whole answer slice.
+
+use kiqsaryn::{make, make_plain, step, step_plain, Header, Refusal, Row, READ};
+
+/// A machine (with its model) or a plain file, over a slice.
+struct State {
+    model: Option<u32>,
+    header: Header,
+    maps: Vec<u32>,
+    fill: u32,
+}
+
+impl State {
+    fn make(&mut self) -> Result<(), Refusal> {
+        match self.model {
+            Some(model) => make(model, self.header, &mut self.maps),
+            None => make_plain(self.header, &mut self.maps),
+        }
+    }
+
+    fn step(&mut self, row: Row, number: u32, out: &mut [u32]) -> Result<u32, Refusal> {
+        match self.model {
+            Some(model) => step(model, self.header, &mut self.maps, row, number, out),
+            None => step_plain(self.header, &mut self.maps, row, number, out),
+        }
+    }
+}
+
+#[test]
+fn every_machine_vector() {
+    let path = concat!(env!("CARGO_MANIFEST_DIR"), "/../vectors/machine.txt");
+    let text = std::fs::read_to_string(path).expect("the vectors");
+    let mut lines = text.lines().enumerate().peekable();
+    let mut state = None;
+    let (mut made, mut steps) = (0, 0);
+    while let Some((at, line)) = lines.next() {
+        let w: Vec<&str> = line.split(' ').collect();
+        let n = |k: usize| w[k].parse::<u32>().expect("a number");
+        let mut expected = state.as_ref().map_or(Vec::new(), |s: &State| s.maps.clone());
+        let answer = match w[0] {
+            "M" | "F" => {
+                let model = (w[0] == "M").then(|| n(2));
+                let at = if model.is_some() { 3 } else { 2 };
+                let header = Header { process_limit: n(at), file: n(at + 1), map_space: n(at + 2) };
+                let fill = n(at + 4);
+                let mut s = State { model, header, maps: vec![fill; n(at + 3) as usize], fill };
+                expected = s.maps.clone();
+                let answer = match s.make() {
+                    Ok(()) => "made".to_string(),
+                    Err(refusal) => format!("refused {}", refusal.number()),
+                };
+                state = Some(s);
+                made += 1;
+                answer
+            }
+            "!" => {
+                state.as_mut().expect("a state").maps[n(1) as usize] = n(2);
+                continue;
+            }
+            "S" => {
+                let s = state.as_mut().expect("a state");
+                let row = Row { process: n(2), kind: n(3), file: n(4), offset: n(5), length: n(6), message: n(7) };
+                let blank = s.fill + 1;
+                let mut out = vec![blank; n(8) as usize];
+                let answer = s.step(row, n(1), &mut out);
+                let count = answer.unwrap_or(0) as usize;
+                assert!(out[3 * count..].iter().all(|x| *x == blank), "the answer slice of line {}", at + 1);
+                steps += 1;
+                match answer {
+                    Err(refusal) => format!("refused {}", refusal.number()),
+                    Ok(_) if row.kind != READ => "done".to_string(),
+                    Ok(0) => "list 0 -".to_string(),
+                    Ok(count) => {
+                        let pieces: String = out[..3 * count as usize].iter().map(|x| format!(" {x}")).collect();
+                        format!("list {count}{pieces}")
+                    }
+                }
+            }
+            _ => panic!("line {}", at + 1),
+        };
+        let (_, want) = lines.next().expect("an answer");
+        assert_eq!(format!("> {answer}"), want, "line {}", at + 1);
+        if let Some((_, line)) = lines.next_if(|(_, l)| l.starts_with('=')) {
+            expected = line.split(' ').skip(1).filter(|x| *x != "-").map(|x| x.parse().expect("a number")).collect();
+        }
+        assert_eq!(state.as_ref().expect("a state").maps, expected, "the maps of line {}", at + 1);
+    }
+    assert_eq!((made, steps), (MADE, STEPS));
+}
+
+const MADE: usize = 500;
+const STEPS: usize = 2790;

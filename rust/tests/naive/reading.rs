@@ -1,0 +1,194 @@
+//! A trace's records, the questions put to them, and what the program `verdict` prints.
+
+use super::order::{first_race, Order};
+use kiqsaryn::{Model, Row, Settings, KINDS, READ, RECV, SEND, WRITE};
+
+const NAMES: [&[u8]; 6] = [b"process", b"kind", b"file", b"offset", b"length", b"message"];
+
+enum Record {
+    Fields(Vec<Vec<u8>>),
+    Malformed,
+    /// Its reading would look at a byte past the byte limit.
+    Unread,
+}
+
+#[derive(Clone, Copy, PartialEq)]
+enum At {
+    Byte(u8),
+    Past,
+    End,
+}
+
+fn textdata(b: u8) -> bool {
+    matches!(b, 0x20..=0x21 | 0x23..=0x2B | 0x2D..=0x7E)
+}
+
+/// The record that starts at a place, and the place behind it.
+fn record(at: &impl Fn(usize) -> At, mut i: usize) -> (Record, usize) {
+    let mut fields = Vec::new();
+    loop {
+        let mut content = Vec::new();
+        if at(i) == At::Byte(b'"') {
+            i += 1;
+            loop {
+                match at(i) {
+                    At::Byte(b'"') if at(i + 1) == At::Byte(b'"') => {
+                        content.push(b'"');
+                        i += 2;
+                    }
+                    At::Byte(b'"') => break,
+                    At::Byte(b) if textdata(b) || b == b',' || b == b'\r' || b == b'\n' => {
+                        content.push(b);
+                        i += 1;
+                    }
+                    At::Byte(_) | At::End => return (Record::Malformed, i),
+                    At::Past => return (Record::Unread, i),
+                }
+            }
+            i += 1;
+        } else {
+            while let At::Byte(b) = at(i) {
+                if !textdata(b) {
+                    break;
+                }
+                content.push(b);
+                i += 1;
+            }
+        }
+        fields.push(content);
+        match (at(i), at(i + 1)) {
+            (At::Byte(b','), _) => i += 1,
+            (At::Byte(b'\r'), At::Byte(b'\n')) => return (Record::Fields(fields), i + 2),
+            (At::End, _) => return (Record::Fields(fields), i),
+            (At::Past, _) | (At::Byte(b'\r'), At::Past) => return (Record::Unread, i),
+            _ => return (Record::Malformed, i),
+        }
+    }
+}
+
+/// All records up to the first that is not well formed or not read.
+fn records(text: &[u8], byte_limit: usize) -> Vec<Record> {
+    let at = |i: usize| match text.get(i) {
+        None => At::End,
+        Some(_) if i >= byte_limit => At::Past,
+        Some(b) => At::Byte(*b),
+    };
+    let mut all = Vec::new();
+    let mut i = 0;
+    while i < text.len() {
+        let (next, behind) = record(&at, i);
+        let whole = matches!(next, Record::Fields(_));
+        all.push(next);
+        if !whole {
+            break;
+        }
+        i = behind;
+    }
+    all
+}
+
+/// A plain number of at most this value.
+fn number(field: &[u8], most: u64) -> Option<u32> {
+    let digits = field.iter().all(u8::is_ascii_digit);
+    let plain = digits && (field == b"0" || field.first().is_some_and(|b| *b != b'0'));
+    if !plain || field.len() > 10 {
+        return None;
+    }
+    let value = field.iter().fold(0u64, |value, b| 10 * value + u64::from(b - b'0'));
+    u32::try_from(value).ok().filter(|v| u64::from(*v) <= most)
+}
+
+/// Questions 7 to 12 to a record behind these rows.
+fn row(fields: &[Vec<u8>], process_limit: u32, rows: &[Row]) -> Result<Row, u32> {
+    if fields.len() != 6 {
+        return Err(7);
+    }
+    let kind = KINDS.iter().position(|word| word.as_bytes() == fields[1]).ok_or(8u32)? as u32;
+    let used = match kind {
+        READ | WRITE => [true, true, true, true, true, false],
+        SEND | RECV => [true, true, false, false, false, true],
+        _ => [true, true, true, false, false, false],
+    };
+    if fields.iter().zip(used).any(|(field, used)| field.is_empty() == used) {
+        return Err(9);
+    }
+    let value = |k: usize, most: u64| if used[k] { number(&fields[k], most).ok_or(10u32) } else { Ok(0) };
+    let whole = u64::from(u32::MAX);
+    let row = Row {
+        process: value(0, u64::from(process_limit) - 1)?,
+        kind,
+        file: value(2, 63)?,
+        offset: value(3, whole)?,
+        length: value(4, whole)?,
+        message: value(5, 65_535)?,
+    };
+    if u64::from(row.offset) + u64::from(row.length) > whole {
+        return Err(11);
+    }
+    let sender = rows.iter().find(|r| r.kind == SEND && r.message == row.message);
+    let received = rows.iter().any(|r| r.kind == RECV && r.message == row.message);
+    let right = match kind {
+        SEND => sender.is_none(),
+        RECV => sender.is_some_and(|r| r.process != row.process) && !received,
+        _ => true,
+    };
+    if right {
+        Ok(row)
+    } else {
+        Err(12)
+    }
+}
+
+/// The rows of a trace, or the number and place of its refusal.
+pub fn check(text: &[u8], s: Settings, rows_len: usize, counts_len: usize) -> Result<Vec<Row>, (u32, u32)> {
+    let cells = u128::from(s.row_limit) * u128::from(s.process_limit);
+    if (rows_len as u128) < 6 * u128::from(s.row_limit) || (counts_len as u128) < cells {
+        return Err((1, 0));
+    }
+    if s.model > 3 || !(1..=4096).contains(&s.row_limit) || !(1..=64).contains(&s.process_limit) {
+        return Err((2, 0));
+    }
+    if s.header > 1 {
+        return Err((3, 0));
+    }
+    let mut records = records(text, s.byte_limit).into_iter();
+    if s.header == 1 {
+        match records.next() {
+            Some(Record::Malformed) => return Err((4, 0)),
+            Some(Record::Fields(fields)) if fields == NAMES => {}
+            _ => return Err((5, 0)),
+        }
+    }
+    let mut rows = Vec::new();
+    for (record, place) in records.zip(1..) {
+        match record {
+            Record::Malformed => return Err((4, place)),
+            Record::Unread => return Err((6, place)),
+            Record::Fields(_) if place > s.row_limit => return Err((6, place)),
+            Record::Fields(fields) => match row(&fields, s.process_limit, &rows) {
+                Ok(row) => rows.push(row),
+                Err(number) => return Err((number, place)),
+            },
+        }
+    }
+    Ok(rows)
+}
+
+/// What the program `verdict` prints.
+pub fn report(text: &[u8]) -> String {
+    let s = Settings { header: 1, model: 0, row_limit: 128, process_limit: 8, byte_limit: 8192 };
+    match check(text, s, 6 * 128, 8 * 128) {
+        Err((number, place)) => format!("refused,{number},{place}\r\n"),
+        Ok(rows) => {
+            let order = Order::of(&rows);
+            let mut lines = String::from("model,verdict,earlier,later\r\n");
+            for model in Model::ALL {
+                match first_race(&rows, &order, model.number()) {
+                    None => lines += &format!("{},free,,\r\n", model.name()),
+                    Some((x, y)) => lines += &format!("{},race,{x},{y}\r\n", model.name()),
+                }
+            }
+            lines
+        }
+    }
+}

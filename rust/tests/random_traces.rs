@@ -1,0 +1,598 @@
+//! Random traces through the library and through the naive rules: the answer and both slices of the check, the counts, the verdict under
+//! every model, the report, and counts and verdicts of wild rows and arguments.
+//!
+//! By hand, more of them: `KIQSARYN_TRACES=1000000 KIQSARYN_SEED=7 cargo test --offline --test random_traces -- --nocapture`. A trace's own
+//! seed is the seed plus its number, so `KIQSARYN_TRACES=1` with the seed that a failure prints repeats that trace alone.
+
+#[allow(dead_code)]
+mod naive;
+
+use kiqsaryn::{
+    check_trace, fill_counts, report, verdict, Checked, Model, Refusal, Row, Settings, Verdict, CLOSE, COMMIT, KINDS, OPEN, READ, RECV,
+    SEND, SYNC, WRITE,
+};
+use naive::order::{counts, first_race, Order};
+use naive::random::{setting, Random};
+use naive::reading;
+
+const TRACES: u64 = 60_000;
+const SEED: u64 = 20_240_101;
+
+// ---- Rows of traces that are accepted
+
+/// Rows in the making, with the messages that are sent and not yet received.
+struct Rows<'a> {
+    r: &'a mut Random,
+    all: Vec<Row>,
+    processes: Vec<u32>,
+    files: Vec<u32>,
+    base: u32,
+    spread: u32,
+    longest: u32,
+    sent: Vec<u32>,
+    waiting: Vec<(u32, u32)>,
+}
+
+impl Rows<'_> {
+    fn new(r: &mut Random, process_limit: u32, most: u32) -> Rows<'_> {
+        let fewest = if r.once_in(20) { 1 } else { 2 };
+        let processes = (0..r.between(fewest, most.min(process_limit))).map(|_| r.below(process_limit)).collect();
+        let files = (0..r.pick(&[1, 1, 2, 3])).map(|_| r.below(64)).collect();
+        let base = if r.once_in(10) { u32::MAX - r.between(100, 300) } else { r.below(5) };
+        let spread = r.pick(&[4, 16, 90]);
+        let longest = r.pick(&[1, 5, 20]);
+        Rows { r, all: Vec::new(), processes, files, base, spread, longest, sent: Vec::new(), waiting: Vec::new() }
+    }
+
+    fn range(&mut self) -> (u32, u32) {
+        if self.r.once_in(40) {
+            return self.r.pick(&[(u32::MAX, 0), (0, u32::MAX), (u32::MAX - 1, 1), (0, 0), (u32::MAX - 7, 7)]);
+        }
+        let offset = self.base + self.r.below(self.spread);
+        (offset, self.r.below(self.longest + 1).min(u32::MAX - offset))
+    }
+
+    fn data(&mut self, process: u32, file: u32) {
+        let kind = self.r.pick(&[READ, WRITE]);
+        let (offset, length) = self.range();
+        self.all.push(Row { process, kind, file, offset, length, message: 0 });
+    }
+
+    fn sync(&mut self, process: u32, kind: u32, file: u32) {
+        self.all.push(Row { process, kind, file, ..Row::default() });
+    }
+
+    fn send(&mut self, process: u32) -> u32 {
+        let mut message = if self.r.once_in(2) { self.r.below(70) } else { self.r.below(65_536) };
+        while self.sent.contains(&message) {
+            message = (message + 1) % 65_536;
+        }
+        self.sent.push(message);
+        self.all.push(Row { process, kind: SEND, message, ..Row::default() });
+        message
+    }
+
+    fn recv(&mut self, process: u32, message: u32) {
+        self.all.push(Row { process, kind: RECV, message, ..Row::default() });
+    }
+
+    /// Any row of any process; a recv takes a waiting message of another.
+    fn loose(&mut self) {
+        let process = self.r.pick(&self.processes);
+        let file = self.r.pick(&self.files);
+        match self.r.below(10) {
+            0..=3 => self.data(process, file),
+            4 | 5 => {
+                let kind = self.r.between(COMMIT, SYNC);
+                self.sync(process, kind, file);
+            }
+            6 | 7 => {
+                let message = self.send(process);
+                self.waiting.push((message, process));
+            }
+            _ => {
+                let k = self.waiting.iter().position(|(_, sender)| *sender != process);
+                if let Some((message, _)) = k.map(|k| self.waiting.remove(k)) {
+                    self.recv(process, message);
+                }
+            }
+        }
+    }
+
+    /// A file goes from its holder to the next process, with these of the rows that the models ask for; now and then one is left out.
+    fn hand_over(&mut self, holder: u32, file: u32, wanted: &[u32], slip: u32) -> u32 {
+        let next = self.r.pick(&self.processes);
+        if next == holder {
+            return holder;
+        }
+        for kind in [COMMIT, CLOSE, SYNC] {
+            if wanted.contains(&kind) && !self.r.once_in(slip) {
+                self.sync(holder, kind, file);
+            }
+        }
+        if !self.r.once_in(slip) {
+            let message = self.send(holder);
+            self.recv(next, message);
+        }
+        for kind in [OPEN, SYNC] {
+            if wanted.contains(&kind) && !self.r.once_in(slip) {
+                self.sync(next, kind, file);
+            }
+        }
+        next
+    }
+
+    fn orderly(&mut self, rows: usize) {
+        let wanted = self.r.pick::<&[u32]>(&[&[COMMIT, CLOSE, OPEN, SYNC], &[COMMIT], &[CLOSE, OPEN], &[SYNC], &[COMMIT, CLOSE, OPEN]]);
+        let slip = self.r.pick(&[4, 12, 40, 1000]);
+        let hold = self.r.pick(&[2, 4]);
+        let stray = self.r.pick(&[10, 50, 1000]);
+        let mut holders: Vec<u32> = self.files.iter().map(|_| self.processes[0]).collect();
+        while self.all.len() < rows {
+            let k = self.r.place(holders.len());
+            self.data(holders[k], self.files[k]);
+            if self.r.once_in(hold) {
+                holders[k] = self.hand_over(holders[k], self.files[k], wanted, slip);
+            }
+            if self.r.once_in(stray) {
+                self.loose();
+            }
+        }
+        self.all.truncate(rows);
+    }
+}
+
+fn loose_rows(r: &mut Random, process_limit: u32, rows: usize) -> Vec<Row> {
+    let mut making = Rows::new(r, process_limit, 6);
+    while making.all.len() < rows {
+        making.loose();
+    }
+    making.all
+}
+
+fn orderly_rows(r: &mut Random, process_limit: u32, rows: usize) -> Vec<Row> {
+    let mut making = Rows::new(r, process_limit, 6);
+    making.orderly(rows);
+    making.all
+}
+
+/// A long trace: many processes, wide files, so that most pairs do not meet.
+fn long_rows(r: &mut Random, rows: usize) -> Vec<Row> {
+    let mut making = Rows::new(r, 64, 64);
+    while making.files.len() < 6 {
+        making.files.push(making.files.len() as u32);
+    }
+    (making.base, making.spread, making.longest) = (0, 5_000, 4);
+    if making.r.once_in(2) {
+        making.orderly(rows);
+    } else {
+        while making.all.len() < rows {
+            making.loose();
+        }
+    }
+    making.all.truncate(rows);
+    making.all
+}
+
+// ---- The text of rows
+
+type Record = Vec<Vec<u8>>;
+
+fn header() -> Record {
+    ["process", "kind", "file", "offset", "length", "message"].map(|name| name.as_bytes().to_vec()).to_vec()
+}
+
+fn record(row: Row) -> Record {
+    let n = |used: bool, x: u32| if used { x.to_string().into_bytes() } else { Vec::new() };
+    let message = row.kind == SEND || row.kind == RECV;
+    let data = row.kind == READ || row.kind == WRITE;
+    vec![
+        n(true, row.process),
+        KINDS[row.kind as usize].as_bytes().to_vec(),
+        n(!message, row.file),
+        n(data, row.offset),
+        n(data, row.length),
+        n(message, row.message),
+    ]
+}
+
+/// Some fields quoted, and the last record at times without its line end.
+fn text(r: &mut Random, records: &[Record]) -> Vec<u8> {
+    let quoting = r.pick(&[u32::MAX, 20, 2]);
+    let mut text = Vec::new();
+    for record in records {
+        for (k, field) in record.iter().enumerate() {
+            if k > 0 {
+                text.push(b',');
+            }
+            if r.once_in(quoting) || field.iter().any(|b| b"\",\r\n".contains(b)) {
+                text.push(b'"');
+                for b in field {
+                    text.push(*b);
+                    if *b == b'"' {
+                        text.push(b'"');
+                    }
+                }
+                text.push(b'"');
+            } else {
+                text.extend(field);
+            }
+        }
+        text.extend(b"\r\n");
+    }
+    if r.once_in(2) {
+        text.truncate(text.len().saturating_sub(2));
+    }
+    text
+}
+
+// ---- Damage
+
+/// A field with other content.
+fn damaged_field(r: &mut Random, field: &[u8]) -> Vec<u8> {
+    let words: [&[u8]; 28] = [
+        b"",
+        b"0",
+        b"1",
+        b"7",
+        b"00",
+        b"01",
+        b"+1",
+        b"-1",
+        b" 1",
+        b"1 ",
+        b"1.0",
+        b"0x1",
+        b"63",
+        b"64",
+        b"65",
+        b"4095",
+        b"65535",
+        b"65536",
+        b"4294967295",
+        b"4294967296",
+        b"9999999999",
+        b"18446744073709551617",
+        b"300000000000000000000000000000",
+        b"write",
+        b"WRITE",
+        b"recv",
+        b"a\"b",
+        b"a,b\r\nc",
+    ];
+    match r.below(4) {
+        0 => field.to_ascii_uppercase(),
+        1 => [field, b"0"].concat(),
+        2 => field[..field.len().saturating_sub(1)].to_vec(),
+        _ => r.pick(&words).to_vec(),
+    }
+}
+
+/// A record made wrong, dropped, doubled, or put elsewhere (so that messages stand out of order).
+fn damage_record(r: &mut Random, records: &mut Vec<Record>, k: usize) {
+    let fields = records[k].len();
+    match r.below(14) {
+        0 => drop(records[k].remove(r.place(fields))),
+        1 => records[k].insert(r.place(fields + 1), b"1".to_vec()),
+        2 => {
+            let moved = records.remove(k);
+            let to = r.place(records.len() + 1);
+            records.insert(to, moved);
+        }
+        3 => {
+            let copy = records[k].clone();
+            records.push(copy);
+        }
+        4 => records[k] = vec![Vec::new()],
+        5 if fields == 6 => {
+            let offset = r.bits() as u32;
+            let length = u64::from(u32::MAX - offset) + r.bits() % 3;
+            records[k][3] = offset.to_string().into_bytes();
+            records[k][4] = length.to_string().into_bytes();
+        }
+        6..=9 => {
+            // the process, kind or message of another record, often of a send or recv and its message's other end
+            let talks: Vec<usize> = (0..records.len()).filter(|j| records[*j].len() == 6 && !records[*j][5].is_empty()).collect();
+            let to = if talks.is_empty() || r.once_in(4) { k } else { r.pick(&talks) };
+            let ends: Vec<usize> = talks.into_iter().filter(|j| records[*j].get(5) == records[to].get(5) && *j != to).collect();
+            let from = if ends.is_empty() || r.once_in(3) { r.place(records.len()) } else { r.pick(&ends) };
+            let f = r.pick(&[0, 0, 1, 5]);
+            if let Some(field) = records[from].get(f).filter(|_| f < records[to].len()).cloned() {
+                records[to][f] = field;
+            }
+        }
+        _ => {
+            let f = r.place(fields);
+            records[k][f] = damaged_field(r, &records[k][f]);
+        }
+    }
+}
+
+/// One or two damages, at times of the same record.
+fn damage_records(r: &mut Random, records: &mut Vec<Record>) {
+    let mut k = r.place(records.len());
+    damage_record(r, records, k);
+    if r.once_in(2) {
+        k = if r.once_in(2) { r.place(records.len()) } else { k };
+        if records.get(k).is_some_and(|record| !record.is_empty()) {
+            damage_record(r, records, k);
+        }
+    }
+}
+
+/// One byte changed, removed or inserted, or the text cut.
+fn damage_bytes(r: &mut Random, text: &mut Vec<u8>) {
+    let byte = if r.once_in(4) { r.below(256) as u8 } else { r.pick(b"\",\r\n 019azR~\x7f\x80\x00!#") };
+    if text.is_empty() {
+        text.push(byte);
+        return;
+    }
+    let k = r.place(text.len());
+    match r.below(8) {
+        0..=2 => text[k] = byte,
+        3 | 4 => {
+            text.remove(k);
+        }
+        5 | 6 => text.insert(k, byte),
+        _ => text.truncate(k),
+    }
+}
+
+// ---- One trace
+
+struct Case {
+    seed: u64,
+    text: Vec<u8>,
+    s: Settings,
+    rows: Vec<u32>,
+    counts: Vec<u16>,
+}
+
+impl Case {
+    fn told(&self) -> String {
+        format!(
+            "trace of seed {}; repeat it with KIQSARYN_SEED={} KIQSARYN_TRACES=1\n{:?}\n{} numbers lent for rows, {} for counts\ntext \"{}\"",
+            self.seed,
+            self.seed,
+            self.s,
+            self.rows.len(),
+            self.counts.len(),
+            self.text.escape_ascii()
+        )
+    }
+}
+
+/// Slices as settings ask for, at times longer, with anything in them.
+fn lent(r: &mut Random, s: Settings) -> (Vec<u32>, Vec<u16>) {
+    let (row_limit, process_limit) = (s.row_limit.min(4097) as usize, s.process_limit.min(65) as usize);
+    let more = r.pick(&[0, 0, 1, 7]);
+    let rows = (0..6 * row_limit + more).map(|_| r.bits() as u32).collect();
+    let counts = (0..row_limit * process_limit + more).map(|_| r.bits() as u16).collect();
+    (rows, counts)
+}
+
+/// Rows that are accepted, and the process limit that they keep.
+fn some_rows(r: &mut Random) -> (Vec<Row>, u32) {
+    if r.once_in(4000) {
+        let n = r.between(500, 4096) as usize;
+        return (long_rows(r, n), 64);
+    }
+    let process_limit = r.pick(&[2, 3, 4, 8, 64]);
+    let n = r.between(2, 60) as usize;
+    let rows = if r.once_in(2) { loose_rows(r, process_limit, n) } else { orderly_rows(r, process_limit, n) };
+    (rows, process_limit)
+}
+
+/// A setting that does not suit the text, or a wild one.
+fn damage_settings(r: &mut Random, s: &mut Settings, text_len: usize) {
+    match r.below(8) {
+        0 => s.header = r.pick(&[0, 1, 2, u32::MAX]),
+        1 => s.model = r.pick(&[0, 3, 4, u32::MAX]),
+        2 => s.row_limit = r.pick(&[0, 1, 4096, 4097, u32::MAX]),
+        3 => s.process_limit = r.pick(&[0, 1, 64, 65, u32::MAX]),
+        4 => s.row_limit = r.between(1, s.row_limit),
+        _ => s.byte_limit = r.place(text_len + 1),
+    }
+    if r.once_in(20) {
+        (s.header, s.model) = (r.below(3), r.below(5));
+    }
+}
+
+/// A text, sound or damaged, with settings and slices that suit it, or not.
+fn case(r: &mut Random, seed: u64) -> Case {
+    let (rows, process_limit) = some_rows(r);
+    let header_word = r.below(2);
+    let mut records: Vec<Record> = rows.iter().map(|row| record(*row)).collect();
+    if header_word == 1 {
+        records.insert(0, header());
+    }
+    let damage = r.below(100);
+    if (40..65).contains(&damage) {
+        damage_records(r, &mut records);
+    }
+    let mut text = text(r, &records);
+    if (65..85).contains(&damage) {
+        (0..r.between(1, 3)).for_each(|_| damage_bytes(r, &mut text));
+    }
+    let room = r.pick(&[0, 0, 1, 5]);
+    let mut s = Settings {
+        header: header_word,
+        model: r.below(4),
+        row_limit: (records.len() as u32 + room).clamp(1, 4096),
+        process_limit,
+        byte_limit: if r.once_in(2) { usize::MAX } else { text.len() + r.place(3) },
+    };
+    if damage >= 85 {
+        damage_settings(r, &mut s, text.len());
+    }
+    let (mut rows, mut counts) = lent(r, s);
+    if damage >= 85 && r.once_in(4) {
+        rows.truncate(rows.len().saturating_sub(r.place(3)));
+        counts.truncate(counts.len().saturating_sub(r.place(3)));
+    }
+    Case { seed, text, s, rows, counts }
+}
+
+// ---- Comparing
+
+/// How often each answer came.
+#[derive(Default, Debug)]
+struct Seen {
+    refused: [u64; 18],
+    accepted: u64,
+    free: [u64; 4],
+    races: [u64; 4],
+    late_races: u64,
+    /// Traces with different verdicts under two models.
+    split: u64,
+    wild: [u64; 2],
+}
+
+fn padded<T: Copy + Default>(front: Vec<T>, len: usize) -> Vec<T> {
+    let mut all = front;
+    all.resize(len, T::default());
+    all
+}
+
+fn numbers(rows: &[Row]) -> Vec<u32> {
+    rows.iter().flat_map(|r| [r.process, r.kind, r.file, r.offset, r.length, r.message]).collect()
+}
+
+/// Counts and verdicts of rows as they are, by the definitions where the arguments are right.
+fn judge(r: &mut Random, told: &dyn Fn() -> String, rows: &[Row], lent: &[u32], process_limit: u32, counts_len: usize, seen: &mut Seen) {
+    let n = rows.len() as u32;
+    let order = Order::of(rows);
+    let fill: Vec<u16> = (0..counts_len).map(|_| r.bits() as u16).collect();
+    let fits = n <= 4096 && process_limit <= 64 && 6 * n as usize <= lent.len() && (n * process_limit) as usize <= counts_len;
+    let want = if fits { padded(counts(rows, &order, process_limit), counts_len) } else { fill.clone() };
+    let mut got = fill.clone();
+    assert_eq!(fill_counts(lent, n, process_limit, &mut got), fits, "counts filled?\n{}", told());
+    assert!(got == want, "counts {got:?} and not {want:?}\n{}", told());
+    let judgeable = fits && rows.iter().all(|row| row.process < process_limit);
+    let mut races = Vec::new();
+    for model in Model::ALL.map(Model::number) {
+        let race = first_race(rows, &order, model);
+        let answer = match race {
+            _ if !judgeable => Verdict::Refused,
+            None => Verdict::Free,
+            Some((earlier, later)) => Verdict::Race { earlier, later },
+        };
+        let mut got = fill.clone();
+        assert_eq!(verdict(lent, n, process_limit, model, &mut got), answer, "verdict under model {model}\n{}", told());
+        let left = if judgeable { &want } else { &fill };
+        assert!(got == *left, "counts of the verdict {got:?} and not {left:?}\n{}", told());
+        match race {
+            None => seen.free[model as usize] += 1,
+            Some((_, later)) => {
+                seen.races[model as usize] += 1;
+                seen.late_races += u64::from(later > 30);
+            }
+        }
+        races.push(race);
+    }
+    seen.split += u64::from(races.iter().any(|race| *race != races[0]));
+    let model = r.pick(&[4, 5, u32::MAX]);
+    let mut got = fill.clone();
+    assert_eq!(verdict(lent, n, process_limit, model, &mut got), Verdict::Refused, "verdict under model {model}\n{}", told());
+    assert!(got == fill, "counts of a refused verdict\n{}", told());
+}
+
+fn compare(r: &mut Random, case: &mut Case, seen: &mut Seen) {
+    let told = case.told();
+    let (rows_before, counts_before) = (case.rows.clone(), case.counts.clone());
+    let got = check_trace(&case.text, case.s, &mut case.rows, &mut case.counts);
+    let want = reading::check(&case.text, case.s, case.rows.len(), case.counts.len());
+    let (rows_len, counts_len) = (case.rows.len(), case.counts.len());
+    match want {
+        Ok(rows) => {
+            assert_eq!(got, Checked::Accepted(rows.len() as u32), "{told}");
+            assert!(case.rows == padded(numbers(&rows), rows_len), "rows {:?}\n{told}", case.rows);
+            assert!(case.counts.iter().all(|c| *c == 0), "counts {:?}\n{told}", case.counts);
+            seen.accepted += 1;
+            judge(r, &|| told.clone(), &rows, &case.rows, case.s.process_limit, counts_len, seen);
+        }
+        Err((number, place)) => {
+            let refusal = Refusal::from_number(number).expect("a refusal");
+            assert_eq!(got, Checked::Refused { refusal, place }, "{told}");
+            let kept = number <= 3;
+            let (rows, counts) = if kept { (rows_before, counts_before) } else { (vec![0; rows_len], vec![0; counts_len]) };
+            assert!(case.rows == rows, "rows {:?}\n{told}", case.rows);
+            assert!(case.counts == counts, "counts {:?}\n{told}", case.counts);
+            seen.refused[number as usize] += 1;
+        }
+    }
+    assert_eq!(String::from_utf8_lossy(&report(&case.text)), reading::report(&case.text), "report\n{told}");
+}
+
+/// Rows that no text gives: any kinds, processes past the limit, messages sent twice and received early, ranges past the end.
+fn wild_rows(r: &mut Random, n: u32, process_limit: u32) -> Vec<Row> {
+    let kinds = r.pick(&[8, 10]);
+    let processes = if r.once_in(2) { process_limit.max(1) } else { process_limit + 2 };
+    let far = r.pick(&[u32::MAX, 6]);
+    let mut number = |most: u32| {
+        if r.once_in(far) {
+            r.pick(&[u32::MAX, u32::MAX - 1, 64, 65_536])
+        } else {
+            r.below(most)
+        }
+    };
+    let row = |_| Row {
+        process: number(processes),
+        kind: number(kinds),
+        file: number(2),
+        offset: number(9),
+        length: number(9),
+        message: number(4),
+    };
+    (0..n).map(row).collect()
+}
+
+fn compare_wild(r: &mut Random, seed: u64, seen: &mut Seen) {
+    let process_limit = r.pick(&[0, 1, 2, 3, 4, 63, 64, 65, 66]);
+    let n = if r.once_in(2000) { r.between(4095, 4098) } else { r.between(0, 25) };
+    let rows = wild_rows(r, n, process_limit);
+    let mut lent = numbers(&rows);
+    let mut counts_len = (n * process_limit) as usize;
+    match r.below(6) {
+        0 => lent.truncate(lent.len().saturating_sub(1)),
+        1 => counts_len = counts_len.saturating_sub(1),
+        2 => counts_len += r.place(9),
+        3 => lent.extend([3, 1, 4]),
+        _ => {}
+    }
+    let told = || {
+        let again = format!("wild rows of seed {seed}; repeat them with KIQSARYN_SEED={seed} KIQSARYN_TRACES=1");
+        format!("{again}\nprocess limit {process_limit}, {counts_len} counts, {n} rows of {lent:?}")
+    };
+    let judged = rows.iter().all(|row| row.process < process_limit);
+    seen.wild[usize::from(judged)] += 1;
+    let ignored = &mut Seen::default();
+    judge(r, &told, &rows, &lent, process_limit, counts_len, ignored);
+    for (n, limit, model) in [(u32::MAX, process_limit, 0), (n, u32::MAX, 1), (u32::MAX, u32::MAX, u32::MAX), (n.max(4097), 64, 2)] {
+        let mut got = vec![9u16; counts_len];
+        assert!(!fill_counts(&lent, n, limit, &mut got), "counts of {n} rows under limit {limit}\n{}", told());
+        assert_eq!(verdict(&lent, n, limit, model, &mut got), Verdict::Refused, "verdict on {n} rows under limit {limit}\n{}", told());
+        assert!(got.iter().all(|c| *c == 9), "counts are kept\n{}", told());
+    }
+}
+
+#[test]
+fn random_traces() {
+    let (traces, seed) = (setting("KIQSARYN_TRACES", TRACES), setting("KIQSARYN_SEED", SEED));
+    let mut seen = Seen::default();
+    for number in 0..traces {
+        let seed = seed.wrapping_add(number);
+        let r = &mut Random::new(seed);
+        let mut case = case(r, seed);
+        compare(r, &mut case, &mut seen);
+        compare_wild(r, seed, &mut seen);
+    }
+    println!("{traces} traces, seed {seed}: {seen:?}");
+    if traces >= 20_000 {
+        assert!(seen.accepted * 3 > traces, "a third is accepted: {seen:?}");
+        assert!(seen.refused[1..=12].iter().all(|n| *n >= 20), "every refusal is met: {seen:?}");
+        assert!(seen.free.iter().all(|n| *n >= 500), "many are free: {seen:?}");
+        assert!(seen.races.iter().all(|n| *n >= 500) && seen.late_races >= 500, "many race: {seen:?}");
+        assert!(seen.wild.iter().all(|n| *n >= 1000), "many wild rows are judged, and many refused: {seen:?}");
+    }
+}
