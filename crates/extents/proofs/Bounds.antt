@@ -173,8 +173,9 @@ module _ (space view below : ℕ) (xs : List ℕ) (two : twoMaps space view belo
   pub below-room : {k : ℕ} → k ≡ length (runs (lentMap space below xs)) → k ≤ space
   below-room e = omega (arith, e, lent-count below (told .below-in) (told .below-law) .1)
 
-  pub marked-room : {k : ℕ} → k ≡ length (marked (runs (lentMap space view xs))) → k ≤ space
-  marked-room e = omega (arith, e, marked-fewer (runs (lentMap space view xs)), view-room refl)
+  pub marked-room : {k : ℕ} → k ≡ length (marked (runs (mapAt space view xs))) → k ≤ space
+  marked-room e =
+      omega (arith, e, marked-fewer (runs (mapAt space view xs)), ap (λ (l : List ℕ). length (runs l)) (map-lent space view xs), view-room refl)
 
   module _ (start n c : ℕ) where
     -- the view marked published
@@ -185,7 +186,7 @@ module _ (space view below : ℕ) (xs : List ℕ) (two : twoMaps space view belo
 
     -- the published map, and the refreshed view
     pub most-other : (mode : ℕ) → (mode ≡ 1 → ⊥) → mode ≤ 2 → {k u : ℕ} → k ≡ length (runs (lentMap space below xs)) →
-        u ≡ length (marked (runs (lentMap space view xs))) → length (runsOf (mix mode start n c own base)) ≤ k + 2 * u + 2
+        u ≡ length (marked (runs (mapAt space view xs))) → length (runsOf (mix mode start n c own base)) ≤ k + 2 * u + 2
     most-other mode q h {k} {u} e d = go (decLt mode 1)
       where
         rs : List Run
@@ -194,15 +195,12 @@ module _ (space view below : ℕ) (xs : List ℕ) (two : twoMaps space view belo
         law : Lawful rs
         law = lawful-map (mapAt space view xs) (told .view-law) .lawful-runs
 
-        marks : u ≡ length (marked rs)
-        marks = d ∙ ap (λ (l : List ℕ). length (marked (runs l))) (map-lent space view xs)
-
         count : k ≡ length (runsOf base)
         count = e ∙ lent-count below (told .below-in) (told .below-law) .0
 
         go : Dec (mode < 1) → length (runsOf (mix mode start n c own base)) ≤ k + 2 * u + 2
-        go (yes l) = let z : mode ≡ PUBLISH = omega (arith, l) in rw z (omega (arith, marks, count, publish-most rs law base start n c))
-        go (no l) = let z : mode ≡ REFRESH = omega (arith, l, q, h) in rw z (omega (arith, marks, count, refresh-most rs law base start n c))
+        go (yes l) = let z : mode ≡ PUBLISH = omega (arith, l) in rw z (omega (arith, d, count, publish-most rs law base start n c))
+        go (no l) = let z : mode ≡ REFRESH = omega (arith, l, q, h) in rw z (omega (arith, d, count, refresh-most rs law base start n c))
 
 -- all runs, counted from the first byte to the last
 pub all-most : (f : Bytes) {r : ℕ} → length (runsOf f) ≤ r → length (runsFrom (4294967295 - 0) 0 f) ≤ r

@@ -25,8 +25,9 @@ use Rattle.maps.specs.Mixes.{PUBLISH, SETTLE, REFRESH, READ-FRESH, mixed, mix}
 use Rattle.extents.specs.Entries.{twoMaps, orRefused, orKept, viewOf, belowOf, bothMaps, publishRefusal, publishedMaps, refreshRefusal, refreshedMaps}
 use Rattle.maps.specs.Pieces.{listedIn}
 use Rattle.extents.specs.Entries.{syncRefusal, syncedMaps, readRefusal, postRefusal, postedMaps, countOf}
+use Rattle.extents.specs.Packing.{marked}
 use Rattle.extents.proofs.Entering.{accepted}
-use Rattle.extents.proofs.Pairing.{Told, two-told, map-space}
+use Rattle.extents.proofs.Pairing.{Told, two-told, map-space, map-whole}
 
 -- the two maps stand at two places
 pub two-apart : (space view below : ℕ) (xs : List ℕ) → twoMaps space view below xs ≡ true → view ≡ below → ⊥
@@ -100,9 +101,7 @@ module _ (space view below : ℕ) (xs : List ℕ) where
 
     -- the published map is what its bytes write
     pub below-whole : mapFor space base ≡ mapAt space below xs
-    below-whole =
-        let m = lawful-map (mapAt space below xs) (told .below-law) in
-        (λ i. mapOf (sym (map-space space below xs (told .below-in)) i) (runs-back (runs (mapAt space below xs)) (m .lawful-runs) i)) ∙ sym (m .whole)
+    below-whole = map-whole space below xs (told .below-in) (told .below-law)
 
     -- maps put at both places, the view's last
     pub both-last : (v w : Bytes) → length (runsOf v) ≤ space → length (runsOf w) ≤ space →
@@ -196,6 +195,10 @@ module _ (space view below : ℕ) (xs : List ℕ) where
 
         pub view-law-after : lawful (mapAt space view ys) ≡ true
         view-law-after = ap lawful view-after ∙ told two .view-law
+
+        -- it has as many unpublished runs
+        pub own-after : {k : ℕ} → k ≡ length (marked (runs (mapAt space view xs))) → k ≡ length (marked (runs (mapAt space view ys)))
+        own-after e = e ∙ ap (λ (m : List ℕ). length (marked (runs m))) (sym view-after)
 
         pub below-law-after : lawful (mapAt space below ys) ≡ true
         below-law-after =
@@ -481,6 +484,10 @@ module _ (space view below : ℕ) (xs : List ℕ) where
 
                 pub view-law-posted : lawful (mapAt space view ys) ≡ true
                 view-law-posted = ap lawful view-posted ∙ told two .view-law
+
+                -- as many unpublished runs
+                pub own-posted : {k : ℕ} → k ≡ length (marked (runs (mapAt space view xs))) → k ≡ length (marked (runs (mapAt space view ys)))
+                own-posted e = e ∙ ap (λ (m : List ℕ). length (marked (runs m))) (sym view-posted)
 
                 module _ {zs : List ℕ} (z : zs ≡ withMap space view (mapFor space (settled (bytesOf (mapAt space view ys)))) ys) where
                   settled-there : zs ≡ withMap space view (mapFor space (settled own)) (shared two (published wrote base) fit)

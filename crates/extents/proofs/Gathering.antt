@@ -7,9 +7,9 @@ use mathlib.Core.Bool.{Bool, true, false, cond}
 use mathlib.Core.List.{List, [], _∷_, _++_, append-assoc}
 use lib.ListN.{length, getD, take, drop, length-drop, drop-of-length-le}
 use lib.Seq.{length-take-le, take-take, take-at, drop-at, drop-cons, getD-take}
-use borrow.Author.Tests.{eq-eqb, ne-eqb}
+use borrow.Author.Tests.{eq-eqb, ne-eqb, eqb-false}
 use Rattle.models.specs.Limits.{OFFSET-MAX}
-use Rattle.runs.specs.Cells.{markIn, unpublished, refreshed}
+use Rattle.runs.specs.Cells.{Bytes, markIn, unpublished, published, settled, refreshed}
 use Rattle.runs.specs.Runs.{Run, cellAt, Rising, Numbered, Lawful}
 use Rattle.runs.specs.Maps.{fours, spaceIn, runs, lawful}
 use Rattle.runs.proofs.Longest.{cell-first, cell-before, cell-behind, mean-before}
@@ -124,14 +124,32 @@ marked-refresh rs l f b = ap over (marked-mean OFFSET-MAX 0 0 rs (l .in-order) b
     go v true e = rw e
     go v false e = refl
 
--- and without one it takes every byte from below
-pub marked-none : (rs : List Run) → Lawful rs → length (marked rs) ≡ 0 → (f : ℕ → ℕ) (b : ℕ) → refreshed (cellAt rs) f b ≡ f b
+-- without one no byte is unpublished
+pub marked-none : (rs : List Run) → Lawful rs → length (marked rs) ≡ 0 → (b : ℕ) → unpublished (cellAt rs b) ≡ false
 unfolding cellAt
-marked-none rs l z f b = sym (marked-refresh rs l f b) ∙ go (marked rs) z
+marked-none rs l z b = go (unpublished (cellAt rs b)) refl (none (marked rs) z ∙ marked-mean OFFSET-MAX 0 0 rs (l .in-order) b)
   where
-    go : (us : List Run) → length us ≡ 0 → refreshed (cellAt us) f b ≡ f b
-    go [] e = refl
-    go (u ∷ us) e = absurd (omega (arith, e))
+    none : (us : List Run) → length us ≡ 0 → 0 ≡ cellAt us b
+    none [] e = refl
+    none (u ∷ us) e = absurd (omega (arith, e))
+
+    go : (t : Bool) → unpublished (cellAt rs b) ≡ t → 0 ≡ cond t (cellAt rs b) 0 → unpublished (cellAt rs b) ≡ false
+    go true e h = ap unpublished (sym h)
+    go false e h = e
+
+-- so a view is refreshed to the published map
+pub refreshed-none : (rs : List Run) → Lawful rs → length (marked rs) ≡ 0 → (f : Bytes) (b : ℕ) → refreshed (cellAt rs) f b ≡ f b
+refreshed-none rs l z f b = rw (marked-none rs l z b)
+
+-- publishes nothing
+pub published-none : (rs : List Run) → Lawful rs → length (marked rs) ≡ 0 → (f : Bytes) (b : ℕ) → published (cellAt rs) f b ≡ f b
+published-none rs l z f b = rw (marked-none rs l z b)
+
+-- and has no mark to clear
+pub settled-none : (rs : List Run) → Lawful rs → length (marked rs) ≡ 0 → (b : ℕ) → settled (cellAt rs) b ≡ cellAt rs b
+settled-none rs l z b =
+    let m : markIn (cellAt rs b) ≡ 1 → ⊥ = eqb-false (markIn (cellAt rs b)) 1 (marked-none rs l z b) in
+    omega arith
 
 -- ---- Taking them to the end
 

@@ -20,7 +20,9 @@ use Rattle.runs.proofs.Trips.{both, lawful-map}
 use Rattle.extents.specs.declared.share.Stroke.{Stroke}
 use Rattle.maps.specs.Mixes.{PUBLISH, mixed, mix}
 use Rattle.extents.specs.Entries.{twoMaps, viewOf, belowOf}
+use Rattle.extents.specs.Packing.{marked}
 use Rattle.extents.specs.Strokes.{strokeOf, strokes, filled, downs, taken, partAt, withPart, Two, sunk, raised, withBytes, Ready}
+use Rattle.extents.proofs.Gathering.{published-none}
 use Rattle.extents.proofs.Sweeps.{over-at, over-same, fill-same, Fits, Rises, Drawn, downs-fits, downs-drawn, downs-same, up-step}
 use Rattle.extents.proofs.Drawing.{taken-back, goal, lefts, rights, others, goal-good}
 use Rattle.extents.proofs.Drawing.{rights-rise, others-rise, lefts-rise, rights-drawn, lefts-drawn}
@@ -140,6 +142,26 @@ module _ {size v w start end c : ℕ} {xs : List ℕ} (s : Shared size v w start
   -- so do those at the end
   new-fits : Fits (size / 4) new
   new-fits = record { good = goal-good all all-law old start end c (s .order) (s .inside) (begin .fits .good) (s .fine); few = s .fit }
+
+  -- without unpublished runs the range is all
+  module _ {own : ℕ} (e : own ≡ length (marked all)) (z : own ≡ 0) where
+    abbrev alone : Bytes
+    alone = overwrite start (end - start) c (bytesOf (take (w + size - w) (drop w xs)))
+
+    -- its bytes are those at the end
+    alone-bytes : (b : ℕ) → alone b ≡ new b
+    alone-bytes b =
+        over-same start end c (bytesOf (take (w + size - w) (drop w xs))) old (lent-bytes (s .two) begin) b
+        ∙ over-same start end c old (published (cellAt all) old) (λ y. sym (published-none all all-law (sym e ∙ z) old y)) b
+
+    -- they fit
+    pub alone-fit : length (runsOf alone) ≤ spaceIn (take (w + size - w) (drop w xs))
+    alone-fit = omega (arith, new-fits .few, lent-space (s .two) begin, ap length (runs-same alone new (λ b _. alone-bytes b)))
+
+    -- and are left
+    pub alone-end : {last : List ℕ} → last ≡ mapFor (spaceIn (take (w + size - w) (drop w xs))) alone →
+        Holds size w xs new (putMid w (w + size - w) xs last)
+    alone-end q = lent-next (s .two) begin new alone new-fits alone-bytes q
 
   -- the first: down on the right
   pub down-right : {ys : List ℕ} → ys ≡ withBytes size w (sunk size v w end OFFSET-MAX xs) xs → Holds size w xs (downs right old) ys
@@ -283,6 +305,11 @@ module _ (space view below start end number : ℕ) (xs : List ℕ) where
       go : Dec (0 < number) → Fine (number * 2)
       go (yes l) = inr (omega arith)
       go (no l) = inl (omega arith)
+
+  -- as many unpublished runs
+  pub own-part : {k : ℕ} → k ≡ length (marked (runs (mapAt space view xs))) →
+      k ≡ length (marked (runs (partAt (view * (space * 4)) (space * 4) xs)))
+  own-part e = e ∙ ap (λ (m : List ℕ). length (marked (runs m))) (map-part space view xs)
 
   -- the six steps can be made
   pub shared : twoMaps space view below xs ≡ true → start ≤ end → end ≤ OFFSET-MAX → number ≤ ROWS → length (runsOf to) ≤ space →

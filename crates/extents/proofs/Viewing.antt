@@ -10,7 +10,7 @@ use mathlib.Core.Logic.{_⊎_, inl, inr}
 use mathlib.Core.Bool.{true, not}
 use mathlib.Core.List.{List, _++_, append-assoc, append-nil}
 use lib.ListN.{length, getD, take, drop, replicate, length-append, length-drop, List·getD-append}
-use lib.Seq.{length-take-le, take-all, drop-drop, drop-at, take-at, getD-take, getD-drop, getD-append-add, ext-getD}
+use lib.Seq.{length-take-le, drop-drop, drop-at, take-at, getD-take, getD-drop, getD-append-add, ext-getD}
 use lib.Dec.{leb, eqb}
 use borrow.Author.Tests.{leb-true, eqb-false, not-true}
 use borrow.Rule.Slice.PartMut.{putMid}
@@ -19,11 +19,10 @@ use Rattle.runs.specs.Runs.{Run, runsOf, cellAt, Lawful}
 use Rattle.runs.specs.Maps.{fours, mapOf, mapFor, spaceIn, runs, bytesOf, lawful, lawfulPublished, mapAt, withMap}
 use Rattle.runs.proofs.Longest.{runs-same}
 use Rattle.runs.proofs.Trips.{both, lawful-map, map-back, map-lawful}
-use Rattle.runs.proofs.Sides.{with-same}
 use Rattle.extents.specs.Entries.{twoMaps, viewOf, belowOf}
 use Rattle.extents.specs.Packing.{marked, Marked, partAt, withPart, packedIn, mergedOf, Packed}
 use Rattle.extents.proofs.Spots.{outside, zero-behind}
-use Rattle.extents.proofs.Gathering.{marked-all, marked-lawful, marked-refresh, marked-none}
+use Rattle.extents.proofs.Gathering.{marked-all, marked-lawful, marked-refresh, refreshed-none}
 use Rattle.extents.proofs.Filling.{beside}
 use Rattle.extents.proofs.Pairing.{two-told}
 use Rattle.extents.proofs.Doubles.{two-apart, below-whole}
@@ -272,48 +271,22 @@ module _ {space view below : ℕ} {xs : List ℕ} (m : Two space view below xs) 
       (take (place-is space view i) xs ++ mapFor space (refreshed (viewOf space view below xs) (belowOf space view below xs)))
       ++ drop (place-is space view i + 4 * space) xs)
 
-  module _ (two : twoMaps space view below xs ≡ true) (none : first ≡ space) where
-    -- where no run was packed, the view is as it was
-    last-same : last ≡ mapAt space view xs
-    last-same =
-        sym (take-all (4 * first) last (omega (arith, last-length, none)))
-        ∙ tells .2 ∙ ap (take (4 * first)) (lent-is space view xs)
-        ∙ take-all (4 * first) (mapAt space view xs) (omega (arith, view-length, none))
+-- ---- A view without unpublished runs
 
-    -- and so is the slice
-    packed-same : ms ≡ xs
-    packed-same =
-        parts ∙ sym (append-assoc (take v xs) last (drop (v + 4 * space) xs))
-        ∙ (λ i. (take (place-is space view i) xs ++ last-same i) ++ drop (place-is space view i + 4 * space) xs)
-        ∙ with-same space view xs (two-told space view below xs two .view-in)
+module _ (space view below : ℕ) (xs : List ℕ) (two : twoMaps space view below xs ≡ true) where
+  -- the published map may be copied
+  pub copy-ready : (((below + 1) * (4 * space) ≤ length xs) × ((view + 1) * (4 * space) ≤ length xs) × (below ≡ view → ⊥))
+      × ((lawful (mapAt space below xs) ≡ true) × (lawful (mapAt space view xs) ≡ true))
+  copy-ready =
+      let t = two-told space view below xs two in
+      ((t .below-in, t .view-in, λ q. two-apart space view below xs two (sym q)), (t .below-law, t .view-law))
 
-    -- the published map may be copied
-    pub copy-ready : (((below + 1) * (4 * space) ≤ length ms) × ((view + 1) * (4 * space) ≤ length ms) × (below ≡ view → ⊥))
-        × ((lawful (mapAt space below ms) ≡ true) × (lawful (mapAt space view ms) ≡ true))
-    copy-ready =
-        let t = two-told space view below xs two in (
-          (
-            omega (arith, t .below-in, packed-length),
-            omega (arith, t .view-in, packed-length),
-            λ q. two-apart space view below xs two (sym q),
-          ),
-          (
-            ap (λ (q : List ℕ). lawful (mapAt space below q)) packed-same ∙ t .below-law,
-            ap (λ (q : List ℕ). lawful (mapAt space view q)) packed-same ∙ t .view-law,
-          ),
-        )
-
-    -- the refreshed view has its runs
-    below-runs : runsOf (refreshed (viewOf space view below xs) (belowOf space view below xs)) ≡ runsOf (belowOf space view below xs)
-    below-runs =
-        runs-same _ _
-        (λ b h. marked-none (runs (mapAt space view xs)) (lawful-map (mapAt space view xs) (m .view-law) .lawful-runs) (omega (arith, own-count, none))
-        (belowOf space view below xs) b)
-
-    -- and the slice with the copy is what a refresh leaves
-    pub view-copied : {zs : List ℕ} → zs ≡ withMap space view (mapAt space below ms) ms →
-        zs ≡ withMap space view (mapFor space (refreshed (viewOf space view below xs) (belowOf space view below xs))) xs
-    view-copied q =
-        q
-        ∙ (λ i. withMap space view (mapAt space below (packed-same i)) (packed-same i))
-        ∙ ap (λ (z : List ℕ). withMap space view z xs) (sym (ap (mapOf space) below-runs ∙ below-whole space view below xs two))
+  -- and the slice with the copy is what a refresh leaves
+  pub view-copied : {own : ℕ} → own ≡ length (marked (runs (mapAt space view xs))) → own ≡ 0 → {zs : List ℕ} →
+      zs ≡ withMap space view (mapAt space below xs) xs →
+      zs ≡ withMap space view (mapFor space (refreshed (viewOf space view below xs) (belowOf space view below xs))) xs
+  view-copied e z q =
+      let law = lawful-map (mapAt space view xs) (two-told space view below xs two .view-law) .lawful-runs in
+      let same : runsOf (refreshed (viewOf space view below xs) (belowOf space view below xs)) ≡ runsOf (belowOf space view below xs) =
+      runs-same _ _ (λ b _. refreshed-none (runs (mapAt space view xs)) law (sym e ∙ z) (belowOf space view below xs) b) in
+      q ∙ ap (λ (m : List ℕ). withMap space view m xs) (sym (ap (mapOf space) same ∙ below-whole space view below xs two))

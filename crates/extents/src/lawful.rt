@@ -75,11 +75,12 @@ pub fn publish(maps: &mut [u32], space: usize, view: usize, below: usize) -> Ans
     ensures left { λ r. ⌜ now (maps .exit) ≡ orKept (publishRefusal space view below (now (maps .entry)))
         (publishedMaps space view below (now (maps .entry))) (now (maps .entry)) ⌝ }
 {
-    if !crate::pair::fits(maps, space, view, below, 0, 0, 0, 0) {
+    let own = crate::pair::own_runs(maps, space, view);
+    if !crate::pair::fits(maps, space, view, below, own, 0, 0, 0, 0) {
         return Answer::Refused(16);
     }
-    crate::share::share(maps, space, view, below, 0, 0, 0);
-    crate::pair::settle(maps, space, view);
+    crate::share::share(maps, space, view, below, own, 0, 0, 0);
+    crate::pair::settle(maps, space, view, own);
     Answer::Done
 }
 
@@ -90,10 +91,11 @@ pub fn refresh(maps: &mut [u32], space: usize, view: usize, below: usize) -> Ans
     ensures left { λ r. ⌜ now (maps .exit) ≡ orKept (refreshRefusal space view below (now (maps .entry)))
         (refreshedMaps space view below (now (maps .entry))) (now (maps .entry)) ⌝ }
 {
-    if !crate::pair::fits(maps, space, view, below, 2, 0, 0, 0) {
+    let own = crate::pair::own_runs(maps, space, view);
+    if !crate::pair::fits(maps, space, view, below, own, 2, 0, 0, 0) {
         return Answer::Refused(16);
     }
-    crate::merge::refresh(maps, space, view, below);
+    crate::merge::refresh(maps, space, view, below, own);
     Answer::Done
 }
 
@@ -104,10 +106,11 @@ pub fn sync(maps: &mut [u32], space: usize, view: usize, below: usize) -> Answer
     ensures left { λ r. ⌜ now (maps .exit) ≡ orKept (syncRefusal space view below (now (maps .entry)))
         (syncedMaps space view below (now (maps .entry))) (now (maps .entry)) ⌝ }
 {
-    if !crate::pair::fits(maps, space, view, below, 0, 0, 0, 0) {
+    let own = crate::pair::own_runs(maps, space, view);
+    if !crate::pair::fits(maps, space, view, below, own, 0, 0, 0, 0) {
         return Answer::Refused(16);
     }
-    crate::share::share(maps, space, view, below, 0, 0, 0);
+    crate::share::share(maps, space, view, below, own, 0, 0, 0);
     crate::pair::copy(maps, space, below, view);
     Answer::Done
 }
@@ -138,14 +141,15 @@ pub fn post(
     }
     let end = start + length;
     let cell = number * 2;
-    if !crate::pair::fits(maps, space, view, below, 0, start, end, cell) {
+    let own = crate::pair::own_runs(maps, space, view);
+    if !crate::pair::fits(maps, space, view, below, own, 0, start, end, cell) {
         return Answer::Refused(16);
     }
-    if !crate::pair::fits(maps, space, view, below, 1, start, end, cell) {
+    if !crate::pair::fits(maps, space, view, below, own, 1, start, end, cell) {
         return Answer::Refused(16);
     }
-    crate::share::share(maps, space, view, below, start, end, number);
-    crate::pair::settle(maps, space, view);
+    crate::share::share(maps, space, view, below, own, start, end, number);
+    crate::pair::settle(maps, space, view, own);
     if start < end {
         crate::pair::lay(maps, space, view, start, end, cell);
     }
@@ -177,14 +181,15 @@ pub fn read(
         return Answer::Refused(11);
     }
     let end = start + length;
-    if !crate::pair::fits(maps, space, view, below, 2, 0, 0, 0) {
+    let own = crate::pair::own_runs(maps, space, view);
+    if !crate::pair::fits(maps, space, view, below, own, 2, 0, 0, 0) {
         return Answer::Refused(16);
     }
     let n = crate::pair::count(maps, space, view, below, 4, start, end, 0, 0, 0);
     if out.len() / 3 < n {
         return Answer::Refused(17);
     }
-    crate::merge::refresh(maps, space, view, below);
+    crate::merge::refresh(maps, space, view, below, own);
     crate::pair::list(maps, space, view, start, end, out);
     Answer::Listed(n as u32)
 }

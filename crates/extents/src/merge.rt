@@ -7,7 +7,7 @@ ghost use lib.ListN.{length, getD, take, drop, replicate};
 ghost use lib.Dec.{eqb};
 ghost use Rattle.runs.specs.Cells.{settled, refreshed};
 ghost use Rattle.runs.specs.Runs.{runsOf};
-ghost use Rattle.runs.specs.Maps.{fours, mapFor, spaceIn, runs, bytesOf, lawful, withMap};
+ghost use Rattle.runs.specs.Maps.{fours, mapFor, spaceIn, runs, bytesOf, lawful, mapAt, withMap};
 ghost use Rattle.extents.specs.Entries.{twoMaps, viewOf, belowOf};
 ghost use Rattle.extents.specs.Packing.{marked, withPart, mergedOf, Packed};
 
@@ -100,23 +100,24 @@ fn pack(map: &mut [u32], all: usize) -> usize
     to
 }
 
-// Refreshes a view that fits then: its unpublished runs, and the published ones in the gaps. Without unpublished runs it is the published map.
-pub fn refresh(maps: &mut [u32], space: usize, view: usize, below: usize)
+// Refreshes a view that fits then, of whose runs `own` are unpublished: these, and the published map's in the gaps.
+pub fn refresh(maps: &mut [u32], space: usize, view: usize, below: usize, own: usize)
     requires { ⌜ twoMaps space view below (now maps) ≡ true ⌝ }
     requires { ⌜ length (runsOf (refreshed (viewOf space view below (now maps)) (belowOf space view below (now maps)))) ≤ space ⌝ }
+    requires { ⌜ own ≡ length (marked (runs (mapAt space view (now maps)))) ⌝ }
     ensures { λ _. ⌜ now (maps .exit) ≡ withMap space view
         (mapFor space (refreshed (viewOf space view below (now (maps .entry))) (belowOf space view below (now (maps .entry))))) (now (maps .entry)) ⌝ }
 {
+    if own == 0 {
+        crate::pair::copy(maps, space, below, view);
+        return;
+    }
     let size = space * 4;
     let v = view * size;
     let w = below * size;
     let all = maps::splice::runs_in(&maps[v..v + size]);
     let others = maps::splice::runs_in(&maps[w..w + size]);
     let first = pack(&mut maps[v..v + size], all);
-    if first == space {
-        crate::pair::copy(maps, space, below, view);
-        return;
-    }
     interleave(maps, v, w, space, all, others, first);
 }
 

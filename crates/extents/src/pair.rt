@@ -80,23 +80,36 @@ pub fn count(
     )
 }
 
-// Does a mix of a view, the published map and a range fit a map's space? Its runs are counted only where the most that there can be are too many.
+// How many runs of map k are unpublished.
+pub fn own_runs(maps: &[u32], space: usize, k: usize) -> usize
+    requires { ⌜ (k + 1) * (4 * space) ≤ length (now maps) ⌝ }
+    requires { ⌜ lawful (mapAt space k (now maps)) ≡ true ⌝ }
+    ensures { λ r. ⌜ r ≡ length (marked (runs (mapAt space k (now (maps .entry))))) ⌝ }
+{
+    let size = 4 * space;
+    let at = k * size;
+    marked_in(&maps[at..at + size])
+}
+
+// Does a mix of a view, of whose runs `own` are unpublished, the published map and a range fit a map's space? Its runs are counted only where
+// the most that there can be are too many.
 pub fn fits(
     maps: &[u32],
     space: usize,
     view: usize,
     below: usize,
+    own: usize,
     mode: u32,
     start: u32,
     end: u32,
     cell: u32,
 ) -> bool
     requires { ⌜ twoMaps space view below (now maps) ≡ true ⌝ }
-    requires { ⌜ (mode ≤ 2) × (start ≤ end) ⌝ }
+    requires { ⌜ (mode ≤ 2) × (start ≤ end) × (own ≡ length (marked (runs (mapAt space view (now maps))))) ⌝ }
     ensures { λ r. ⌜ r ≡ leb (length (runsFrom (4294967295 - 0) 0 (mix mode start (end - start) cell
         (viewOf space view below (now (maps .entry))) (belowOf space view below (now (maps .entry)))))) space ⌝ }
 {
-    if most_runs(maps, space, view, below, mode) <= space {
+    if most_runs(maps, space, view, below, own, mode) <= space {
         return true;
     }
     count(
@@ -115,8 +128,8 @@ pub fn fits(
 }
 
 // No mix of a view, the published map and any range has more runs.
-fn most_runs(maps: &[u32], space: usize, view: usize, below: usize, mode: u32) -> usize
-    requires { ⌜ (twoMaps space view below (now maps) ≡ true) × (mode ≤ 2) ⌝ }
+fn most_runs(maps: &[u32], space: usize, view: usize, below: usize, own: usize, mode: u32) -> usize
+    requires { ⌜ (twoMaps space view below (now maps) ≡ true) × (mode ≤ 2) × (own ≡ length (marked (runs (mapAt space view (now maps))))) ⌝ }
     ensures { λ r. ⌜ ((start n cell : ℕ) → length (runsOf (mix mode start n cell
         (viewOf space view below (now (maps .entry))) (belowOf space view below (now (maps .entry))))) ≤ r) ⌝ }
 {
@@ -126,7 +139,6 @@ fn most_runs(maps: &[u32], space: usize, view: usize, below: usize, mode: u32) -
         return maps::splice::runs_in(&maps[v..v + size]) + 2;
     }
     let w = below * size;
-    let own = marked_in(&maps[v..v + size]);
     maps::splice::runs_in(&maps[w..w + size]) + 2 * own + 2
 }
 
@@ -145,12 +157,15 @@ fn marked_in(map: &[u32]) -> usize
     n
 }
 
-// Marks a map published.
-pub fn settle(maps: &mut [u32], space: usize, k: usize)
+// Marks a map published, of whose runs `own` are not.
+pub fn settle(maps: &mut [u32], space: usize, k: usize, own: usize)
     requires { ⌜ (k + 1) * (4 * space) ≤ length (now maps) ⌝ }
-    requires { ⌜ lawful (mapAt space k (now maps)) ≡ true ⌝ }
+    requires { ⌜ (lawful (mapAt space k (now maps)) ≡ true) × (own ≡ length (marked (runs (mapAt space k (now maps))))) ⌝ }
     ensures { λ _. ⌜ now (maps .exit) ≡ withMap space k (mapFor space (settled (bytesOf (mapAt space k (now (maps .entry)))))) (now (maps .entry)) ⌝ }
 {
+    if own == 0 {
+        return;
+    }
     let size = 4 * space;
     let at = k * size;
     crate::merge::settle(&mut maps[at..at + size]);

@@ -8,23 +8,26 @@ ghost use lib.ListN.{length, getD};
 ghost use Rattle.models.specs.Limits.{ROWS};
 ghost use Rattle.runs.specs.Cells.{numberIn, cellOf, overwrite};
 ghost use Rattle.runs.specs.Runs.{runOf, runsOf};
-ghost use Rattle.runs.specs.Maps.{mapFor, spaceIn, runs, bytesOf, lawful, withMap};
+ghost use Rattle.runs.specs.Maps.{mapFor, spaceIn, runs, bytesOf, lawful, mapAt, withMap};
 ghost use Rattle.maps.specs.Mixes.{PUBLISH, mix};
 ghost use Rattle.extents.specs.Entries.{twoMaps, viewOf, belowOf};
+ghost use Rattle.extents.specs.Packing.{marked};
 ghost use Rattle.extents.specs.Strokes.{within, stroke, filled, withBytes, Two, sunk, raised, Ready};
 
-// Publishes a view and a range of a row number, 0 where the range is empty, on a published map that fits then.
+// Publishes a view, of whose runs `own` are unpublished, and a range of a row number, 0 where the range is empty, on a published map that fits
+// then.
 pub fn share(
     maps: &mut [u32],
     space: usize,
     view: usize,
     below: usize,
+    own: usize,
     start: u32,
     end: u32,
     number: u32,
 )
     requires { ⌜ twoMaps space view below (now maps) ≡ true ⌝ }
-    requires { ⌜ (start ≤ end) × (start < end → 1 ≤ number) × (number ≤ ROWS) ⌝ }
+    requires { ⌜ (start ≤ end) × (start < end → 1 ≤ number) × (number ≤ ROWS) × (own ≡ length (marked (runs (mapAt space view (now maps))))) ⌝ }
     requires { ⌜ length (runsOf (mix PUBLISH start (end - start) (cellOf number 0) (viewOf space view below (now maps)) (belowOf space view below (now maps)))) ≤ space ⌝ }
     ensures { λ _. ⌜ now (maps .exit) ≡ withMap space below
         (mapFor space (mix PUBLISH start (end - start) (cellOf number 0) (viewOf space view below (now (maps .entry))) (belowOf space view below (now (maps .entry))))) (now (maps .entry)) ⌝ }
@@ -33,6 +36,10 @@ pub fn share(
     let v = view * size;
     let w = below * size;
     let cell = number * 2;
+    if own == 0 {
+        put(&mut maps[w..w + size], start, end, cell);
+        return;
+    }
     pass_down(maps, size, v, w, end, 4294967295);
     fill(&mut maps[w..w + size], start, end);
     pass_down(maps, size, v, w, 0, start);

@@ -1,6 +1,6 @@
 -- `extents::lawful::post` meets its contract. Assumes nothing.
 use borrow.Author.Needs.{needs}
-use Rattle.extents.proofs.Doubles.{view-in-posted, view-law-posted, view-in-settled, view-law-settled, post-lay, post-done, post-empty}
+use Rattle.extents.proofs.Doubles.{view-in-posted, view-law-posted, own-posted, view-in-settled, view-law-settled, post-lay, post-done, post-empty}
 use Rattle.extents.proofs.Doubles.{post-enough, post-short, settle-enough, settle-short}
 use Rattle.extents.proofs.Doubles.{cell-zero, post-low, post-high, post-past, post-full, post-view-full, post-share}
 use Rattle.extents.proofs.Entering.{cell-fine}
@@ -10,6 +10,7 @@ use Rattle.extents.proofs.Entering.{refused}
 use Rattle.extents.specs.declared.Answer.the-variants.{Done}
 use denote.Ref.{now}
 use native.Mathlib.Omega.{arith}
+use Rattle.extents.proofs.Pairing.{two-told}
 use Rattle.extents.proofs.lawful.post.Statement.{statement}
 use Rattle.extents.proofs.lawful.post.Tie as tie
 
@@ -34,15 +35,13 @@ sub-if3 c = search needs
 
 returns-3 : tie.Need-returns-3
 returns-3 c =
-    let p1 = c .before in
-    let p2 = p1 .before in
-    let p4 = p2 .before .before in
+    let p4 = c .before .before .before .before in
     let a = p4 .args in
     refused 11 Done (postedMaps (a .space) (a .view) (a .below) (now (a .maps)) (a .start) (a .length) (a .number)) (now (a .maps)) (post-past
     (a .space) (a .view) (a .below) (now (a .maps)) (a .start) (a .length) (a .number) (omega arith) (omega arith) (p4 .pre) (omega (
       arith,
-      p2 .if1 .left,
-    )) (omega (arith, p1 .if2 .left)) (omega (arith, c .if3 .taken)))
+      c .before .before .if1 .left,
+    )) (omega (arith, c .before .if2 .left)) (omega (arith, c .if3 .taken)))
     (omega arith)
 
 add-end : tie.Need-add-end
@@ -50,83 +49,87 @@ add-end c = omega (arith, c .if3 .left)
 
 mul-cell : tie.Need-mul-cell
 mul-cell c =
-    let p1 = c .before in
-    omega (arith, p1 .if2 .left)
+    omega (arith, c .before .if2 .left)
+
+own-runs-requires : tie.Need-own-runs-requires
+own-runs-requires c κs =
+    let p5 = c .before .before .before .before .before in
+    let a = p5 .args in
+    let t = two-told (a .space) (a .view) (a .below) (now (a .maps)) (p5 .pre) in
+    (t .view-in, t .view-law)
 
 fits-requires : tie.Need-fits-requires
 fits-requires c κs =
-    let p5 = c .before .before .before .before .before in
-    (p5 .pre, (omega arith, omega arith))
+    let p7 = c .before .before .before .before .before .before .before in
+    (p7 .pre, (omega arith, omega arith, c .before .own-runs .ensures))
 
 same-length : tie.Need-same-length
 same-length c = search needs
 
 returns-4 : tie.Need-returns-4
 returns-4 c =
-    let p1 = c .before in
-    let p3 = p1 .before .before in
-    let p4 = p3 .before in
-    let p5 = p4 .before in
-    let p7 = p5 .before .before in
-    let a = p7 .args in
+    let p5 = c .before .before .before .before .before in
+    let p6 = p5 .before in
+    let p7 = p6 .before in
+    let p9 = p7 .before .before in
+    let a = p9 .args in
     refused 16 Done (postedMaps (a .space) (a .view) (a .below) (now (a .maps)) (a .start) (a .length) (a .number)) (now (a .maps)) (post-full
-    (a .space) (a .view) (a .below) (now (a .maps)) (a .start) (a .length) (a .number) (omega arith) (omega arith) (p7 .pre) (omega (
+    (a .space) (a .view) (a .below) (now (a .maps)) (a .start) (a .length) (a .number) (omega arith) (omega arith) (p9 .pre) (omega (
       arith,
-      p5 .if1 .left,
-    )) (omega (arith, p4 .if2 .left)) (omega (arith, p3 .if3 .left))
+      p7 .if1 .left,
+    )) (omega (arith, p6 .if2 .left)) (omega (arith, p5 .if3 .left))
     (post-short (a .space) (a .view) (a .below) (now (a .maps)) (a .start) (a .length) (a .number) (cell-zero
-    (a .number)) (p1 .fits2 .ensures) (c .if4 .taken))) (omega arith)
+    (a .number)) (c .before .fits2 .ensures) (c .if4 .taken))) (omega arith)
 
 fits-requires-2 : tie.Need-fits-requires-2
 fits-requires-2 c κs =
-    let p8 = c .before .before .before .before .before .before .before .before in
-    (p8 .pre, (omega arith, omega arith))
+    let p4 = c .before .before .before .before in
+    let p10 = p4 .before .before .before .before .before .before in
+    (p10 .pre, (omega arith, omega arith, p4 .own-runs .ensures))
 
 same-length-2 : tie.Need-same-length-2
 same-length-2 c = search needs
 
 returns-5 : tie.Need-returns-5
 returns-5 c =
-    let p1 = c .before in
-    let p6 = p1 .before .before .before .before .before in
-    let p7 = p6 .before in
-    let p8 = p7 .before in
-    let p10 = p8 .before .before in
-    let a = p10 .args in
+    let p8 = c .before .before .before .before .before .before .before .before in
+    let p9 = p8 .before in
+    let p10 = p9 .before in
+    let p12 = p10 .before .before in
+    let a = p12 .args in
     refused 16 Done (postedMaps (a .space) (a .view) (a .below) (now (a .maps)) (a .start) (a .length) (a .number)) (now (a .maps)) (post-view-full
-    (a .space) (a .view) (a .below) (now (a .maps)) (a .start) (a .length) (a .number) (omega arith) (omega arith) (p10 .pre) (omega (
+    (a .space) (a .view) (a .below) (now (a .maps)) (a .start) (a .length) (a .number) (omega arith) (omega arith) (p12 .pre) (omega (
       arith,
-      p8 .if1 .left,
-    )) (omega (arith, p7 .if2 .left)) (omega (arith, p6 .if3 .left))
+      p10 .if1 .left,
+    )) (omega (arith, p9 .if2 .left)) (omega (arith, p8 .if3 .left))
     (settle-short (a .space) (a .view) (a .below) (now (a .maps)) (a .start) (a .length) (a .number) (cell-zero
-    (a .number)) (p1 .fits3 .ensures) (c .if5 .taken))) (omega arith)
+    (a .number)) (c .before .fits3 .ensures) (c .if5 .taken))) (omega arith)
 
 share-requires : tie.Need-share-requires
 share-requires c κs =
-    let p1 = c .before in
-    let p2 = p1 .before in
-    let p4 = p2 .before .before in
+    let p4 = c .before .before .before .before in
     let p5 = p4 .before in
     let p7 = p5 .before .before in
-    let p8 = p7 .before in
-    let p9 = p8 .before in
-    let p11 = p9 .before .before in
-    let a = p11 .args in (
-      p11 .pre,
+    let p9 = p7 .before .before in
+    let p10 = p9 .before in
+    let p11 = p10 .before in
+    let p13 = p11 .before .before in
+    let a = p13 .args in (
+      p13 .pre,
       (
         (
           omega arith,
-          λ l. omega (arith, p9 .if1 .left),
-          omega
-              (arith, p8 .if2 .left),
+          λ l. omega (arith, p11 .if1 .left),
+          omega (arith, p10 .if2 .left),
+          p7 .own-runs .ensures,
         ),
         post-share (a .space) (a .view) (a .below) (now (a .maps)) (a .start) (a .length) (a .number) (omega arith) (omega
-            arith) (p11 .pre) (omega (arith, p9 .if1 .left)) (omega (
+            arith) (p13 .pre) (omega (arith, p11 .if1 .left)) (omega (
               arith,
-              p8 .if2 .left,
-            )) (omega (arith, p7 .if3 .left)) (post-enough (a .space) (a .view) (a .below) (now (a .maps))
+              p10 .if2 .left,
+            )) (omega (arith, p9 .if3 .left)) (post-enough (a .space) (a .view) (a .below) (now (a .maps))
             (a .start) (a .length) (a .number) (cell-zero (a .number)) (p5 .fits2 .ensures) (p4 .if4 .left)) (settle-enough (a .space) (a .view)
-            (a .below) (now (a .maps)) (a .start) (a .length) (a .number) (cell-zero (a .number)) (p2 .fits3 .ensures) (p1 .if5 .left)),
+            (a .below) (now (a .maps)) (a .start) (a .length) (a .number) (cell-zero (a .number)) (c .before .before .fits3 .ensures) (c .before .if5 .left)),
       ),
     )
 
@@ -138,59 +141,57 @@ settle-requires c κs =
     let p8 = p6 .before .before in
     let p9 = p8 .before in
     let p11 = p9 .before .before in
-    let p12 = p11 .before in
-    let p13 = p12 .before in
-    let p15 = p13 .before .before in
-    let a = p15 .args in (
-      view-in-posted (a .space) (a .view) (a .below) (now (a .maps)) (a .start) (a .length) (a .number) (omega arith) (omega arith) (p15 .pre) (omega
-          (arith, p13 .if1 .left)) (omega (arith, p12 .if2 .left))
-          (omega (arith, p11 .if3 .left)) (post-enough (a .space) (a .view) (a .below) (now (a .maps)) (a .start) (a .length)
-          (a .number) (cell-zero (a .number)) (p9 .fits2 .ensures) (p8 .if4 .left)) (settle-enough (a .space) (a .view) (a .below) (now
-          (a .maps)) (a .start) (a .length) (a .number) (cell-zero (a .number)) (p6 .fits3 .ensures) (p5 .if5 .left)) (p3 .share .ensures),
-      view-law-posted (a .space)
-          (a .view) (a .below) (now (a .maps)) (a .start) (a .length) (a .number) (omega arith) (omega arith) (p15 .pre) (omega (
-            arith,
-            p13 .if1 .left,
-          )) (omega (arith, p12 .if2 .left)) (omega (arith, p11 .if3 .left))
-          (post-enough (a .space) (a .view) (a .below) (now (a .maps)) (a .start) (a .length) (a .number) (cell-zero (a .number))
-          (p9 .fits2 .ensures) (p8 .if4 .left)) (settle-enough (a .space) (a .view) (a .below) (now (a .maps)) (a .start) (a .length)
-          (a .number) (cell-zero (a .number)) (p6 .fits3 .ensures) (p5 .if5 .left)) (p3 .share .ensures),
+    let p13 = p11 .before .before in
+    let p14 = p13 .before in
+    let p15 = p14 .before in
+    let p17 = p15 .before .before in
+    let a = p17 .args in
+    let xs = now (a .maps) in
+    let m = post-enough (a .space) (a .view) (a .below) xs (a .start) (a .length) (a .number) (cell-zero (a .number)) (p9 .fits2 .ensures) (p8 .if4 .left) in
+    let n = settle-enough (a .space) (a .view) (a .below) xs (a .start) (a .length) (a .number) (cell-zero (a .number)) (p6 .fits3 .ensures) (p5 .if5 .left) in (
+      view-in-posted (a .space) (a .view) (a .below) xs (a .start) (a .length) (a .number) (omega arith) (omega arith) (p17 .pre)
+          (omega (arith, p15 .if1 .left)) (omega (arith, p14 .if2 .left)) (omega (arith, p13 .if3 .left)) m n (p3 .share .ensures),
+      (
+        view-law-posted (a .space) (a .view) (a .below) xs (a .start) (a .length) (a .number) (omega arith) (omega arith) (p17 .pre)
+            (omega (arith, p15 .if1 .left)) (omega (arith, p14 .if2 .left)) (omega (arith, p13 .if3 .left)) m n (p3 .share .ensures),
+        own-posted (a .space) (a .view) (a .below) xs (a .start) (a .length) (a .number) (omega arith) (omega arith) (p17 .pre)
+            (omega (arith, p15 .if1 .left)) (omega (arith, p14 .if2 .left)) (omega (arith, p13 .if3 .left)) m n (p3 .share .ensures) (p11 .own-runs .ensures),
+      ),
     )
 
 lay-requires : tie.Need-lay-requires
 lay-requires c κs =
-    let p1 = c .before in
-    let p4 = p1 .before .before .before in
+    let p4 = c .before .before .before .before in
     let p8 = p4 .before .before .before .before in
     let p10 = p8 .before .before in
     let p11 = p10 .before in
     let p13 = p11 .before .before in
     let p14 = p13 .before in
-    let p16 = p14 .before .before in
-    let p17 = p16 .before in
-    let p18 = p17 .before in
-    let p20 = p18 .before .before in
-    let a = p20 .args in (
-      view-in-settled (a .space) (a .view) (a .below) (now (a .maps)) (a .start) (a .length) (a .number) (omega arith) (omega arith) (p20 .pre)
-          (omega (arith, p18 .if1 .left)) (omega (arith, p17 .if2 .left))
-          (omega (arith, p16 .if3 .left)) (post-enough (a .space) (a .view) (a .below) (now (a .maps)) (a .start) (a .length)
+    let p18 = p14 .before .before .before .before in
+    let p19 = p18 .before in
+    let p20 = p19 .before in
+    let p22 = p20 .before .before in
+    let a = p22 .args in (
+      view-in-settled (a .space) (a .view) (a .below) (now (a .maps)) (a .start) (a .length) (a .number) (omega arith) (omega arith) (p22 .pre)
+          (omega (arith, p20 .if1 .left)) (omega (arith, p19 .if2 .left))
+          (omega (arith, p18 .if3 .left)) (post-enough (a .space) (a .view) (a .below) (now (a .maps)) (a .start) (a .length)
           (a .number) (cell-zero (a .number)) (p14 .fits2 .ensures) (p13 .if4 .left)) (settle-enough (a .space) (a .view) (a .below) (now
           (a .maps)) (a .start) (a .length) (a .number) (cell-zero (a .number)) (p11 .fits3 .ensures) (p10 .if5 .left)) (p8 .share .ensures)
           (p4 .settle .ensures),
       (
-        view-law-settled (a .space) (a .view) (a .below) (now (a .maps)) (a .start) (a .length) (a .number) (omega arith) (omega arith) (p20 .pre)
-            (omega (arith, p18 .if1 .left)) (omega (arith, p17 .if2 .left))
-            (omega (arith, p16 .if3 .left)) (post-enough (a .space) (a .view) (a .below) (now (a .maps)) (a .start) (a .length)
+        view-law-settled (a .space) (a .view) (a .below) (now (a .maps)) (a .start) (a .length) (a .number) (omega arith) (omega arith) (p22 .pre)
+            (omega (arith, p20 .if1 .left)) (omega (arith, p19 .if2 .left))
+            (omega (arith, p18 .if3 .left)) (post-enough (a .space) (a .view) (a .below) (now (a .maps)) (a .start) (a .length)
             (a .number) (cell-zero (a .number)) (p14 .fits2 .ensures) (p13 .if4 .left)) (settle-enough (a .space) (a .view) (a .below) (now
             (a .maps)) (a .start) (a .length) (a .number) (cell-zero (a .number)) (p11 .fits3 .ensures) (p10 .if5 .left)) (p8 .share .ensures)
             (p4 .settle .ensures),
         (
-          (p1 .if6 .taken, cell-fine (a .number) false (omega (arith, p18 .if1 .left)) (omega (arith, p17 .if2 .left)) (cell-zero (a .number))),
+          (c .before .if6 .taken, cell-fine (a .number) false (omega (arith, p20 .if1 .left)) (omega (arith, p19 .if2 .left)) (cell-zero (a .number))),
           post-lay
-              (a .space) (a .view) (a .below) (now (a .maps)) (a .start) (a .length) (a .number) (omega arith) (omega arith) (p20 .pre) (omega
-              (arith, p18 .if1 .left)) (omega (arith, p17 .if2 .left)) (omega (
+              (a .space) (a .view) (a .below) (now (a .maps)) (a .start) (a .length) (a .number) (omega arith) (omega arith) (p22 .pre) (omega
+              (arith, p20 .if1 .left)) (omega (arith, p19 .if2 .left)) (omega (
                 arith,
-                p16 .if3 .left,
+                p18 .if3 .left,
               )) (post-enough (a .space) (a .view) (a .below) (now (a .maps)) (a .start) (a .length) (a .number)
               (cell-zero (a .number)) (p14 .fits2 .ensures) (p13 .if4 .left)) (settle-enough (a .space) (a .view) (a .below) (now (a .maps))
               (a .start) (a .length) (a .number) (cell-zero (a .number)) (p11 .fits3 .ensures) (p10 .if5 .left)) (p8 .share .ensures)
@@ -205,25 +206,24 @@ same-length-3 c = search needs
 
 returns-6 : tie.Need-returns-6
 returns-6 c =
-    let p2 = c .before .before in
-    let p7 = p2 .before .before .before .before .before in
+    let p7 = c .before .before .before .before .before .before .before in
     let p11 = p7 .before .before .before .before in
     let p13 = p11 .before .before in
     let p14 = p13 .before in
     let p16 = p14 .before .before in
     let p17 = p16 .before in
-    let p19 = p17 .before .before in
-    let p20 = p19 .before in
-    let p21 = p20 .before in
-    let p23 = p21 .before .before in
-    let a = p23 .args in
-    post-done (a .space) (a .view) (a .below) (now (a .maps)) (a .start) (a .length) (a .number) (omega arith) (omega arith) (p23 .pre) (omega
-    (arith, p21 .if1 .left)) (omega (arith, p20 .if2 .left))
-    (omega (arith, p19 .if3 .left)) (post-enough (a .space) (a .view) (a .below) (now (a .maps)) (a .start) (a .length)
+    let p21 = p17 .before .before .before .before in
+    let p22 = p21 .before in
+    let p23 = p22 .before in
+    let p25 = p23 .before .before in
+    let a = p25 .args in
+    post-done (a .space) (a .view) (a .below) (now (a .maps)) (a .start) (a .length) (a .number) (omega arith) (omega arith) (p25 .pre) (omega
+    (arith, p23 .if1 .left)) (omega (arith, p22 .if2 .left))
+    (omega (arith, p21 .if3 .left)) (post-enough (a .space) (a .view) (a .below) (now (a .maps)) (a .start) (a .length)
     (a .number) (cell-zero (a .number)) (p17 .fits2 .ensures) (p16 .if4 .left)) (settle-enough (a .space) (a .view) (a .below) (now
     (a .maps)) (a .start) (a .length) (a .number) (cell-zero (a .number)) (p14 .fits3 .ensures) (p13 .if5 .left)) (p11 .share .ensures)
     (p7 .settle .ensures)
-    (cell-zero (a .number)) (p2 .lay .ensures)
+    (cell-zero (a .number)) (c .before .before .lay .ensures)
 
 same-length-4 : tie.Need-same-length-4
 same-length-4 c = search needs
@@ -236,14 +236,14 @@ returns-7 c =
     let p10 = p9 .before in
     let p12 = p10 .before .before in
     let p13 = p12 .before in
-    let p15 = p13 .before .before in
-    let p16 = p15 .before in
-    let p17 = p16 .before in
-    let p19 = p17 .before .before in
-    let a = p19 .args in
-    post-empty (a .space) (a .view) (a .below) (now (a .maps)) (a .start) (a .length) (a .number) (omega arith) (omega arith) (p19 .pre) (omega
-    (arith, p17 .if1 .left)) (omega (arith, p16 .if2 .left))
-    (omega (arith, p15 .if3 .left)) (post-enough (a .space) (a .view) (a .below) (now (a .maps)) (a .start) (a .length)
+    let p17 = p13 .before .before .before .before in
+    let p18 = p17 .before in
+    let p19 = p18 .before in
+    let p21 = p19 .before .before in
+    let a = p21 .args in
+    post-empty (a .space) (a .view) (a .below) (now (a .maps)) (a .start) (a .length) (a .number) (omega arith) (omega arith) (p21 .pre) (omega
+    (arith, p19 .if1 .left)) (omega (arith, p18 .if2 .left))
+    (omega (arith, p17 .if3 .left)) (post-enough (a .space) (a .view) (a .below) (now (a .maps)) (a .start) (a .length)
     (a .number) (cell-zero (a .number)) (p13 .fits2 .ensures) (p12 .if4 .left)) (settle-enough (a .space) (a .view) (a .below) (now
     (a .maps)) (a .start) (a .length) (a .number) (cell-zero (a .number)) (p10 .fits3 .ensures) (p9 .if5 .left)) (p7 .share .ensures)
     (p3 .settle .ensures)
@@ -259,6 +259,7 @@ post-spec =
     returns-3
     add-end
     mul-cell
+    own-runs-requires
     fits-requires
     same-length
     returns-4

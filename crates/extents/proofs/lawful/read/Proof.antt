@@ -12,6 +12,7 @@ use mathlib.Core.List.{List}
 use denote.Ref.{now}
 use mathlib.Core.Path.{ap, _∙_}
 use native.Mathlib.Omega.{arith}
+use Rattle.extents.proofs.Pairing.{two-told}
 use Rattle.extents.proofs.lawful.read.Statement.{statement}
 use Rattle.extents.proofs.lawful.read.Tie as tie
 
@@ -34,56 +35,61 @@ returns c =
 add-end : tie.Need-add-end
 add-end c = omega (arith, c .if1 .left)
 
+own-runs-requires : tie.Need-own-runs-requires
+own-runs-requires c κs =
+    let p4 = c .before .before .before .before in
+    let a = p4 .args in
+    let t = two-told (a .space) (a .view) (a .below) (now (a .maps)) (p4 .pre) in
+    (t .view-in, t .view-law)
+
 fits-requires : tie.Need-fits-requires
 fits-requires c κs =
-    let p4 = c .before .before .before .before in
-    (p4 .pre, (omega arith, omega arith))
+    let p6 = c .before .before .before .before .before .before in
+    (p6 .pre, (omega arith, omega arith, c .before .own-runs .ensures))
 
 same-length : tie.Need-same-length
 same-length c = search needs
 
 returns-2 : tie.Need-returns-2
 returns-2 c =
-    let p1 = c .before in
-    let p3 = p1 .before .before in
-    let p6 = p3 .before .before .before in
-    let a = p6 .args in
+    let p5 = c .before .before .before .before .before in
+    let p8 = p5 .before .before .before in
+    let a = p8 .args in
     refused-both 16 (countOf (piecesOf (refreshed (viewOf (a .space) (a .view) (a .below) (now (a .maps))) (belowOf (a .space) (a .view) (a .below)
     (now (a .maps)))) (a .start) (a .length))) (refreshedMaps (a .space) (a .view) (a .below) (now (a .maps))) (now (a .maps)) (listedIn (piecesOf
     (refreshed (viewOf (a .space) (a .view) (a .below) (now (a .maps))) (belowOf (a .space) (a .view) (a .below) (now (a .maps)))) (a .start)
     (a .length)) (now (a .out))) (now (a .out)) (read-full (a .space) (a .view) (a .below) (now (a .maps)) (a .start) (a .length) (length (now
-    (a .out))) (omega arith) (omega arith) (p6 .pre) (omega (
+    (a .out))) (omega arith) (omega arith) (p8 .pre) (omega (
       arith,
-      p3 .if1 .left,
-    )) (refresh-short (a .space) (a .view) (a .below) (now (a .maps)) (p1 .fits2 .ensures) (c .if2 .taken))) (omega arith)
+      p5 .if1 .left,
+    )) (refresh-short (a .space) (a .view) (a .below) (now (a .maps)) (c .before .fits2 .ensures) (c .if2 .taken))) (omega arith)
 
 count-requires : tie.Need-count-requires
 count-requires c κs =
-    let p7 = c .before .before .before .before .before .before .before in
-    (p7 .pre, (omega arith, omega arith))
+    let p9 = c .before .before .before .before .before .before .before .before .before in
+    (p9 .pre, (omega arith, omega arith))
 
 same-length-2 : tie.Need-same-length-2
 same-length-2 c = search needs
 
 returns-3 : tie.Need-returns-3
 returns-3 c =
-    let p1 = c .before in
-    let p3 = p1 .before .before in
+    let p3 = c .before .before .before in
     let p4 = p3 .before in
-    let p6 = p4 .before .before in
-    let p9 = p6 .before .before .before in
-    let a = p9 .args in
+    let p8 = p4 .before .before .before .before in
+    let p11 = p8 .before .before .before in
+    let a = p11 .args in
     refused-both 17 (countOf (piecesOf (refreshed (viewOf (a .space) (a .view) (a .below) (now (a .maps))) (belowOf (a .space) (a .view) (a .below)
     (now (a .maps)))) (a .start) (a .length))) (refreshedMaps (a .space) (a .view) (a .below) (now (a .maps))) (now (a .maps)) (listedIn (piecesOf
     (refreshed (viewOf (a .space) (a .view) (a .below) (now (a .maps))) (belowOf (a .space) (a .view) (a .below) (now (a .maps)))) (a .start)
     (a .length)) (now (a .out))) (now (a .out)) (read-long (a .space) (a .view) (a .below) (now (a .maps)) (a .start) (a .length) (length (now
-    (a .out))) (omega arith) (omega arith) (p9 .pre) (omega (
+    (a .out))) (omega arith) (omega arith) (p11 .pre) (omega (
       arith,
-      p6 .if1 .left,
+      p8 .if1 .left,
     )) (refresh-enough (a .space) (a .view) (a .below) (now (a .maps)) (p4 .fits2 .ensures) (p3 .if2 .left)) (omega (
       arith,
       c .if3 .taken,
-      read-count (a .space) (a .view) (a .below) (now (a .maps)) (a .start) (a .length) (length (now (a .out))) (p1 .count .ensures),
+      read-count (a .space) (a .view) (a .below) (now (a .maps)) (a .start) (a .length) (length (now (a .out))) (c .before .count .ensures),
     )))
     (omega arith)
 
@@ -91,11 +97,11 @@ refresh-requires : tie.Need-refresh-requires
 refresh-requires c κs =
     let p4 = c .before .before .before .before in
     let p5 = p4 .before in
-    let p10 = p5 .before .before .before .before .before in
-    let a = p10 .args in (
-      p10 .pre,
-      (refresh-enough (a .space)
-          (a .view) (a .below) (now (a .maps)) (p5 .fits2 .ensures) (p4 .if2 .left)),
+    let p7 = p5 .before .before in
+    let p12 = p7 .before .before .before .before .before in
+    let a = p12 .args in (
+      p12 .pre,
+      (refresh-enough (a .space) (a .view) (a .below) (now (a .maps)) (p5 .fits2 .ensures) (p4 .if2 .left), p7 .own-runs .ensures),
     )
 
 list-requires : tie.Need-list-requires
@@ -105,24 +111,24 @@ list-requires c κs =
     let p7 = p6 .before in
     let p9 = p7 .before .before in
     let p10 = p9 .before in
-    let p12 = p10 .before .before in
-    let p15 = p12 .before .before .before in
-    let a = p15 .args in (
-      view-in-fresh (a .space) (a .view) (a .below) (now (a .maps)) (p15 .pre) (refresh-enough (a .space) (a .view)
+    let p14 = p10 .before .before .before .before in
+    let p17 = p14 .before .before .before in
+    let a = p17 .args in (
+      view-in-fresh (a .space) (a .view) (a .below) (now (a .maps)) (p17 .pre) (refresh-enough (a .space) (a .view)
           (a .below) (now (a .maps)) (p10 .fits2 .ensures) (p9 .if2 .left))
           (p4 .refresh .ensures),
       (
         (
-          view-law-fresh (a .space) (a .view) (a .below) (now (a .maps)) (p15 .pre) (refresh-enough (a .space) (a .view) (a .below) (now (a .maps))
+          view-law-fresh (a .space) (a .view) (a .below) (now (a .maps)) (p17 .pre) (refresh-enough (a .space) (a .view) (a .below) (now (a .maps))
               (p10 .fits2 .ensures) (p9 .if2 .left)) (p4 .refresh .ensures),
           omega arith,
         ),
         omega (
           arith,
           ap (λ (l : List Run). length l) (pieces-fresh (a .space) (a .view)
-              (a .below) (now (a .maps)) (p15 .pre) (refresh-enough (a .space) (a .view) (a .below) (now (a .maps)) (p10 .fits2 .ensures)
+              (a .below) (now (a .maps)) (p17 .pre) (refresh-enough (a .space) (a .view) (a .below) (now (a .maps)) (p10 .fits2 .ensures)
               (p9 .if2 .left)) (p4 .refresh .ensures) (a .start) (a .length) (omega
-              (arith, p12 .if1 .left))),
+              (arith, p14 .if1 .left))),
           p6 .if3 .left,
           read-count (a .space) (a .view) (a .below) (now (a .maps)) (a .start) (a .length) (length (now
               (a .out))) (p7 .count .ensures),
@@ -130,11 +136,11 @@ list-requires c κs =
       ),
     )
 
-cast-t10 : tie.Need-cast-t10
-cast-t10 c =
+cast-t11 : tie.Need-cast-t11
+cast-t11 c =
     let p10 = c .before .before .before .before .before .before .before .before .before .before in
-    let p18 = p10 .before .before .before .before .before .before .before .before in
-    let a = p18 .args in
+    let p20 = p10 .before .before .before .before .before .before .before .before .before .before in
+    let a = p20 .args in
     omega (
       arith,
       read-count (a .space) (a .view) (a .below) (now (a .maps)) (a .start) (a .length) (length (now (a .out))) (p10 .count .ensures),
@@ -150,20 +156,19 @@ same-length-4 c = search needs
 
 returns-4 : tie.Need-returns-4
 returns-4 c =
-    let p2 = c .before .before in
-    let p7 = p2 .before .before .before .before .before in
+    let p7 = c .before .before .before .before .before .before .before in
     let p9 = p7 .before .before in
     let p10 = p9 .before in
     let p12 = p10 .before .before in
     let p13 = p12 .before in
-    let p15 = p13 .before .before in
-    let p18 = p15 .before .before .before in
-    let a = p18 .args in
-    read-done (a .space) (a .view) (a .below) (now (a .maps)) (a .start) (a .length) (length (now (a .out))) (omega (arith, p18 .fits .start)) (omega
-    (arith, p18 .fits .length)) (p18 .pre) (omega (
+    let p17 = p13 .before .before .before .before in
+    let p20 = p17 .before .before .before in
+    let a = p20 .args in
+    read-done (a .space) (a .view) (a .below) (now (a .maps)) (a .start) (a .length) (length (now (a .out))) (omega (arith, p20 .fits .start)) (omega
+    (arith, p20 .fits .length)) (p20 .pre) (omega (
       arith,
-      p15 .if1 .left,
-      p18 .fits .start,
+      p17 .if1 .left,
+      p20 .fits .start,
     )) (refresh-enough (a .space) (a .view) (a .below) (now (a .maps)) (p13 .fits2 .ensures) (p12 .if2 .left)) (now
     (a .out)) (omega (
       arith,
@@ -171,10 +176,10 @@ returns-4 c =
       read-count (a .space) (a .view) (a .below) (now (a .maps)) (a .start) (a .length) (length (now (a .out)))
           (p10 .count .ensures),
     )) (read-count (a .space) (a .view) (a .below) (now (a .maps)) (a .start) (a .length) (length (now (a .out)))
-    (p10 .count .ensures)) (p7 .refresh .ensures) (p2 .list .ensures .1 ∙ ap (λ (l : List Run). listedIn l (now (a .out))) (pieces-fresh (a .space)
-    (a .view) (a .below) (now (a .maps)) (p18 .pre)
+    (p10 .count .ensures)) (p7 .refresh .ensures) (c .before .before .list .ensures .1 ∙ ap (λ (l : List Run). listedIn l (now (a .out))) (pieces-fresh (a .space)
+    (a .view) (a .below) (now (a .maps)) (p20 .pre)
     (refresh-enough (a .space) (a .view) (a .below) (now (a .maps)) (p13 .fits2 .ensures) (p12 .if2 .left)) (p7 .refresh .ensures) (a .start)
-    (a .length) (omega (arith, p15 .if1 .left, p18 .fits .start))))
+    (a .length) (omega (arith, p17 .if1 .left, p20 .fits .start))))
 
 pub read-spec : {M : Type 1} → statement M
 read-spec =
@@ -183,6 +188,7 @@ read-spec =
     sub-if1
     returns
     add-end
+    own-runs-requires
     fits-requires
     same-length
     returns-2
@@ -191,7 +197,7 @@ read-spec =
     returns-3
     refresh-requires
     list-requires
-    cast-t10
+    cast-t11
     same-length-3
     same-length-4
     returns-4)

@@ -8,37 +8,43 @@ use Rattle.extents.specs.declared.Answer.the-variants.{Done}
 use denote.Ref.{now}
 use mathlib.Core.Path.{sym}
 use native.Mathlib.Omega.{arith}
+use Rattle.extents.proofs.Pairing.{two-told}
 use Rattle.extents.proofs.lawful.sync.Statement.{statement}
 use Rattle.extents.proofs.lawful.sync.Tie as tie
 
+own-runs-requires : tie.Need-own-runs-requires
+own-runs-requires c κs =
+    let p2 = c .before .before in
+    let a = p2 .args in
+    let t = two-told (a .space) (a .view) (a .below) (now (a .maps)) (p2 .pre) in
+    (t .view-in, t .view-law)
+
 fits-requires : tie.Need-fits-requires
 fits-requires c κs =
-    let p2 = c .before .before in
-    (p2 .pre, (omega arith, omega arith))
+    let p4 = c .before .before .before .before in
+    (p4 .pre, (omega arith, omega arith, c .before .own-runs .ensures))
 
 same-length : tie.Need-same-length
 same-length c = search needs
 
 returns : tie.Need-returns
 returns c =
-    let p1 = c .before in
-    let p4 = p1 .before .before .before in
-    let a = p4 .args in
+    let p6 = c .before .before .before .before .before .before in
+    let a = p6 .args in
     refused 16 Done (syncedMaps (a .space) (a .view) (a .below) (now (a .maps))) (now (a .maps)) (sync-full (a .space) (a .view) (a .below) (now
-    (a .maps)) (p4 .pre) (publish-short
-    (a .space) (a .view) (a .below) (now (a .maps)) (p1 .fits2 .ensures) (c .if1 .taken))) (omega arith)
+    (a .maps)) (p6 .pre) (publish-short
+    (a .space) (a .view) (a .below) (now (a .maps)) (c .before .fits2 .ensures) (c .if1 .taken))) (omega arith)
 
 share-requires : tie.Need-share-requires
 share-requires c κs =
-    let p1 = c .before in
-    let p2 = p1 .before in
-    let p5 = p2 .before .before .before in
-    let a = p5 .args in (
-      p5 .pre,
+    let p4 = c .before .before .before .before in
+    let p7 = p4 .before .before .before in
+    let a = p7 .args in (
+      p7 .pre,
       (
-        (omega arith, λ l. absurd (omega (arith, l)), omega arith),
-        share-fits (a .space) (a .view) (a .below) (now (a .maps)) (p5 .pre)
-            (publish-enough (a .space) (a .view) (a .below) (now (a .maps)) (p2 .fits2 .ensures) (p1 .if1 .left)),
+        (omega arith, λ l. absurd (omega (arith, l)), omega arith, p4 .own-runs .ensures),
+        share-fits (a .space) (a .view) (a .below) (now (a .maps)) (p7 .pre)
+            (publish-enough (a .space) (a .view) (a .below) (now (a .maps)) (c .before .before .fits2 .ensures) (c .before .if1 .left)),
       ),
     )
 
@@ -47,18 +53,18 @@ copy-requires c κs =
     let p3 = c .before .before .before in
     let p5 = p3 .before .before in
     let p6 = p5 .before in
-    let p9 = p6 .before .before .before in
-    let a = p9 .args in
+    let p11 = p6 .before .before .before .before .before in
+    let a = p11 .args in
     let xs = now (a .maps) in
     let n = publish-enough (a .space) (a .view) (a .below) xs (p6 .fits2 .ensures) in (
       (
-        below-in-after (a .space) (a .view) (a .below) xs (p9 .pre) (n (p5 .if1 .left)) (p3 .share .ensures),
-        view-in-after (a .space) (a .view) (a .below) xs (p9 .pre) (n (p5 .if1 .left)) (p3 .share .ensures),
-        λ q. two-apart (a .space) (a .view) (a .below) xs (p9 .pre) (sym q),
+        below-in-after (a .space) (a .view) (a .below) xs (p11 .pre) (n (p5 .if1 .left)) (p3 .share .ensures),
+        view-in-after (a .space) (a .view) (a .below) xs (p11 .pre) (n (p5 .if1 .left)) (p3 .share .ensures),
+        λ q. two-apart (a .space) (a .view) (a .below) xs (p11 .pre) (sym q),
       ),
       (
-        below-law-after (a .space) (a .view) (a .below) xs (p9 .pre) (n (p5 .if1 .left)) (p3 .share .ensures),
-        view-law-after (a .space) (a .view) (a .below) xs (p9 .pre) (n (p5 .if1 .left)) (p3 .share .ensures),
+        below-law-after (a .space) (a .view) (a .below) xs (p11 .pre) (n (p5 .if1 .left)) (p3 .share .ensures),
+        view-law-after (a .space) (a .view) (a .below) xs (p11 .pre) (n (p5 .if1 .left)) (p3 .share .ensures),
       ),
     )
 
@@ -67,20 +73,20 @@ same-length-2 c = search needs
 
 returns-2 : tie.Need-returns-2
 returns-2 c =
-    let p2 = c .before .before in
-    let p6 = p2 .before .before .before .before in
+    let p6 = c .before .before .before .before .before .before in
     let p8 = p6 .before .before in
     let p9 = p8 .before in
-    let p12 = p9 .before .before .before in
-    let a = p12 .args in
-    sync-done (a .space) (a .view) (a .below) (now (a .maps)) (p12 .pre)
+    let p14 = p9 .before .before .before .before .before in
+    let a = p14 .args in
+    sync-done (a .space) (a .view) (a .below) (now (a .maps)) (p14 .pre)
     (publish-enough (a .space) (a .view) (a .below) (now (a .maps)) (p9 .fits2 .ensures) (p8 .if1 .left)) (p6 .share .ensures)
-    (p2 .copy .ensures)
+    (c .before .before .copy .ensures)
 
 pub sync-spec : {M : Type 1} → statement M
 sync-spec =
     tie.close
     (tie.spec
+    own-runs-requires
     fits-requires
     same-length
     returns

@@ -36,52 +36,31 @@ part-runs-in-end c = omega (arith, told (c .before .before) .view-in)
 
 runs-in-requires : tie.Need-runs-in-requires
 runs-in-requires c κs =
-    let s = c .before .before .before in
-    let a = s .args in
-    ap lawful (map-lent (a .space) (a .view) (now (a .maps))) ∙ told s .view-law
+    let p3 = c .before .before .before in
+    let a = p3 .args in
+    ap lawful (map-lent (a .space) (a .view) (now (a .maps))) ∙ told (p3) .view-law
 
 add-result : tie.Need-add-result
 add-result c =
-    let s = c .before .before .before .before in
-    let a = s .args in
-    omega (arith, told s .view-in, s .good, view-room (a .space) (a .view) (a .below) (now (a .maps)) (s .pre .0) (c .runs-in .ensures))
+    let p4 = c .before .before .before .before in
+    let a = p4 .args in
+    omega (arith, told (p4) .view-in, p4 .good, view-room (a .space) (a .view) (a .below) (now (a .maps)) (p4 .pre .0) (c .runs-in .ensures))
 
 returns : tie.Need-returns
 returns c =
-    let s = c .before .before .before .before in
-    let a = s .args in
-    λ start n cell. most-settle (a .space) (a .view) (a .below) (now (a .maps)) (s .pre .0) start n cell (a .mode)
+    let p4 = c .before .before .before .before in
+    let a = p4 .args in
+    λ start n cell. most-settle (a .space) (a .view) (a .below) (now (a .maps)) (p4 .pre .0) start n cell (a .mode)
     (c .before .before .if1 .taken) (c .runs-in .ensures)
 
 mul-w : tie.Need-mul-w
 mul-w c = omega (arith, told (c .before .before) .below-in)
 
-add-marked-in : tie.Need-add-marked-in
-add-marked-in c = omega (arith, told (c .before .before) .view-in)
-
-mul-marked-in : tie.Need-mul-marked-in
-mul-marked-in c = omega (arith, told (c .before .before) .view-in)
-
-sub-marked-in : tie.Need-sub-marked-in
-sub-marked-in c = search needs
-
-part-marked-in-start : tie.Need-part-marked-in-start
-part-marked-in-start c = search needs
-
-part-marked-in-end : tie.Need-part-marked-in-end
-part-marked-in-end c = omega (arith, told (c .before .before) .view-in)
-
-marked-in-requires : tie.Need-marked-in-requires
-marked-in-requires c κs =
-    let s = c .before .before .before in
-    let a = s .args in
-    ap lawful (map-lent (a .space) (a .view) (now (a .maps))) ∙ told s .view-law
-
 add-runs-in-2 : tie.Need-add-runs-in-2
-add-runs-in-2 c = omega (arith, told (c .before .before .before .before) .below-in)
+add-runs-in-2 c = omega (arith, told (c .before .before) .below-in)
 
 mul-runs-in-2 : tie.Need-mul-runs-in-2
-mul-runs-in-2 c = omega (arith, told (c .before .before .before .before) .below-in)
+mul-runs-in-2 c = omega (arith, told (c .before .before) .below-in)
 
 sub-runs-in-2 : tie.Need-sub-runs-in-2
 sub-runs-in-2 c = search needs
@@ -90,44 +69,44 @@ part-runs-in-start-2 : tie.Need-part-runs-in-start-2
 part-runs-in-start-2 c = search needs
 
 part-runs-in-end-2 : tie.Need-part-runs-in-end-2
-part-runs-in-end-2 c = omega (arith, told (c .before .before .before .before) .below-in)
+part-runs-in-end-2 c = omega (arith, told (c .before .before) .below-in)
 
 runs-in-requires-2 : tie.Need-runs-in-requires-2
 runs-in-requires-2 c κs =
-    let s = c .before .before .before .before .before in
-    let a = s .args in
-    ap lawful (map-lent (a .space) (a .below) (now (a .maps))) ∙ told s .below-law
+    let p3 = c .before .before .before in
+    let a = p3 .args in
+    ap lawful (map-lent (a .space) (a .below) (now (a .maps))) ∙ told (p3) .below-law
 
 mul-result : tie.Need-mul-result
 mul-result c =
-    let s = c .before .before .before .before .before .before in
-    let a = s .args in
-    let u = marked-room (a .space) (a .view) (a .below) (now (a .maps)) (s .pre .0) (c .before .before .marked-in .ensures) in
-    let k = below-room (a .space) (a .view) (a .below) (now (a .maps)) (s .pre .0) (c .runs-in2 .ensures) in
-    omega (arith, told s .view-in, s .good, u, k)
+    let p4 = c .before .before .before .before in
+    let a = p4 .args in
+    let u = marked-room (a .space) (a .view) (a .below) (now (a .maps)) (p4 .pre .0) (p4 .pre .2) in
+    let k = below-room (a .space) (a .view) (a .below) (now (a .maps)) (p4 .pre .0) (c .runs-in2 .ensures) in
+    omega (arith, told (p4) .view-in, p4 .good, u, k)
 
 add-result-2 : tie.Need-add-result-2
 add-result-2 c =
-    let s = c .before .before .before .before .before .before in
-    let a = s .args in
-    let u = marked-room (a .space) (a .view) (a .below) (now (a .maps)) (s .pre .0) (c .before .before .marked-in .ensures) in
-    let k = below-room (a .space) (a .view) (a .below) (now (a .maps)) (s .pre .0) (c .runs-in2 .ensures) in
-    omega (arith, told s .view-in, s .good, u, k)
+    let p4 = c .before .before .before .before in
+    let a = p4 .args in
+    let u = marked-room (a .space) (a .view) (a .below) (now (a .maps)) (p4 .pre .0) (p4 .pre .2) in
+    let k = below-room (a .space) (a .view) (a .below) (now (a .maps)) (p4 .pre .0) (c .runs-in2 .ensures) in
+    omega (arith, told (p4) .view-in, p4 .good, u, k)
 
 add-result-3 : tie.Need-add-result-3
 add-result-3 c =
-    let s = c .before .before .before .before .before .before in
-    let a = s .args in
-    let u = marked-room (a .space) (a .view) (a .below) (now (a .maps)) (s .pre .0) (c .before .before .marked-in .ensures) in
-    let k = below-room (a .space) (a .view) (a .below) (now (a .maps)) (s .pre .0) (c .runs-in2 .ensures) in
-    omega (arith, told s .view-in, s .good, u, k)
+    let p4 = c .before .before .before .before in
+    let a = p4 .args in
+    let u = marked-room (a .space) (a .view) (a .below) (now (a .maps)) (p4 .pre .0) (p4 .pre .2) in
+    let k = below-room (a .space) (a .view) (a .below) (now (a .maps)) (p4 .pre .0) (c .runs-in2 .ensures) in
+    omega (arith, told (p4) .view-in, p4 .good, u, k)
 
 returns-2 : tie.Need-returns-2
 returns-2 c =
-    let s = c .before .before .before .before .before .before in
-    let a = s .args in
-    λ start n cell. most-other (a .space) (a .view) (a .below) (now (a .maps)) (s .pre .0) start n cell (a .mode)
-    (c .before .before .before .before .if1 .left) (s .pre .1) (c .runs-in2 .ensures) (c .before .before .marked-in .ensures)
+    let p4 = c .before .before .before .before in
+    let a = p4 .args in
+    λ start n cell. most-other (a .space) (a .view) (a .below) (now (a .maps)) (p4 .pre .0) start n cell (a .mode)
+    (c .before .before .if1 .left) (p4 .pre .1) (c .runs-in2 .ensures) (p4 .pre .2)
 
 pub most-runs-spec : {M : Type 1} → statement M
 most-runs-spec =
@@ -144,12 +123,6 @@ most-runs-spec =
     add-result
     returns
     mul-w
-    add-marked-in
-    mul-marked-in
-    sub-marked-in
-    part-marked-in-start
-    part-marked-in-end
-    marked-in-requires
     add-runs-in-2
     mul-runs-in-2
     sub-runs-in-2
