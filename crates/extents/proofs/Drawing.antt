@@ -15,7 +15,7 @@ use Rattle.runs.proofs.Longest.{lawful-fine}
 use Rattle.runs.proofs.Passes.{over-before}
 use Rattle.extents.specs.declared.share.Stroke.{Stroke}
 use Rattle.extents.specs.Strokes.{strokeOf, within, stroke, strokes, downs, taken}
-use Rattle.extents.proofs.Sweeps.{over-at, over-past, Good, good-over, Rises, Drawn}
+use Rattle.extents.proofs.Sweeps.{over-at, over-past, over-none, Good, good-over, Rises, Drawn}
 use Rattle.extents.proofs.Sweeps.{downs-before, downs-drawn, drawn-self, drawn-downs, drawn-one}
 
 -- ---- A published byte
@@ -62,6 +62,14 @@ taken-behind : (lo hi : ℕ) (v f : Bytes) (b : ℕ) → lo ≤ b → hi ≤ b �
 unfolding taken
 taken-behind lo hi v f b h k = rw (range-behind lo (hi - lo) b (omega arith))
 
+-- nor anywhere where the range is empty
+pub taken-none : (lo hi : ℕ) (v f : Bytes) → hi ≤ lo → (b : ℕ) → taken lo hi v f b ≡ f b
+taken-none lo hi v f h b = go (decLt b lo)
+  where
+    go : Dec (b < lo) → taken lo hi v f b ≡ f b
+    go (yes l) = taken-before lo hi v f b l
+    go (no l) = taken-behind lo hi v f b (omega arith) (omega arith)
+
 -- equal bytes stay equal
 taken-same : (lo hi : ℕ) (v f g : Bytes) → ((b : ℕ) → f b ≡ g b) → (b : ℕ) → taken lo hi v f b ≡ taken lo hi v g b
 unfolding taken
@@ -89,6 +97,20 @@ unfolding strokes
 strokes-later lo hi zero rs = refl
 strokes-later lo hi (suc i) [] = refl
 strokes-later lo hi (suc i) (r ∷ rs) = strokes-later lo hi i rs
+
+-- the range of a published run is empty
+pub stroke-empty : (lo hi : ℕ) (r : Run) → unpublished (r .cell) ≡ false → stroke lo hi r .to ≡ stroke lo hi r .from
+unfolding stroke
+stroke-empty lo hi r u = ap (λ (x : Bool). within lo hi (cond x (r .start + r .length) (r .start))) u
+
+-- within an empty range the ranges of all runs are empty, so a pass down changes nothing
+pub downs-none : (lo hi : ℕ) (rs : List Run) (f : Bytes) → hi ≤ lo → (b : ℕ) → downs (strokes lo hi rs) f b ≡ f b
+unfolding strokes stroke downs
+downs-none lo hi [] f h b = refl
+downs-none lo hi (r ∷ rs) f h b =
+    let s = stroke lo hi r in
+    let g = downs (strokes lo hi rs) f in
+    over-none (s .from) (s .to) (g (s .to)) g b (omega arith) ∙ downs-none lo hi rs f h b
 
 -- the end of a run or its start
 part-end : (x : Bool) (s n : ℕ) → (s ≤ cond x (s + n) s) × (cond x (s + n) s ≤ s + n)

@@ -157,6 +157,12 @@ pub record Holds (size w : ℕ) (xs : List ℕ) (f : Bytes) (ys : List ℕ) : Ty
   pub fits : Fits (size / 4) f
   pub same : ys ≡ withBytes size w f xs
 
+-- a slice that holds some bytes holds equal ones
+pub holds-same : {size w : ℕ} {xs ys : List ℕ} {f : Bytes} (g : Bytes) → Fits (size / 4) g → ((b : ℕ) → f b ≡ g b) → Holds size w xs f ys →
+    Holds size w xs g ys
+holds-same {size} {w} {xs} {ys} {f} g a e k =
+    record { fits = a; same = k .same ∙ ap (λ (m : List ℕ). withPart w size m xs) (map-same (size / 4) f g e) }
+
 -- a slice holds the bytes of its own map
 pub holds-start : {size v w : ℕ} {xs : List ℕ} → Two size v w xs → Holds size w xs (bytesOf (partAt w size xs)) xs
 holds-start {size} {v} {w} {xs} t =

@@ -2,22 +2,23 @@
 use Prim.Native.Nat.{ℕ, suc, _+_, _*_, _-_, _/_, _≤_, _<_}
 use native.Mathlib.Omega.{arith}
 use mathlib.Core.Path.{_≡_, sym, ap, subst, _∙_}
-use mathlib.Core.Bool.{true}
+use mathlib.Core.Bool.{Bool, true, false}
 use mathlib.Core.List.{List, _∷_}
 use lib.ListN.{length, take, drop, drop-of-length-le}
 use lib.Seq.{drop-cons}
 use borrow.Rule.Slice.PartMut.{putMid}
 use Rattle.models.specs.Limits.{OFFSET-MAX}
-use Rattle.runs.specs.Cells.{Bytes, overwrite}
+use Rattle.runs.specs.Cells.{Bytes, unpublished, overwrite}
 use Rattle.runs.specs.Runs.{Run, runOf, cellAt, runsOf, Lawful}
 use Rattle.runs.specs.Maps.{mapFor, spaceIn, runs, bytesOf, lawful}
 use Rattle.runs.proofs.Longest.{Fine, runs-same}
 use Rattle.runs.proofs.Trips.{lawful-map}
 use Rattle.extents.specs.declared.share.Stroke.{Stroke}
-use Rattle.extents.specs.Strokes.{stroke, strokes, filled, downs, partAt, Two, raised, Ready}
-use Rattle.extents.proofs.Sweeps.{over-same, fill-same, Fits, Rises, Drawn, downs-fits, up-step, rises-later, drawn-later}
-use Rattle.extents.proofs.Drawing.{clear-fine, strokes-later, pass-rises, taken-good, taken-drawn}
-use Rattle.extents.proofs.Parts.{bytes-fit, Holds, holds-start, holds-next, lent-view, lent-space, lent-bytes, lent-next}
+use Rattle.extents.specs.Strokes.{stroke, strokes, filled, downs, partAt, withPart, withBytes, Two, sunk, raised, Ready}
+use Rattle.extents.proofs.Sweeps.{over-none, over-same, fill-same, Fits, Rises, Drawn, downs-fits, up-step, rises-later, drawn-later}
+use Rattle.extents.proofs.Drawing.{clear-fine, taken-none, strokes-later, stroke-empty, downs-none, pass-rises, taken-good, taken-drawn}
+use Rattle.extents.proofs.Parts.{bytes-fit, map-same, Holds, holds-same, holds-start, holds-next}
+use Rattle.extents.proofs.Parts.{lent-view, lent-space, lent-bytes, lent-next}
 use Rattle.extents.proofs.Taking.{runAmong, fine-at, there}
 
 -- ---- The bytes after a part of a pass
@@ -37,6 +38,14 @@ module _ (lo hi : ℕ) (rs : List Run) where
       state lo hi rs g i ≡ filled (stroke lo hi (runAmong rs i) .from) (stroke lo hi (runAmong rs i) .to) (state lo hi rs g (suc i))
   unfolding downs
   state-down g i h = ap (λ (us : List Stroke). downs us g) (strokes-at i h)
+
+  -- a published run changes nothing
+  state-skip : (g : Bytes) (i : ℕ) → i < length rs → unpublished (runAmong rs i .cell) ≡ false → (x : ℕ) →
+      state lo hi rs g i x ≡ state lo hi rs g (suc i) x
+  state-skip g i h u x =
+      let s = stroke lo hi (runAmong rs i) in
+      let f = state lo hi rs g (suc i) in
+      (λ o. state-down g i h o x) ∙ over-none (s .from) (s .to) (f (s .to)) f x (omega (arith, stroke-empty lo hi (runAmong rs i) u))
 
   -- behind the last run nothing is changed
   pub state-end : (g : Bytes) (i : ℕ) → length rs ≤ i → state lo hi rs g i ≡ g
@@ -94,6 +103,11 @@ module _ (size v w lo hi : ℕ) (xs : List ℕ) (t : Two size v w xs) (a : lo �
       s ≡ stroke lo hi (runAmong (runs (take (v + size - v) (drop v ys))) i) → s ≡ stroke lo hi (runAmong rs i)
   stroke-there k i q = q ∙ ap (λ (l : List ℕ). stroke lo hi (runAmong (runs l) i)) (lent-view t k)
 
+  -- a run that reads as published is so
+  shown-there : {f : Bytes} {ys : List ℕ} → Holds size w xs f ys → (i : ℕ) {r : Bool} →
+      r ≡ unpublished (runAmong (runs (take (v + size - v) (drop v ys))) i .cell) → r ≡ false → unpublished (runAmong rs i .cell) ≡ false
+  shown-there k i q z = ap (λ (l : List ℕ). unpublished (runAmong (runs l) i .cell)) (sym (lent-view t k)) ∙ sym q ∙ z
+
   -- ---- Down
 
   -- the published map's bytes
@@ -121,11 +135,35 @@ module _ (size v w lo hi : ℕ) (xs : List ℕ) (t : Two size v w xs) (a : lo �
       ∙ (λ o. sym (state-down lo hi rs old j (omega arith)) o x))
       q
 
+  -- which it skips where that is published
+  pub down-skip : (i : ℕ) {ys : List ℕ} → Holds size w xs (state lo hi rs old i) ys → 0 < i → i ≤ length rs → {r : Bool} →
+      r ≡ unpublished (runAmong (runs (take (v + size - v) (drop v ys))) (i - 1) .cell) → r ≡ false →
+      Holds size w xs (state lo hi rs old (i - 1)) ys
+  down-skip i k h m q z =
+      let j = i - 1 in
+      let e : i ≡ suc j = omega arith in
+      let u = shown-there k j q z in
+      holds-same (state lo hi rs old j) (state-fits lo hi rs law a b old (size / 4) (holds-start t .fits) j)
+      (λ x. (λ o. state lo hi rs old (e o) x) ∙ sym (state-skip lo hi rs old j (omega arith) u x)) k
+
+  -- a pass down over an empty range changes nothing
+  pub down-none : hi ≤ lo → xs ≡ withBytes size w (sunk size v w lo hi xs) xs
+  down-none h =
+      holds-start t .same
+      ∙ ap (λ (m : List ℕ). withPart w size m xs)
+      (map-same (size / 4) old (sunk size v w lo hi xs) (λ x. sym (downs-none lo hi rs old h x)))
+
   -- ---- Up
 
   -- the bytes at the end
   abbrev new : Bytes
   new = raised size v w lo hi xs
+
+  -- a pass up over an empty range changes nothing
+  pub up-none : hi ≤ lo → xs ≡ withBytes size w new xs
+  up-none h =
+      holds-start t .same
+      ∙ ap (λ (m : List ℕ). withPart w size m xs) (map-same (size / 4) old new (λ x. sym (taken-none lo hi (cellAt rs) old h x)))
 
   module _ (y : Ready size v w lo hi xs) where
     -- the bytes fit on the way
@@ -137,6 +175,15 @@ module _ (size v w lo hi : ℕ) (xs : List ℕ) (t : Two size v w xs) (a : lo �
     -- a pass up starts where a pass down is made
     pub up-start : Holds size w xs (state lo hi rs new 0) xs
     up-start = let u = holds-start t in holds-next t u (state lo hi rs new 0) old (up-fits 0) (y .level) (u .same)
+
+    -- it skips a published run
+    pub up-skip : (i : ℕ) {ys : List ℕ} → Holds size w xs (state lo hi rs new i) ys → i < length rs → {r : Bool} →
+        r ≡ unpublished (runAmong (runs (take (v + size - v) (drop v ys))) i .cell) → r ≡ false → Holds size w xs (state lo hi rs new (i + 1)) ys
+    up-skip i k m q z =
+        let e : suc i ≡ i + 1 = omega arith in
+        let u = shown-there k i q z in
+        holds-same (state lo hi rs new (i + 1)) (up-fits (i + 1))
+        (λ x. state-skip lo hi rs new i m u x ∙ (λ o. state lo hi rs new (e o) x)) k
 
     module _ (i : ℕ) {ys : List ℕ} (k : Holds size w xs (state lo hi rs new i) ys) (m : i < length rs) {s : Stroke}
         (p : s ≡ stroke lo hi (runAmong (runs (take (v + size - v) (drop v ys))) i)) where

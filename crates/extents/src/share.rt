@@ -6,7 +6,7 @@ ghost use mathlib.Core.Bool.{true};
 ghost use mathlib.Core.Logic.{_⊎_};
 ghost use lib.ListN.{length, getD};
 ghost use Rattle.models.specs.Limits.{ROWS};
-ghost use Rattle.runs.specs.Cells.{numberIn, cellOf, overwrite};
+ghost use Rattle.runs.specs.Cells.{numberIn, cellOf, unpublished, overwrite};
 ghost use Rattle.runs.specs.Runs.{runOf, runsOf};
 ghost use Rattle.runs.specs.Maps.{mapFor, spaceIn, runs, bytesOf, lawful, mapAt, withMap};
 ghost use Rattle.maps.specs.Mixes.{PUBLISH, mix};
@@ -60,11 +60,16 @@ fn pass_down(maps: &mut [u32], size: usize, v: usize, w: usize, lo: u32, hi: u32
     requires { ⌜ Two size v w (now maps) × (lo ≤ hi) ⌝ }
     ensures { λ _. ⌜ now (maps .exit) ≡ withBytes size w (sunk size v w lo hi (now (maps .entry))) (now (maps .entry)) ⌝ }
 {
+    if hi <= lo {
+        return;
+    }
     let mut i = maps::splice::runs_in(&maps[v..v + size]);
     while 0 < i {
         i -= 1;
-        let s = stroke_at(&maps[v..v + size], i, lo, hi);
-        fill(&mut maps[w..w + size], s.from, s.to);
+        if is_own(&maps[v..v + size], i) {
+            let s = stroke_at(&maps[v..v + size], i, lo, hi);
+            fill(&mut maps[w..w + size], s.from, s.to);
+        }
     }
 }
 
@@ -73,13 +78,27 @@ fn pass_up(maps: &mut [u32], size: usize, v: usize, w: usize, lo: u32, hi: u32)
     requires { ⌜ Two size v w (now maps) × (lo ≤ hi) × Ready size v w lo hi (now maps) ⌝ }
     ensures { λ _. ⌜ now (maps .exit) ≡ withBytes size w (raised size v w lo hi (now (maps .entry))) (now (maps .entry)) ⌝ }
 {
+    if hi <= lo {
+        return;
+    }
     let all = maps::splice::runs_in(&maps[v..v + size]);
     let mut i = 0;
     while i < all {
-        let s = stroke_at(&maps[v..v + size], i, lo, hi);
-        put(&mut maps[w..w + size], s.from, s.to, s.cell);
+        let k = i;
         i += 1;
+        if is_own(&maps[v..v + size], k) {
+            let s = stroke_at(&maps[v..v + size], k, lo, hi);
+            put(&mut maps[w..w + size], s.from, s.to, s.cell);
+        }
     }
+}
+
+// Is run i unpublished?
+fn is_own(map: &[u32], i: usize) -> bool
+    requires { ⌜ (lawful (now map) ≡ true) × (i < length (runs (now map))) × (i * 4 + 4 ≤ length (now map)) ⌝ }
+    ensures { λ r. ⌜ r ≡ unpublished (getD (runs (now (map .entry))) i (runOf 0 0 0) .cell) ⌝ }
+{
+    map[i * 4 + 3] == 1
 }
 
 // What is to be written of run i between two bytes: nothing where it is published.

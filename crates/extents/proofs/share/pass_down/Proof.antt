@@ -9,7 +9,7 @@ use denote.Ref.{now}
 use Rattle.runs.specs.Maps.{runs, bytesOf}
 use Rattle.extents.specs.Strokes.{partAt, withBytes}
 use Rattle.extents.proofs.Parts.{Holds, holds-start, holds-length, lent-view, lent-lawful, lent-below}
-use Rattle.extents.proofs.Passing.{state, lent-run, down-start, down-next}
+use Rattle.extents.proofs.Passing.{state, lent-run, down-start, down-next, down-skip, down-none}
 use Rattle.extents.proofs.share.pass_down.Statement.{statement}
 use Rattle.extents.proofs.share.pass_down.Tie as tie
 
@@ -20,6 +20,13 @@ Inv-loop maps₀ size v w lo hi i₀ maps i =
 
 abbrev μ-loop : tie.MeasureT-loop
 μ-loop maps₀ size v w lo hi i₀ maps i = i
+
+returns : tie.Need-returns Inv-loop μ-loop
+returns c =
+    let c1 = c .before .before in
+    let a = c1 .args in
+    let p = c1 .pre in
+    down-none (a .size) (a .v) (a .w) (a .lo) (a .hi) (now (a .maps)) (p .0) (p .1) (omega arith) (c .if1 .taken)
 
 add-runs-in : tie.Need-add-runs-in Inv-loop μ-loop
 add-runs-in c = search needs
@@ -38,12 +45,12 @@ part-runs-in-end c = search needs
 
 runs-in-requires : tie.Need-runs-in-requires Inv-loop μ-loop
 runs-in-requires c κs =
-    let c1 = c .before .before .before in
+    let c1 = c .before .before .before .before in
     lent-lawful (c1 .pre .0) (holds-start (c1 .pre .0))
 
 loop-holds : tie.Need-loop-holds Inv-loop μ-loop
 loop-holds c =
-    let c1 = c .before .before .before .before in
+    let c1 = c .before .before .before .before .before in
     let a = c1 .args in
     let p = c1 .pre in
     let r = c .runs-in in
@@ -55,6 +62,30 @@ loop-holds c =
 
 sub-i : tie.Need-sub-i Inv-loop μ-loop
 sub-i c = search needs
+
+add-is-own : tie.Need-add-is-own Inv-loop μ-loop
+add-is-own c = search needs
+
+mul-is-own : tie.Need-mul-is-own Inv-loop μ-loop
+mul-is-own c = search needs
+
+sub-is-own : tie.Need-sub-is-own Inv-loop μ-loop
+sub-is-own c = search needs
+
+part-is-own-start : tie.Need-part-is-own-start Inv-loop μ-loop
+part-is-own-start c = search needs
+
+part-is-own-end : tie.Need-part-is-own-end Inv-loop μ-loop
+part-is-own-end c =
+    let c1 = c .before .before .before .before .before .before .before .before in
+    omega (arith, c1 .pre .0 .view-in, c .before .before .loop .inv .1)
+
+is-own-requires : tie.Need-is-own-requires Inv-loop μ-loop
+is-own-requires c κs =
+    let c1 = c .before .before .before in
+    let c2 = c1 .before .before .before .before .before .before in
+    let l = c1 .loop in
+    lent-run (c2 .pre .0) (l .inv .2) (l .i - 1) (omega (arith, l .inv .0, c .before .before .loop-test .taken))
 
 add-stroke-at : tie.Need-add-stroke-at Inv-loop μ-loop
 add-stroke-at c = search needs
@@ -70,15 +101,17 @@ part-stroke-at-start c = search needs
 
 part-stroke-at-end : tie.Need-part-stroke-at-end Inv-loop μ-loop
 part-stroke-at-end c =
-    let c1 = c .before .before .before .before .before .before .before in
-    omega (arith, c1 .pre .0 .view-in, c .before .before .loop .inv .1)
+    let c1 = c .before .before .before .before .before .before in
+    let c2 = c1 .before .before .before .before .before .before in
+    omega (arith, c2 .pre .0 .view-in, c1 .loop .inv .1)
 
 stroke-at-requires : tie.Need-stroke-at-requires Inv-loop μ-loop
 stroke-at-requires c κs =
-    let c1 = c .before .before .before in
-    let c2 = c1 .before .before .before .before .before in
-    let l = c1 .loop in
-    lent-run (c2 .pre .0) (l .inv .2) (l .i - 1) (omega (arith, l .inv .0, c .before .before .loop-test .taken))
+    let c1 = c .before .before .before .before .before .before in
+    let c2 = c1 .before in
+    let c3 = c2 .before .before .before .before .before .before in
+    let l = c2 .loop in
+    lent-run (c3 .pre .0) (l .inv .2) (l .i - 1) (omega (arith, l .inv .0, c1 .loop-test .taken))
 
 add-fill : tie.Need-add-fill Inv-loop μ-loop
 add-fill c = search needs
@@ -94,14 +127,14 @@ part-fill-start c = search needs
 
 part-fill-end : tie.Need-part-fill-end Inv-loop μ-loop
 part-fill-end c =
-    let c1 = c .before .before .before .before in
-    let c2 = c1 .before .before .before .before .before in
+    let c1 = c .before .before .before .before .before .before .before .before in
+    let c2 = c1 .before .before .before .before .before .before in
     omega (arith, c2 .pre .0 .below-in, c1 .loop .inv .1)
 
 fill-requires : tie.Need-fill-requires Inv-loop μ-loop
 fill-requires c κs =
-    let c1 = c .before .before .before .before .before in
-    let c2 = c1 .before .before .before .before .before in
+    let c1 = c .before .before .before .before .before .before .before .before .before in
+    let c2 = c1 .before .before .before .before .before .before in
     lent-below (c2 .pre .0) (c1 .loop .inv .2)
 
 loop-less : tie.Need-loop-less Inv-loop μ-loop
@@ -110,9 +143,9 @@ loop-less c = omega arith
 loop-again : tie.Need-loop-again Inv-loop μ-loop
 loop-again c =
     let c1 = c .before .before .before .before in
-    let c2 = c1 .before .before .before in
+    let c2 = c1 .before .before .before .before .before .before .before in
     let c3 = c2 .before in
-    let c4 = c3 .before .before .before .before .before in
+    let c4 = c3 .before .before .before .before .before .before in
     let a = c4 .args in
     let p = c4 .pre in
     let l = c3 .loop in
@@ -121,12 +154,28 @@ loop-again c =
     (c2 .loop-test .taken) (l .inv .0) (c1 .stroke-at .ensures) (c .before .before .fill .ensures) in
     (omega (arith, l .inv .0), holds-length (p .0) k, k)
 
+loop-less-2 : tie.Need-loop-less-2 Inv-loop μ-loop
+loop-less-2 c = omega arith
+
+loop-again-2 : tie.Need-loop-again-2 Inv-loop μ-loop
+loop-again-2 c =
+    let c1 = c .before .before .before .before in
+    let c2 = c1 .before in
+    let c3 = c2 .before .before .before .before .before .before in
+    let a = c3 .args in
+    let p = c3 .pre in
+    let l = c2 .loop in
+    let k =
+    down-skip (a .size) (a .v) (a .w) (a .lo) (a .hi) (now (a .maps)) (p .0) (p .1) (omega arith) (l .i) (l .inv .2)
+    (c1 .loop-test .taken) (l .inv .0) (c .before .is-own .ensures) (c .if2 .left) in
+    (omega (arith, l .inv .0), l .inv .1, k)
+
 same-length : tie.Need-same-length Inv-loop μ-loop
 same-length c = c .before .loop .inv .1
 
-returns : tie.Need-returns Inv-loop μ-loop
-returns c =
-    let c1 = c .before .before .before .before .before .before in
+returns-2 : tie.Need-returns-2 Inv-loop μ-loop
+returns-2 c =
+    let c1 = c .before .before .before .before .before .before .before in
     let a = c1 .args in
     let l = c .before .loop in
     let rs = runs (partAt (a .v) (a .size) (now (a .maps))) in
@@ -140,6 +189,7 @@ pass-down-spec =
     (tie.spec
     Inv-loop
     μ-loop
+    returns
     add-runs-in
     mul-runs-in
     sub-runs-in
@@ -148,6 +198,12 @@ pass-down-spec =
     runs-in-requires
     loop-holds
     sub-i
+    add-is-own
+    mul-is-own
+    sub-is-own
+    part-is-own-start
+    part-is-own-end
+    is-own-requires
     add-stroke-at
     mul-stroke-at
     sub-stroke-at
@@ -162,5 +218,7 @@ pass-down-spec =
     fill-requires
     loop-less
     loop-again
+    loop-less-2
+    loop-again-2
     same-length
-    returns)
+    returns-2)
