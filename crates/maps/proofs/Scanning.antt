@@ -6,10 +6,12 @@ use native.Mathlib.Numerals.{add-one}
 use native.Mathlib.Omega.{arith}
 use mathlib.Core.Path.{_≡_, refl, sym, ap, _∙_}
 use mathlib.Core.Logic.{_≢_}
-use mathlib.Core.Bool.{Bool, true, false, not}
+use mathlib.Core.Bool.{Bool, true, false, not, _&&_, and-true, and-false, and-assoc}
 use mathlib.Core.List.{List, [], _∷_}
 use lib.ListN.{length, getD, drop, length-drop, drop-of-length-le}
 use lib.Seq.{drop-cons, drop-drop}
+use lib.Dec.{eqb}
+use lib.Bits.{bitOr, or-zero-r, or-add-and, and-le-l}
 use borrow.Author.Tests.{not-true, not-false, eq-eqb, ne-eqb}
 use Rattle.models.specs.Limits.{ROWS, OFFSET-MAX}
 use Rattle.runs.specs.Cells.{numberIn}
@@ -22,29 +24,33 @@ use Rattle.maps.specs.declared.scan.Look.{Look}
 
 -- ---- Zeros
 
--- place i is reached: the rest says whether all from a place on is 0
-pub record Zeros (xs : List ℕ) (from i : ℕ) : Type 0 where
-  pub rest : allZero (drop from xs) ≡ allZero (drop i xs)
+-- bits of two numbers: none where neither has one
+bits-none : (a b : ℕ) → eqb (bitOr a b) 0 ≡ eqb a 0 && eqb b 0
+bits-none a b = go (ℕ-discrete b 0)
+  where
+    go : Dec (b ≡ 0) → eqb (bitOr a b) 0 ≡ eqb a 0 && eqb b 0
+    go (yes e) = ap (λ (n : ℕ). eqb (bitOr a n) 0) e ∙ ap (λ (n : ℕ). eqb n 0) (or-zero-r a) ∙ sym (rw (eq-eqb b 0 e, and-true))
+    go (no n) = ne-eqb (bitOr a b) 0 (λ z. n (omega (arith, z, or-add-and a b, and-le-l a b))) ∙ sym (rw (ne-eqb b 0 n, and-false))
+
+-- place i is reached: the bits up to it and the rest say whether all from a place on is 0
+pub record Zeros (xs : List ℕ) (from bits i : ℕ) : Type 0 where
+  pub rest : allZero (drop from xs) ≡ eqb bits 0 && allZero (drop i xs)
 
 -- at first the place itself is reached
-pub zero-start : (xs : List ℕ) (from : ℕ) → Zeros xs from from
+pub zero-start : (xs : List ℕ) (from : ℕ) → Zeros xs from 0 from
 zero-start xs from = record { rest = refl }
 
-module _ {xs : List ℕ} {from i : ℕ} (z : Zeros xs from i) where
-  -- behind the end nothing is other than 0
-  pub zero-end : length xs ≤ i → allZero (drop from xs) ≡ true
+module _ {xs : List ℕ} {from bits i : ℕ} (z : Zeros xs from bits i) where
+  -- behind the end the bits say it
+  pub zero-end : length xs ≤ i → allZero (drop from xs) ≡ eqb bits 0
   unfolding allZero
-  zero-end h = z .rest ∙ rw (drop-of-length-le xs h)
+  zero-end h = z .rest ∙ rw (drop-of-length-le xs h, and-true)
 
-  -- a number other than 0 says no
-  pub zero-bad : i < length xs → getD xs i 0 ≢ 0 → allZero (drop from xs) ≡ false
+  -- a number gives its bits
+  pub zero-on : i < length xs → Zeros xs from (bitOr bits (getD xs i 0)) (i + 1)
   unfolding allZero
-  zero-bad h f = z .rest ∙ rw (drop-cons xs i 0 h, ne-eqb (getD xs i 0) 0 f)
-
-  -- a 0 leaves it to the numbers behind
-  pub zero-on : i < length xs → getD xs i 0 ≡ 0 → Zeros xs from (i + 1)
-  unfolding allZero
-  zero-on h e = record { rest = z .rest ∙ rw (add-one, drop-cons xs i 0 h, eq-eqb (getD xs i 0) 0 e) }
+  zero-on h =
+      record { rest = z .rest ∙ rw (add-one, drop-cons xs i 0 h, bits-none bits (getD xs i 0)) (sym (and-assoc (eqb bits 0) (eqb (getD xs i 0) 0) _)) }
 
 -- ---- Whether a map is lawful
 

@@ -47,18 +47,17 @@ pub fn is_lawful(map: &[u32]) -> bool
     true
 }
 
-// Only 0 from a place on.
+// Only 0 from a place on: all bits together.
 fn is_zero(map: &[u32], from: usize) -> bool
     ensures { λ r. ⌜ r ≡ allZero (drop from (now (map .entry))) ⌝ }
 {
+    let mut bits = 0;
     let mut i = from;
     while i < map.len() {
-        if map[i] != 0 {
-            return false;
-        }
+        bits |= map[i];
         i += 1;
     }
-    true
+    bits == 0
 }
 
 // A run may follow one that ends at `end` with a cell.

@@ -4,27 +4,24 @@ use Prim.Native.Nat.{_-_}
 use mathlib.Core.Path.{sym}
 use denote.Ref.{now}
 use lib.ListN.{length}
-use Rattle.maps.proofs.Scanning.{Zeros, zero-start, zero-end, zero-bad, zero-on}
+use Rattle.maps.proofs.Scanning.{Zeros, zero-start, zero-end, zero-on}
 use Rattle.maps.proofs.scan.is_zero.Statement.{statement}
 use Rattle.maps.proofs.scan.is_zero.Tie as tie
 
 abbrev Inv-loop : tie.InvT-loop
-Inv-loop map from i₀ i = Zeros map from i
+Inv-loop map from bits₀ i₀ bits i = Zeros map from bits i
 
 abbrev μ-loop : tie.MeasureT-loop
-μ-loop map from i₀ i = length map - i
+μ-loop map from bits₀ i₀ bits i = length map - i
 
 loop-holds : tie.Need-loop-holds Inv-loop μ-loop
 loop-holds c = zero-start (now (c .args .map)) (c .args .from)
 
-mul-if1 : tie.Need-mul-if1 Inv-loop μ-loop
-mul-if1 c = search needs
+mul-bits : tie.Need-mul-bits Inv-loop μ-loop
+mul-bits c = search needs
 
-shared-slice-read-if1 : tie.Need-shared-slice-read-if1 Inv-loop μ-loop
-shared-slice-read-if1 c = search needs
-
-returns : tie.Need-returns Inv-loop μ-loop
-returns c = sym (zero-bad (c .before .before .before .loop .inv) (c .before .before .loop-test .taken) (c .if1 .taken))
+shared-slice-read-bits : tie.Need-shared-slice-read-bits Inv-loop μ-loop
+shared-slice-read-bits c = search needs
 
 add-i : tie.Need-add-i Inv-loop μ-loop
 add-i c = search needs
@@ -33,10 +30,10 @@ loop-less : tie.Need-loop-less Inv-loop μ-loop
 loop-less c = search needs
 
 loop-again : tie.Need-loop-again Inv-loop μ-loop
-loop-again c = zero-on (c .before .before .before .loop .inv) (c .before .before .loop-test .taken) (c .if1 .left)
+loop-again c = zero-on (c .before .before .loop .inv) (c .before .loop-test .taken)
 
-returns-2 : tie.Need-returns-2 Inv-loop μ-loop
-returns-2 c = sym (zero-end (c .before .loop .inv) (c .loop-test .left))
+returns : tie.Need-returns Inv-loop μ-loop
+returns c = sym (zero-end (c .before .loop .inv) (c .loop-test .left))
 
 pub is-zero-spec : {M : Type 1} → statement M
 is-zero-spec =
@@ -45,10 +42,9 @@ is-zero-spec =
     Inv-loop
     μ-loop
     loop-holds
-    mul-if1
-    shared-slice-read-if1
-    returns
+    mul-bits
+    shared-slice-read-bits
     add-i
     loop-less
     loop-again
-    returns-2)
+    returns)
