@@ -2,12 +2,11 @@
 use Prim.Native.Nat.{ℕ, zero, suc, _+_, _*_, _≤_, _<_}
 use native.Mathlib.Omega.{arith}
 use mathlib.Core.Path.{_≡_, refl, sym, ap, _∙_}
-use mathlib.Core.Logic.{inl, inr, _≢_}
-use mathlib.Core.Bool.{true, false, cond}
+use mathlib.Core.Logic.{inl, inr}
+use mathlib.Core.Bool.{true, cond}
 use mathlib.Core.List.{List, [], _∷_}
 use lib.ListN.{length, take, drop, getD}
 use lib.Seq.{length-take-le, split-at}
-use borrow.Author.Tests.{eq-eqb, ne-eqb}
 use Rattle.models.specs.Limits.{ROWS, OFFSET-MAX}
 use Rattle.runs.specs.Cells.{numberIn, markIn, unpublished, cleared}
 use Rattle.runs.specs.Runs.{Run, runOf, Rising, Numbered}
@@ -74,20 +73,10 @@ module _ {xs : List ℕ} {i : ℕ} {r : Run} (t : There xs i r) (lo hi : ℕ) {f
   from-there = f ∙ ap (within lo hi) (t .start)
 
   -- an unpublished run makes its part of the range
-  pub stroke-one : {to : ℕ} → to ≡ within lo hi (getD xs (i * 4) 0 + getD xs (i * 4 + 1) 0) → getD xs (i * 4 + 3) 0 ≡ 1 →
+  pub stroke-one : {to : ℕ} → to ≡ within lo hi (getD xs (i * 4) 0 + getD xs (i * 4 + 1) 0) → unpublished (r .cell) ≡ true →
       strokeOf from to (getD xs (i * 4 + 2) 0 * 2) ≡ stroke lo hi r
   unfolding stroke
-  stroke-one {to} g m =
-      let u : unpublished (r .cell) ≡ true = eq-eqb (markIn (r .cell)) 1 (sym (t .mark) ∙ m) in
+  stroke-one {to} g u =
       let q : to ≡ within lo hi (cond (unpublished (r .cell)) (r .start + r .length) (r .start)) =
       g ∙ (λ j. within lo hi (t .start j + t .length j)) ∙ (λ j. within lo hi (cond (sym u j) (r .start + r .length) (r .start))) in
-      λ j. strokeOf (from-there j) (q j) (cell-there j)
-
-  -- a published one makes none
-  pub stroke-none : getD xs (i * 4 + 3) 0 ≢ 1 → strokeOf from from (getD xs (i * 4 + 2) 0 * 2) ≡ stroke lo hi r
-  unfolding stroke
-  stroke-none m =
-      let u : unpublished (r .cell) ≡ false = ne-eqb (markIn (r .cell)) 1 (λ e. m (t .mark ∙ e)) in
-      let q : from ≡ within lo hi (cond (unpublished (r .cell)) (r .start + r .length) (r .start)) =
-      from-there ∙ (λ j. within lo hi (cond (sym u j) (r .start + r .length) (r .start))) in
       λ j. strokeOf (from-there j) (q j) (cell-there j)

@@ -101,27 +101,19 @@ fn is_own(map: &[u32], i: usize) -> bool
     map[i * 4 + 3] == 1
 }
 
-// What is to be written of run i between two bytes: nothing where it is published.
+// What is to be written of run i, an unpublished one, between two bytes.
 fn stroke_at(map: &[u32], i: usize, lo: u32, hi: u32) -> Stroke
-    requires { ⌜ (lawful (now map) ≡ true) × (i < length (runs (now map))) × (i * 4 + 4 ≤ length (now map)) ⌝ }
+    requires { ⌜ (lawful (now map) ≡ true) × (i < length (runs (now map))) × (i * 4 + 4 ≤ length (now map))
+        × (unpublished (getD (runs (now map)) i (runOf 0 0 0) .cell) ≡ true) ⌝ }
     ensures { λ r. ⌜ r ≡ stroke lo hi (getD (runs (now (map .entry))) i (runOf 0 0 0)) ⌝ }
 {
     let at = i * 4;
     let start = map[at];
-    let cell = map[at + 2] * 2;
-    let from = bring(lo, hi, start);
-    if map[at + 3] == 1 {
-        let to = bring(lo, hi, start + map[at + 1]);
-        return Stroke {
-            from: from,
-            to: to,
-            cell: cell,
-        };
-    }
+    let end = start + map[at + 1];
     Stroke {
-        from: from,
-        to: from,
-        cell: cell,
+        from: bring(lo, hi, start),
+        to: bring(lo, hi, end),
+        cell: map[at + 2] * 2,
     }
 }
 

@@ -2,7 +2,7 @@
 use borrow.Author.Needs.{needs}
 use Prim.Native.Nat.{ℕ, _-_, _≤_}
 use native.Mathlib.Omega.{arith}
-use mathlib.Core.Path.{_≡_, refl, ap, _∙_}
+use mathlib.Core.Path.{_≡_, refl, sym, ap, _∙_}
 use mathlib.Core.List.{List}
 use lib.ListN.{length}
 use denote.Ref.{now}
@@ -111,7 +111,8 @@ stroke-at-requires c κs =
     let c2 = c1 .before in
     let c3 = c2 .before .before .before .before .before .before in
     let l = c2 .loop in
-    lent-run (c3 .pre .0) (l .inv .2) (l .i - 1) (omega (arith, l .inv .0, c1 .loop-test .taken))
+    let r = lent-run (c3 .pre .0) (l .inv .2) (l .i - 1) (omega (arith, l .inv .0, c1 .loop-test .taken)) in
+    (r .0, r .1, r .2, sym (c .before .before .before .is-own .ensures) ∙ c .before .before .if2 .taken)
 
 add-fill : tie.Need-add-fill Inv-loop μ-loop
 add-fill c = search needs
