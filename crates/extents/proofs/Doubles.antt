@@ -1,5 +1,5 @@
 -- What the entries for a view and the published map answer and leave, from what they test. Assumes nothing.
-use Prim.Native.Nat.{ℕ, suc, _+_, _*_, _-_, _≤_, _<_}
+use Prim.Native.Nat.{ℕ, _+_, _*_, _-_, _≤_, _<_}
 use native.Mathlib.Omega.{arith}
 use native.Mathlib.Decide.{decLt}
 use mathlib.Core.Path.{_≡_, refl, sym, ap, _∙_}
@@ -21,7 +21,7 @@ use Rattle.runs.proofs.Passes.{over-before, over-behind}
 use Rattle.runs.proofs.Sides.{with-length, at-same, at-other, with-same, with-comm, with-over}
 use Rattle.extents.specs.declared.Answer.{Answer}
 use Rattle.extents.specs.declared.Answer.the-variants.{Done, Listed, Refused}
-use Rattle.maps.specs.Mixes.{PUBLISH, SETTLE, REFRESH, READ-FRESH, mixed, mix}
+use Rattle.maps.specs.Mixes.{PUBLISH, SETTLE, REFRESH, mixed, mix}
 use Rattle.extents.specs.Entries.{twoMaps, orRefused, orKept, viewOf, belowOf, bothMaps, publishRefusal, publishedMaps, refreshRefusal, refreshedMaps}
 use Rattle.maps.specs.Pieces.{listedIn}
 use Rattle.extents.specs.Entries.{syncRefusal, syncedMaps, readRefusal, postRefusal, postedMaps, countOf}
@@ -321,12 +321,6 @@ module _ (space view below : ℕ) (xs : List ℕ) where
         (cond (leb (length (runsOf (refreshed own base))) space && leb (length (runsOf base)) space) (cond (leb (3 * length listed) room) 0 17) 16) 11) 13
     unfolding readRefusal firstNo
     read-asks s l = rw (le-leb start OFFSET-MAX s, le-leb n OFFSET-MAX l)
-
-    pub read-count : {r : ℕ} → r ≡ length (runsFrom (start + n - start) start (mix READ-FRESH 0 (0 - 0) 0 own base)) → r ≡ length listed
-    unfolding mixed piecesOf
-    read-count e =
-        let q : start + n - start ≡ n = omega arith in
-        e ∙ ap (λ (k : ℕ). length (runsFrom k start (λ b. suc (numberIn (refreshed own base b))))) q
 
     module _ (s : start ≤ OFFSET-MAX) (l : n ≤ OFFSET-MAX) where
       pub read-unlawful : twoMaps space view below xs ≡ false → readRefusal space view below xs start n room ≡ 13

@@ -12,7 +12,7 @@ use borrow.Author.Tests.{le-leb, lt-leb, ne-eqb}
 use Rattle.models.specs.Limits.{ROWS, OFFSET-MAX}
 use Rattle.trace.specs.Questions.{firstNo}
 use Rattle.runs.specs.Cells.{Bytes, cellOf, numberIn, overwrite}
-use Rattle.runs.specs.Runs.{Run, runsFrom, runsOf, piecesOf}
+use Rattle.runs.specs.Runs.{Run, runsOf, piecesOf}
 use Rattle.runs.specs.Maps.{mapOf, mapFor, spaceIn, bytesOf, runs, lawful}
 use Rattle.runs.proofs.Longest.{runs-same, runs-back}
 use Rattle.runs.proofs.Trips.{lawful-map}
@@ -21,7 +21,6 @@ use Rattle.runs.proofs.Passes.{over-before, over-behind}
 use Rattle.maps.proofs.Counting.{starts-most}
 use Rattle.extents.specs.declared.Answer.{Answer}
 use Rattle.extents.specs.declared.Answer.the-variants.{Done, Listed, Refused}
-use Rattle.maps.specs.Mixes.{READ-MAP, mixed, mix}
 use Rattle.maps.specs.Pieces.{listedIn}
 use Rattle.extents.specs.Entries.{orRefused, orKept, countOf, markOf, writeRefusal, writtenMap, listRefusal}
 
@@ -146,14 +145,6 @@ module _ (xs : List ℕ) (start n room : ℕ) where
         pub list-fits : 3 * length pieces ≤ room → listRefusal xs start n room ≡ 0
         list-fits h = list-asks s l ∙ rw (law, le-leb (start + n) OFFSET-MAX end, le-leb (3 * length pieces) room h)
 
--- the walk counts the pieces
-pub counted-pieces : (xs ys : List ℕ) (start n : ℕ) {r : ℕ} →
-    r ≡ length (runsFrom (start + n - start) start (mix READ-MAP 0 0 0 (bytesOf xs) (bytesOf ys))) → r ≡ length (piecesOf (bytesOf xs) start n)
-unfolding mixed piecesOf
-counted-pieces xs ys start n e =
-    let q : start + n - start ≡ n = omega arith in
-    e ∙ ap (λ (k : ℕ). length (runsFrom k start (λ b. suc (numberIn (bytesOf xs b))))) q
-
 -- there are no more pieces than bytes
 pub pieces-most : (f : Bytes) (start n : ℕ) → length (piecesOf f start n) ≤ n
 unfolding piecesOf
@@ -165,8 +156,8 @@ pub pieces-there : (f : Bytes) (start n : ℕ) → piecesOf f start (start + n -
 pieces-there f start n = let q : start + n - start ≡ n = omega arith in ap (piecesOf f start) q
 
 -- the pieces and their count
-pub accepted-list : (xs : List ℕ) (start n : ℕ) (out : List ℕ) {k r : ℕ} {zs : List ℕ} → r ≡ 0 → k ≡ length (piecesOf (bytesOf xs) start n) →
-    zs ≡ listedIn (piecesOf (bytesOf xs) start (start + n - start)) out →
+pub accepted-list : (xs : List ℕ) (start n : ℕ) (out : List ℕ) {k r : ℕ} {zs : List ℕ} → r ≡ 0 →
+    k ≡ length (piecesOf (bytesOf xs) start (start + n - start)) → zs ≡ listedIn (piecesOf (bytesOf xs) start (start + n - start)) out →
     (Listed k ≡ orRefused r (countOf (piecesOf (bytesOf xs) start n))) × (zs ≡ orKept r (listedIn (piecesOf (bytesOf xs) start n) out) out)
 accepted-list xs start n out e q z =
-    rw e (ap Listed q, z ∙ ap (λ (l : List Run). listedIn l out) (pieces-there (bytesOf xs) start n))
+    let p = pieces-there (bytesOf xs) start n in rw e (ap Listed (q ∙ ap (λ (l : List Run). length l) p), z ∙ ap (λ (l : List Run). listedIn l out) p)

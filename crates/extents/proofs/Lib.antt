@@ -15,4 +15,5 @@ pub mod Filling
 pub mod Viewing
 pub mod Pairing
 pub mod Bounds
+pub mod Rooms
 pub mod Doubles

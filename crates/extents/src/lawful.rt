@@ -1,9 +1,10 @@
 // The entries without question 13, for a caller that knows its maps to be lawful.
 use crate::Answer;
-ghost use Prim.Native.Nat.{_+_, _*_, _≤_};
+ghost use Prim.Native.Nat.{_+_, _*_, _-_, _≤_};
 ghost use mathlib.Core.Path.{_≡_};
 ghost use mathlib.Core.Bool.{true};
 ghost use lib.ListN.{length};
+ghost use lib.Dec.{ltb};
 ghost use Rattle.runs.specs.Cells.{cellOf, refreshed};
 ghost use Rattle.runs.specs.Runs.{piecesOf};
 ghost use Rattle.runs.specs.Maps.{bytesOf, lawful};
@@ -60,12 +61,23 @@ pub fn list_range(map: &[u32], start: u32, length: u32, out: &mut [u32]) -> Answ
     if 4294967295 - start < length {
         return Answer::Refused(11);
     }
-    let n = maps::scan::count(map, map, 3, start, start + length, 0, 0, 0);
-    if out.len() / 3 < n {
+    if lacks(map, start, start + length, out.len() / 3) {
         return Answer::Refused(17);
     }
-    maps::list::list(map, start, start + length, out);
+    let n = maps::list::list(map, start, start + length, out);
     Answer::Listed(n as u32)
+}
+
+// Has a range of a map more pieces than there is room for? A range has at most two for each run of the map, and one more: they are counted only
+// where the room may lack.
+fn lacks(map: &[u32], from: u32, to: u32, room: usize) -> bool
+    requires { ⌜ (lawful (now map) ≡ true) × (from ≤ to) ⌝ }
+    ensures { λ r. ⌜ r ≡ ltb room (length (piecesOf (bytesOf (now (map .entry))) from (to - from))) ⌝ }
+{
+    if maps::splice::runs_in(map) < room / 2 {
+        return false;
+    }
+    room < maps::scan::count(map, map, 3, from, to, 0, 0, 0)
 }
 
 // Publishes a view.
@@ -185,11 +197,10 @@ pub fn read(
     if !crate::pair::fits(maps, space, view, below, own, 2, 0, 0, 0) {
         return Answer::Refused(16);
     }
-    let n = crate::pair::count(maps, space, view, below, 4, start, end, 0, 0, 0);
-    if out.len() / 3 < n {
+    if crate::pair::lacks(maps, space, view, below, own, start, end, out.len() / 3) {
         return Answer::Refused(17);
     }
     crate::merge::refresh(maps, space, view, below, own);
-    crate::pair::list(maps, space, view, start, end, out);
+    let n = crate::pair::list(maps, space, view, start, end, out);
     Answer::Listed(n as u32)
 }

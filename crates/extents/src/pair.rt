@@ -4,8 +4,8 @@ ghost use mathlib.Core.Path.{_≡_};
 ghost use mathlib.Core.Bool.{true};
 ghost use mathlib.Core.Logic.{_⊎_};
 ghost use lib.ListN.{length};
-ghost use lib.Dec.{leb};
-ghost use Rattle.runs.specs.Cells.{numberIn, overwrite, settled};
+ghost use lib.Dec.{leb, ltb};
+ghost use Rattle.runs.specs.Cells.{numberIn, overwrite, settled, refreshed};
 ghost use Rattle.runs.specs.Runs.{runsFrom, runsOf, piecesOf};
 ghost use Rattle.runs.specs.Maps.{mapFor, runs, bytesOf, lawful, mapAt, withMap};
 ghost use Rattle.maps.specs.Mixes.{mix};
@@ -140,6 +140,29 @@ fn most_runs(maps: &[u32], space: usize, view: usize, below: usize, own: usize, 
     }
     let w = below * size;
     maps::splice::runs_in(&maps[w..w + size]) + 2 * own + 2
+}
+
+// Has a range of a view, of whose runs `own` are unpublished, more pieces after a refresh than there is room for? A range has at most two for each
+// run, and one more: they are counted only where the room may lack.
+pub fn lacks(
+    maps: &[u32],
+    space: usize,
+    view: usize,
+    below: usize,
+    own: usize,
+    from: u32,
+    to: u32,
+    room: usize,
+) -> bool
+    requires { ⌜ twoMaps space view below (now maps) ≡ true ⌝ }
+    requires { ⌜ (from ≤ to) × (own ≡ length (marked (runs (mapAt space view (now maps))))) ⌝ }
+    ensures { λ r. ⌜ r ≡ ltb room (length (piecesOf (refreshed
+        (viewOf space view below (now (maps .entry))) (belowOf space view below (now (maps .entry)))) from (to - from))) ⌝ }
+{
+    if most_runs(maps, space, view, below, own, 2) < room / 2 {
+        return false;
+    }
+    room < count(maps, space, view, below, 4, from, to, 0, 0, 0)
 }
 
 // How many runs of a map are unpublished.

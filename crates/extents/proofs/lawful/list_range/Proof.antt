@@ -1,6 +1,7 @@
 -- `extents::lawful::list_range` meets its contract. Assumes nothing.
 use borrow.Author.Needs.{needs}
-use Rattle.extents.proofs.Entering.{refused, list-past, list-full, list-fits, counted-pieces, pieces-most, pieces-there, accepted-list}
+use Rattle.extents.proofs.Entering.{refused, list-past, list-full, list-fits, pieces-most, pieces-there, accepted-list}
+use Rattle.extents.proofs.Rooms.{slice-short, slice-enough}
 use Rattle.maps.specs.Pieces.{listedIn}
 use Rattle.extents.specs.Entries.{countOf}
 use Rattle.runs.specs.Maps.{bytesOf}
@@ -10,6 +11,7 @@ use lib.ListN.{length}
 use mathlib.Core.List.{List}
 use mathlib.Core.Path.{ap}
 use native.Mathlib.Omega.{arith}
+use Prim.Native.Nat.{_+_, _-_}
 use Rattle.extents.proofs.lawful.list_range.Statement.{statement}
 use Rattle.extents.proofs.lawful.list_range.Tie as tie
 
@@ -24,67 +26,46 @@ returns c =
     (a .length)) (now (a .out))) (now (a .out)) (list-past (now (a .map)) (a .start) (a .length) (length (now (a .out))) (omega arith) (omega arith)
     (p3 .pre) (omega (arith, c .if1 .taken))) (omega arith)
 
-add-count : tie.Need-add-count
-add-count c = omega (arith, c .if1 .left)
+add-lacks : tie.Need-add-lacks
+add-lacks c = omega (arith, c .if1 .left)
 
-count-requires : tie.Need-count-requires
-count-requires c κs =
+lacks-requires : tie.Need-lacks-requires
+lacks-requires c κs =
     let p3 = c .before .before .before in
-    let a = p3 .args in (
-      (
-        p3 .pre,
-        p3 .pre,
-      ),
-      (omega arith, omega arith),
-    )
+    (p3 .pre, omega arith)
 
 returns-2 : tie.Need-returns-2
 returns-2 c =
-    let p1 = c .before in
-    let p2 = p1 .before in
-    let p5 = p2 .before .before .before in
+    let p5 = c .before .before .before .before .before in
     let a = p5 .args in
-    refused 17 (countOf (piecesOf (bytesOf (now (a .map))) (a .start) (a .length))) (listedIn (piecesOf (bytesOf (now (a .map))) (a .start)
-    (a .length)) (now (a .out))) (now (a .out)) (list-full (now (a .map)) (a .start) (a .length) (length (now (a .out))) (omega arith) (omega arith)
-    (p5 .pre) (omega (arith, p2 .if1 .left)) (omega (
-      arith,
-      c .if2 .taken,
-      (counted-pieces (now (a .map)) (now (a .map)) (a .start) (a .length) (p1 .count .ensures)),
-    ))) (omega arith)
+    let f = bytesOf (now (a .map)) in
+    let short = slice-short f (a .start) (a .length) (length (now (a .out))) (c .before .lacks .ensures) (c .if2 .taken) in
+    refused 17 (countOf (piecesOf f (a .start) (a .length))) (listedIn (piecesOf f (a .start) (a .length)) (now (a .out))) (now (a .out))
+    (list-full (now (a .map)) (a .start) (a .length) (length (now (a .out))) (omega arith) (omega arith) (p5 .pre)
+    (omega (arith, c .before .before .if1 .left)) short) (omega arith)
 
 add-list : tie.Need-add-list
-add-list c =
-    let p2 = c .before .before in
-    omega (arith, p2 .if1 .left)
+add-list c = omega (arith, c .before .before .if1 .left)
 
 list-requires : tie.Need-list-requires
 list-requires c κs =
-    let p1 = c .before in
-    let p2 = p1 .before in
-    let p6 = p2 .before .before .before .before in
-    let a = p6 .args in (
+    let p6 = c .before .before .before .before .before .before in
+    let a = p6 .args in
+    let f = bytesOf (now (a .map)) in (
       (p6 .pre, omega arith),
       omega (
         arith,
-        ap (λ (l : List Run). length l)
-            (pieces-there (bytesOf (now (a .map))) (a .start) (a .length)),
-        p1 .if2 .left,
-        (counted-pieces (now (a .map)) (now (a .map)) (a .start)
-            (a .length) (p2 .count .ensures)),
+        ap (λ (l : List Run). length l) (pieces-there f (a .start) (a .length)),
+        slice-enough f (a .start) (a .length) (length (now (a .out))) (c .before .before .lacks .ensures) (c .before .if2 .left),
       ),
     )
 
 cast-t6 : tie.Need-cast-t6
 cast-t6 c =
-    let p5 = c .before .before .before .before .before in
-    let p9 = p5 .before .before .before .before in
+    let p9 = c .before .before .before .before .before .before .before .before .before in
     let a = p9 .args in
-    omega (
-      arith,
-      (counted-pieces (now (a .map)) (now (a .map)) (a .start) (a .length) (p5 .count .ensures)),
-      pieces-most (bytesOf (now (a .map)))
-          (a .start) (a .length),
-    )
+    let n = a .start + a .length - a .start in
+    omega (arith, c .before .before .list .ensures .0, pieces-most (bytesOf (now (a .map))) (a .start) n, p9 .fits .length)
 
 same-length : tie.Need-same-length
 same-length c = search needs
@@ -97,10 +78,9 @@ returns-3 c =
     let p6 = p5 .before in
     let p9 = p6 .before .before .before in
     let a = p9 .args in
+    let enough = slice-enough (bytesOf (now (a .map))) (a .start) (a .length) (length (now (a .out))) (p5 .lacks .ensures) (p4 .if2 .left) in
     accepted-list (now (a .map)) (a .start) (a .length) (now (a .out)) (list-fits (now (a .map)) (a .start) (a .length) (length (now (a .out)))
-    (omega arith) (omega arith) (p9 .pre) (omega (arith, p6 .if1 .left))
-    (omega (arith, p4 .if2 .left, (counted-pieces (now (a .map)) (now (a .map)) (a .start) (a .length) (p5 .count .ensures))))) (counted-pieces (now
-    (a .map)) (now (a .map)) (a .start) (a .length) (p5 .count .ensures)) (p2 .list .ensures .1)
+    (omega arith) (omega arith) (p9 .pre) (omega (arith, p6 .if1 .left)) enough) (p2 .list .ensures .0) (p2 .list .ensures .1)
 
 pub list-range-spec : {M : Type 1} → statement M
 list-range-spec =
@@ -108,8 +88,8 @@ list-range-spec =
     (tie.spec
     sub-if1
     returns
-    add-count
-    count-requires
+    add-lacks
+    lacks-requires
     returns-2
     add-list
     list-requires

@@ -1,8 +1,9 @@
 -- `extents::lawful::read` meets its contract. Assumes nothing.
 use borrow.Author.Needs.{needs}
 use Rattle.extents.proofs.Doubles.{view-in-fresh, view-law-fresh, pieces-fresh}
-use Rattle.extents.proofs.Doubles.{refused-both, refresh-enough, refresh-short, read-past, read-full, read-long, read-count, read-done}
+use Rattle.extents.proofs.Doubles.{refused-both, refresh-enough, refresh-short, read-past, read-full, read-long, read-done}
 use Rattle.extents.proofs.Entering.{pieces-most}
+use Rattle.extents.proofs.Rooms.{slice-short, slice-enough}
 use Rattle.maps.specs.Pieces.{listedIn}
 use Rattle.extents.specs.Entries.{viewOf, belowOf, refreshedMaps, countOf}
 use Rattle.runs.specs.Runs.{Run, piecesOf}
@@ -64,10 +65,11 @@ returns-2 c =
       p5 .if1 .left,
     )) (refresh-short (a .space) (a .view) (a .below) (now (a .maps)) (c .before .fits2 .ensures) (c .if2 .taken))) (omega arith)
 
-count-requires : tie.Need-count-requires
-count-requires c κs =
-    let p9 = c .before .before .before .before .before .before .before .before .before in
-    (p9 .pre, (omega arith, omega arith))
+lacks-requires : tie.Need-lacks-requires
+lacks-requires c κs =
+    let p4 = c .before .before .before .before in
+    let p9 = p4 .before .before .before .before .before in
+    (p9 .pre, (omega arith, p4 .own-runs .ensures))
 
 same-length-2 : tie.Need-same-length-2
 same-length-2 c = search needs
@@ -79,19 +81,12 @@ returns-3 c =
     let p8 = p4 .before .before .before .before in
     let p11 = p8 .before .before .before in
     let a = p11 .args in
-    refused-both 17 (countOf (piecesOf (refreshed (viewOf (a .space) (a .view) (a .below) (now (a .maps))) (belowOf (a .space) (a .view) (a .below)
-    (now (a .maps)))) (a .start) (a .length))) (refreshedMaps (a .space) (a .view) (a .below) (now (a .maps))) (now (a .maps)) (listedIn (piecesOf
-    (refreshed (viewOf (a .space) (a .view) (a .below) (now (a .maps))) (belowOf (a .space) (a .view) (a .below) (now (a .maps)))) (a .start)
-    (a .length)) (now (a .out))) (now (a .out)) (read-long (a .space) (a .view) (a .below) (now (a .maps)) (a .start) (a .length) (length (now
-    (a .out))) (omega arith) (omega arith) (p11 .pre) (omega (
-      arith,
-      p8 .if1 .left,
-    )) (refresh-enough (a .space) (a .view) (a .below) (now (a .maps)) (p4 .fits2 .ensures) (p3 .if2 .left)) (omega (
-      arith,
-      c .if3 .taken,
-      read-count (a .space) (a .view) (a .below) (now (a .maps)) (a .start) (a .length) (length (now (a .out))) (c .before .count .ensures),
-    )))
-    (omega arith)
+    let f = refreshed (viewOf (a .space) (a .view) (a .below) (now (a .maps))) (belowOf (a .space) (a .view) (a .below) (now (a .maps))) in
+    let fit = refresh-enough (a .space) (a .view) (a .below) (now (a .maps)) (p4 .fits2 .ensures) (p3 .if2 .left) in
+    let short = slice-short f (a .start) (a .length) (length (now (a .out))) (c .before .lacks .ensures) (c .if3 .taken) in
+    refused-both 17 (countOf (piecesOf f (a .start) (a .length))) (refreshedMaps (a .space) (a .view) (a .below) (now (a .maps))) (now (a .maps))
+    (listedIn (piecesOf f (a .start) (a .length)) (now (a .out))) (now (a .out)) (read-long (a .space) (a .view) (a .below) (now (a .maps))
+    (a .start) (a .length) (length (now (a .out))) (omega arith) (omega arith) (p11 .pre) (omega (arith, p8 .if1 .left)) fit short) (omega arith)
 
 refresh-requires : tie.Need-refresh-requires
 refresh-requires c κs =
@@ -113,40 +108,33 @@ list-requires c κs =
     let p10 = p9 .before in
     let p14 = p10 .before .before .before .before in
     let p17 = p14 .before .before .before in
-    let a = p17 .args in (
-      view-in-fresh (a .space) (a .view) (a .below) (now (a .maps)) (p17 .pre) (refresh-enough (a .space) (a .view)
-          (a .below) (now (a .maps)) (p10 .fits2 .ensures) (p9 .if2 .left))
-          (p4 .refresh .ensures),
+    let a = p17 .args in
+    let f = refreshed (viewOf (a .space) (a .view) (a .below) (now (a .maps))) (belowOf (a .space) (a .view) (a .below) (now (a .maps))) in
+    let fit = refresh-enough (a .space) (a .view) (a .below) (now (a .maps)) (p10 .fits2 .ensures) (p9 .if2 .left) in
+    let enough = slice-enough f (a .start) (a .length) (length (now (a .out))) (p7 .lacks .ensures) (p6 .if3 .left) in
+    let fresh = pieces-fresh (a .space) (a .view) (a .below) (now (a .maps)) (p17 .pre) fit (p4 .refresh .ensures) (a .start) (a .length)
+    (omega (arith, p14 .if1 .left, p17 .fits .start)) in (
+      view-in-fresh (a .space) (a .view) (a .below) (now (a .maps)) (p17 .pre) fit (p4 .refresh .ensures),
       (
-        (
-          view-law-fresh (a .space) (a .view) (a .below) (now (a .maps)) (p17 .pre) (refresh-enough (a .space) (a .view) (a .below) (now (a .maps))
-              (p10 .fits2 .ensures) (p9 .if2 .left)) (p4 .refresh .ensures),
-          omega arith,
-        ),
-        omega (
-          arith,
-          ap (λ (l : List Run). length l) (pieces-fresh (a .space) (a .view)
-              (a .below) (now (a .maps)) (p17 .pre) (refresh-enough (a .space) (a .view) (a .below) (now (a .maps)) (p10 .fits2 .ensures)
-              (p9 .if2 .left)) (p4 .refresh .ensures) (a .start) (a .length) (omega
-              (arith, p14 .if1 .left))),
-          p6 .if3 .left,
-          read-count (a .space) (a .view) (a .below) (now (a .maps)) (a .start) (a .length) (length (now
-              (a .out))) (p7 .count .ensures),
-        ),
+        (view-law-fresh (a .space) (a .view) (a .below) (now (a .maps)) (p17 .pre) fit (p4 .refresh .ensures), omega arith),
+        omega (arith, ap (λ (l : List Run). length l) fresh, enough),
       ),
     )
 
 cast-t11 : tie.Need-cast-t11
 cast-t11 c =
-    let p10 = c .before .before .before .before .before .before .before .before .before .before in
-    let p20 = p10 .before .before .before .before .before .before .before .before .before .before in
+    let p7 = c .before .before .before .before .before .before .before in
+    let p12 = p7 .before .before .before .before .before in
+    let p13 = p12 .before in
+    let p17 = p13 .before .before .before .before in
+    let p20 = p17 .before .before .before in
     let a = p20 .args in
-    omega (
-      arith,
-      read-count (a .space) (a .view) (a .below) (now (a .maps)) (a .start) (a .length) (length (now (a .out))) (p10 .count .ensures),
-      pieces-most (refreshed (viewOf (a .space) (a .view) (a .below) (now (a .maps))) (belowOf (a .space) (a .view) (a .below) (now (a .maps))))
-          (a .start) (a .length),
-    )
+    let f = refreshed (viewOf (a .space) (a .view) (a .below) (now (a .maps))) (belowOf (a .space) (a .view) (a .below) (now (a .maps))) in
+    let fit = refresh-enough (a .space) (a .view) (a .below) (now (a .maps)) (p13 .fits2 .ensures) (p12 .if2 .left) in
+    let fresh = pieces-fresh (a .space) (a .view) (a .below) (now (a .maps)) (p20 .pre) fit (p7 .refresh .ensures) (a .start) (a .length)
+    (omega (arith, p17 .if1 .left, p20 .fits .start)) in
+    let count = c .before .before .list .ensures .0 ∙ ap (λ (l : List Run). length l) fresh in
+    omega (arith, count, pieces-most f (a .start) (a .length), p20 .fits .length)
 
 same-length-3 : tie.Need-same-length-3
 same-length-3 c = search needs
@@ -156,7 +144,8 @@ same-length-4 c = search needs
 
 returns-4 : tie.Need-returns-4
 returns-4 c =
-    let p7 = c .before .before .before .before .before .before .before in
+    let p2 = c .before .before in
+    let p7 = p2 .before .before .before .before .before in
     let p9 = p7 .before .before in
     let p10 = p9 .before in
     let p12 = p10 .before .before in
@@ -164,22 +153,15 @@ returns-4 c =
     let p17 = p13 .before .before .before .before in
     let p20 = p17 .before .before .before in
     let a = p20 .args in
-    read-done (a .space) (a .view) (a .below) (now (a .maps)) (a .start) (a .length) (length (now (a .out))) (omega (arith, p20 .fits .start)) (omega
-    (arith, p20 .fits .length)) (p20 .pre) (omega (
-      arith,
-      p17 .if1 .left,
-      p20 .fits .start,
-    )) (refresh-enough (a .space) (a .view) (a .below) (now (a .maps)) (p13 .fits2 .ensures) (p12 .if2 .left)) (now
-    (a .out)) (omega (
-      arith,
-      p9 .if3 .left,
-      read-count (a .space) (a .view) (a .below) (now (a .maps)) (a .start) (a .length) (length (now (a .out)))
-          (p10 .count .ensures),
-    )) (read-count (a .space) (a .view) (a .below) (now (a .maps)) (a .start) (a .length) (length (now (a .out)))
-    (p10 .count .ensures)) (p7 .refresh .ensures) (c .before .before .list .ensures .1 ∙ ap (λ (l : List Run). listedIn l (now (a .out))) (pieces-fresh (a .space)
-    (a .view) (a .below) (now (a .maps)) (p20 .pre)
-    (refresh-enough (a .space) (a .view) (a .below) (now (a .maps)) (p13 .fits2 .ensures) (p12 .if2 .left)) (p7 .refresh .ensures) (a .start)
-    (a .length) (omega (arith, p17 .if1 .left, p20 .fits .start))))
+    let f = refreshed (viewOf (a .space) (a .view) (a .below) (now (a .maps))) (belowOf (a .space) (a .view) (a .below) (now (a .maps))) in
+    let fit = refresh-enough (a .space) (a .view) (a .below) (now (a .maps)) (p13 .fits2 .ensures) (p12 .if2 .left) in
+    let enough = slice-enough f (a .start) (a .length) (length (now (a .out))) (p10 .lacks .ensures) (p9 .if3 .left) in
+    let fresh = pieces-fresh (a .space) (a .view) (a .below) (now (a .maps)) (p20 .pre) fit (p7 .refresh .ensures) (a .start) (a .length)
+    (omega (arith, p17 .if1 .left, p20 .fits .start)) in
+    read-done (a .space) (a .view) (a .below) (now (a .maps)) (a .start) (a .length) (length (now (a .out))) (omega (arith, p20 .fits .start))
+    (omega (arith, p20 .fits .length)) (p20 .pre) (omega (arith, p17 .if1 .left, p20 .fits .start)) fit (now (a .out)) enough
+    (p2 .list .ensures .0 ∙ ap (λ (l : List Run). length l) fresh) (p7 .refresh .ensures)
+    (p2 .list .ensures .1 ∙ ap (λ (l : List Run). listedIn l (now (a .out))) fresh)
 
 pub read-spec : {M : Type 1} → statement M
 read-spec =
@@ -192,7 +174,7 @@ read-spec =
     fits-requires
     same-length
     returns-2
-    count-requires
+    lacks-requires
     same-length-2
     returns-3
     refresh-requires
