@@ -210,7 +210,7 @@ all-most f h = h
 -- ---- Counting the unpublished runs
 
 -- one more where the mark is 1
-marked-first : (r : Run) (rs : List Run) → length (marked (r ∷ rs)) ≡ markIn (r .cell) + length (marked rs)
+pub marked-first : (r : Run) (rs : List Run) → length (marked (r ∷ rs)) ≡ markIn (r .cell) + length (marked rs)
 unfolding marked
 marked-first r rs = go (unpublished (r .cell)) refl
   where

@@ -16,4 +16,5 @@ pub mod Viewing
 pub mod Pairing
 pub mod Bounds
 pub mod Rooms
+pub mod Clearing
 pub mod Doubles

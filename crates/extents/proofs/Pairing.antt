@@ -12,15 +12,13 @@ use lib.Seq.{getD-take, getD-drop, getD-set-same, getD-set-other}
 use lib.Dec.{leb, ltb, eqb}
 use borrow.Author.Tests.{leb-true, lt-ltb, le-ltb, le-leb, lt-leb, eq-eqb, ne-eqb}
 use borrow.Rule.Slice.PartMut.{putMid}
-use Rattle.runs.specs.Cells.{Bytes, settled}
+use Rattle.runs.specs.Cells.{Bytes}
 use Rattle.runs.specs.Runs.{runsOf}
 use Rattle.runs.specs.Maps.{mapOf, mapFor, spaceIn, runs, bytesOf, lawful, lawfulPublished, mapAt, withMap}
-use Rattle.runs.proofs.Longest.{runs-same, runs-back}
+use Rattle.runs.proofs.Longest.{runs-back}
 use Rattle.runs.proofs.Trips.{both, lawful-map}
-use Rattle.runs.proofs.Sides.{part-is, with-part, with-same}
+use Rattle.runs.proofs.Sides.{part-is, with-part}
 use Rattle.extents.specs.Entries.{twoMaps}
-use Rattle.extents.specs.Packing.{marked}
-use Rattle.extents.proofs.Gathering.{settled-none}
 use Rattle.extents.proofs.Parts.{lent, home, part-length, laid-fit}
 use Rattle.extents.proofs.Spots.{zero-behind}
 
@@ -124,15 +122,6 @@ module _ (space k : ℕ) (xs : List ℕ) where
     map-whole law =
         let m = lawful-map (mapAt space k xs) law in
         (λ i. mapOf (sym map-space i) (runs-back (runs (mapAt space k xs)) (m .lawful-runs) i)) ∙ sym (m .whole)
-
-    -- without an unpublished run it is settled
-    pub settled-home : lawful (mapAt space k xs) ≡ true → {own : ℕ} → own ≡ length (marked (runs (mapAt space k xs))) → own ≡ 0 →
-        xs ≡ withMap space k (mapFor space (settled (bytesOf (mapAt space k xs)))) xs
-    settled-home law e z =
-        let f = bytesOf (mapAt space k xs) in
-        let l = lawful-map (mapAt space k xs) law .lawful-runs in
-        let same : runsOf (settled f) ≡ runsOf f = runs-same (settled f) f (λ b _. settled-none (runs (mapAt space k xs)) l (sym e ∙ z) b) in
-        sym (with-same space k xs fit) ∙ ap (λ (m : List ℕ). withMap space k m xs) (sym (ap (mapOf space) same ∙ map-whole law))
 
     -- laid anew, it comes home
     pub laid-home : (f : Bytes → Bytes) → length (runsOf (f (bytesOf (mapAt space k xs)))) ≤ space → {r : Bool} {last : List ℕ} →

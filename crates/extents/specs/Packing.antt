@@ -1,12 +1,12 @@
 -- The unpublished runs of a view packed at the end of its map, and what a merge with the published map makes of them.
-use Prim.Native.Nat.{ℕ, _+_, _*_, _≤_, _<_}
+use Prim.Native.Nat.{ℕ, suc, _+_, _*_, _-_, _≤_, _<_}
 use mathlib.Core.Path.{_≡_}
 use mathlib.Core.Logic.{_⊎_}
 use mathlib.Core.Bool.{true, cond}
 use mathlib.Core.List.{List, [], _∷_, _++_}
 use lib.ListN.{length, getD, take, drop}
-use Rattle.runs.specs.Cells.{Bytes, unpublished, refreshed}
-use Rattle.runs.specs.Runs.{Run, runsOf}
+use Rattle.runs.specs.Cells.{Bytes, numberIn, unpublished, refreshed}
+use Rattle.runs.specs.Runs.{Run, runOf, runsOf}
 use Rattle.runs.specs.Maps.{runs, bytesOf, lawful, lawfulPublished}
 
 -- the unpublished ones of some runs
@@ -18,6 +18,18 @@ marked (r ∷ rs) = cond (unpublished (r .cell)) (r ∷ marked rs) (marked rs)
 abbrev pub Marked : List Run → Type 0
 Marked [] = Unit {0}
 Marked (r ∷ rs) = (unpublished (r .cell) ≡ true) × Marked rs
+
+-- the run behind run i of some follows it at once, with the same row
+abbrev pub Meet : List Run → ℕ → Type 0
+Meet rs i =
+    (suc i < length rs)
+    × (getD rs i (runOf 0 0 0) .start + getD rs i (runOf 0 0 0) .length ≡ getD rs (suc i) (runOf 0 0 0) .start)
+    × (numberIn (getD rs i (runOf 0 0 0) .cell) ≡ numberIn (getD rs (suc i) (runOf 0 0 0) .cell))
+
+-- run i has no such neighbour
+pub record Alone (rs : List Run) (i : ℕ) : Type 0 where
+  pub before : 0 < i → Meet rs (i - 1) → ⊥
+  pub behind : Meet rs i → ⊥
 
 -- the map of a space from place p on
 abbrev pub partAt : ℕ → ℕ → List ℕ → List ℕ

@@ -1,7 +1,7 @@
 // Publishing a view on the published map and refreshing a view from it, both maps in one slice, and marking a view published.
 ghost use Prim.Native.Nat.{_+_, _*_, _-_, _≤_, _<_, max};
 ghost use mathlib.Core.Path.{_≡_};
-ghost use mathlib.Core.Bool.{true, _&&_};
+ghost use mathlib.Core.Bool.{true, false, _&&_};
 ghost use mathlib.Core.List.{[], _∷_, _++_};
 ghost use lib.ListN.{length, getD, take, drop, replicate};
 ghost use lib.Dec.{eqb};
@@ -9,11 +9,58 @@ ghost use Rattle.runs.specs.Cells.{settled, refreshed};
 ghost use Rattle.runs.specs.Runs.{runsOf};
 ghost use Rattle.runs.specs.Maps.{fours, mapFor, spaceIn, runs, bytesOf, lawful, mapAt, withMap};
 ghost use Rattle.extents.specs.Entries.{twoMaps, viewOf, belowOf};
-ghost use Rattle.extents.specs.Packing.{marked, withPart, mergedOf, Packed};
+ghost use Rattle.extents.specs.Packing.{marked, Meet, Alone, withPart, mergedOf, Packed};
+
+// Marks the unpublished runs of a map published, of which there are `own`: a mark is put to 0 where no neighbour touches the run with the same
+// row; where one does, all runs are gone through and joined.
+pub fn settle(map: &mut [u32], own: usize)
+    requires { ⌜ (lawful (now map) ≡ true) × (own ≡ length (marked (runs (now map)))) ⌝ }
+    ensures { λ _. ⌜ now (map .exit) ≡ mapFor (spaceIn (now (map .entry))) (settled (bytesOf (now (map .entry)))) ⌝ }
+{
+    let mut left = own;
+    let mut i = 0;
+    while 0 < left {
+        if map[i * 4 + 3] == 1 {
+            if joins(map, i) {
+                settle_all(map);
+                return;
+            }
+            map[i * 4 + 3] = 0;
+            left -= 1;
+        }
+        i += 1;
+    }
+}
+
+// May run i join a neighbour when both are published?
+fn joins(map: &[u32], i: usize) -> bool
+    requires { ⌜ (lawful (now map) ≡ true) × (i < length (runs (now map))) ⌝ }
+    ensures { λ r. ⌜ (r ≡ false → Alone (runs (now (map .entry))) i) ⌝ }
+{
+    if 0 < i {
+        if meets(map, i - 1) {
+            return true;
+        }
+    }
+    if i * 4 + 4 == map.len() {
+        return false;
+    }
+    meets(map, i)
+}
+
+// Does the run behind run i follow it at once, with the same row? Behind the last run all is 0.
+fn meets(map: &[u32], i: usize) -> bool
+    requires { ⌜ (lawful (now map) ≡ true) × (i < length (runs (now map))) × (i * 4 + 8 ≤ length (now map)) ⌝ }
+    ensures { λ r. ⌜ (r ≡ false → Meet (runs (now (map .entry))) i → ⊥) ⌝ }
+{
+    let at = i * 4;
+    let end = map[at] + map[at + 1];
+    touches(end, map[at + 4], map[at + 2], map[at + 6])
+}
 
 // Marks every run of a map published, and joins neighbours that then have the same cell, from the front: a run is held while those behind it
 // touch it with the same row, and then put behind those put before.
-pub fn settle(map: &mut [u32])
+fn settle_all(map: &mut [u32])
     requires { ⌜ lawful (now map) ≡ true ⌝ }
     ensures { λ _. ⌜ now (map .exit) ≡ mapFor (spaceIn (now (map .entry))) (settled (bytesOf (now (map .entry)))) ⌝ }
 {

@@ -186,12 +186,9 @@ pub fn settle(maps: &mut [u32], space: usize, k: usize, own: usize)
     requires { ⌜ (lawful (mapAt space k (now maps)) ≡ true) × (own ≡ length (marked (runs (mapAt space k (now maps))))) ⌝ }
     ensures { λ _. ⌜ now (maps .exit) ≡ withMap space k (mapFor space (settled (bytesOf (mapAt space k (now (maps .entry)))))) (now (maps .entry)) ⌝ }
 {
-    if own == 0 {
-        return;
-    }
     let size = 4 * space;
     let at = k * size;
-    crate::merge::settle(&mut maps[at..at + size]);
+    crate::merge::settle(&mut maps[at..at + size], own);
 }
 
 // Gives a range of a map a cell, where it fits then.

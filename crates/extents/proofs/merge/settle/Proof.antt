@@ -1,263 +1,107 @@
 -- `extents::merge::settle` meets its contract. Assumes nothing.
-use Prim.Native.Nat.{_-_, _<_}
+use Prim.Native.Nat.{_+_, _*_, _-_, _≤_, _<_}
 use native.Mathlib.Omega.{arith}
-use mathlib.Core.Path.{refl, sym, _∙_}
+use mathlib.Core.Path.{_≡_, _∙_}
+use mathlib.Core.Logic.{⊎-elim}
 use lib.ListN.{length}
 use denote.Ref.{now}
 use Rattle.runs.specs.Maps.{runs}
-use Rattle.extents.proofs.Settling.{Settling, fit, settle-none, settle-start, settle-length, settle-room, settle-last}
-use Rattle.extents.proofs.Settling.{settle-join, settle-put, settle-end}
+use Rattle.extents.proofs.Clearing.{Clearing, clear-start, clear-room, clear-all, clear-end, clear-skip, clear-one}
 use Rattle.extents.proofs.merge.settle.Statement.{statement}
 use Rattle.extents.proofs.merge.settle.Tie as tie
 
 abbrev Inv-loop : tie.InvT-loop
-Inv-loop map₀ all start₀ size₀ number₀ n₀ i₀ map start size number n i = Settling map₀ map start size number n i
+Inv-loop map₀ own left₀ i₀ map left i = Clearing map₀ map left i
 
 abbrev μ-loop : tie.MeasureT-loop
-μ-loop map₀ all start₀ size₀ number₀ n₀ i₀ map start size number n i = all - i
+μ-loop map₀ own left₀ i₀ map left i = length (runs map₀) - i
 
-runs-in-requires : tie.Need-runs-in-requires Inv-loop μ-loop
-runs-in-requires c κs = c .before .before .pre
+-- the run at i, and its four numbers
+room : (c : tie.In-loop Inv-loop μ-loop) → let l = c .before in let xs = now (l .before .before .args .map) in
+    (l .loop .i < length (runs (l .loop .map))) × (l .loop .i * 4 + 4 ≤ length (l .loop .map))
+    × (l .loop .i < length (runs xs)) × (length (l .loop .map) ≡ length xs)
+room c = let l = c .before in clear-room (now (l .before .before .args .map)) (l .loop .inv) (c .loop-test .taken)
+
+loop-holds : tie.Need-loop-holds Inv-loop μ-loop
+loop-holds c = clear-start (now (c .before .args .map)) (c .before .pre .0) (c .before .pre .1)
+
+mul-if1 : tie.Need-mul-if1 Inv-loop μ-loop
+mul-if1 c = let r = room c in omega (arith, r .1, r .3, c .before .before .before .good)
+
+add-if1 : tie.Need-add-if1 Inv-loop μ-loop
+add-if1 c = let r = room c in omega (arith, r .1, r .3, c .before .before .before .good)
+
+mul-if1-2 : tie.Need-mul-if1-2 Inv-loop μ-loop
+mul-if1-2 c = let r = room c in omega (arith, r .1, r .3, c .before .before .before .good)
+
+slice-read-if1 : tie.Need-slice-read-if1 Inv-loop μ-loop
+slice-read-if1 c = omega (arith, room (c .before) .1)
+
+joins-requires : tie.Need-joins-requires Inv-loop μ-loop
+joins-requires c κs = (c .before .before .before .before .loop .inv .law, room (c .before .before .before) .0)
+
+settle-all-requires : tie.Need-settle-all-requires Inv-loop μ-loop
+settle-all-requires c κs = c .before .before .before .before .before .before .before .loop .inv .law
 
 same-length : tie.Need-same-length Inv-loop μ-loop
-same-length c = refl
+same-length c =
+    let a = c .before .before in
+    a .settle-all .kept .0 ∙ a .before .before .before .before .before .before .before .before .loop .inv .same
 
 returns : tie.Need-returns Inv-loop μ-loop
 returns c =
-    let s = c .before .before .before .before in
-    settle-none (now (s .args .map)) (s .pre) (sym (c .before .runs-in .ensures) ∙ c .if1 .taken)
+    let a = c .before .before in
+    let l = a .before .before .before .before .before .before .before .before in
+    clear-all (now (l .before .before .args .map)) (l .loop .inv) (a .settle-all .ensures)
 
-slice-read-start : tie.Need-slice-read-start Inv-loop μ-loop
-slice-read-start c =
-    let s = c .before .before .before .before .before in
-    omega (arith, fit (now (s .args .map)) (s .pre), c .before .before .runs-in .ensures, c .before .if1 .left)
+mul-map : tie.Need-mul-map Inv-loop μ-loop
+mul-map c =
+    let t = c .before .before .before .before .before in
+    let r = room t in
+    omega (arith, r .1, r .3, t .before .before .before .good)
 
-slice-read-size : tie.Need-slice-read-size Inv-loop μ-loop
-slice-read-size c =
-    let s = c .before .before .before .before .before .before in
-    omega (arith, fit (now (s .args .map)) (s .pre), c .before .before .before .runs-in .ensures, c .before .before .if1 .left)
+add-map : tie.Need-add-map Inv-loop μ-loop
+add-map c =
+    let t = c .before .before .before .before .before in
+    let r = room t in
+    omega (arith, r .1, r .3, t .before .before .before .good)
 
-slice-read-number : tie.Need-slice-read-number Inv-loop μ-loop
-slice-read-number c =
-    let s = c .before .before .before .before .before .before .before in
-    omega (arith, fit (now (s .args .map)) (s .pre), c .before .before .before .before .runs-in .ensures, c .before .before .before .if1 .left)
+mul-map-2 : tie.Need-mul-map-2 Inv-loop μ-loop
+mul-map-2 c =
+    let t = c .before .before .before .before .before in
+    let r = room t in
+    omega (arith, r .1, r .3, t .before .before .before .good)
 
-loop-holds : tie.Need-loop-holds Inv-loop μ-loop
-loop-holds c =
-    let u = c .before .before .before .before in
-    let s = u .before .before .before in
-    settle-start (now (s .args .map)) (s .pre) (omega (arith, u .runs-in .ensures, c .before .before .before .if1 .left))
+slice-write-map : tie.Need-slice-write-map Inv-loop μ-loop
+slice-write-map c = omega (arith, room (c .before .before .before .before .before) .1)
 
-mul-at : tie.Need-mul-at Inv-loop μ-loop
-mul-at c =
-    let u = c .before .before .before .before .before .before in
-    let s = u .before .before .before in
-    let r = settle-room (now (s .args .map)) (s .pre) (c .before .loop .inv) (c .loop-test .taken) (u .runs-in .ensures) in
-    omega (arith, s .good)
-
-mul-next-start : tie.Need-mul-next-start Inv-loop μ-loop
-mul-next-start c =
-    let u = c .before .before .before .before .before .before in
-    let s = u .before .before .before in
-    let r = settle-room (now (s .args .map)) (s .pre) (c .before .loop .inv) (c .loop-test .taken) (u .runs-in .ensures) in
-    omega (arith, s .good)
-
-slice-read-next-start : tie.Need-slice-read-next-start Inv-loop μ-loop
-slice-read-next-start c =
-    let u = c .before .before .before .before .before .before .before in
-    let s = u .before .before .before in
-    let r = settle-room (now (s .args .map)) (s .pre) (c .before .before .loop .inv) (c .before .loop-test .taken) (u .runs-in .ensures) in
-    omega (arith, s .good)
-
-add-next-size : tie.Need-add-next-size Inv-loop μ-loop
-add-next-size c =
-    let u = c .before .before .before .before .before .before .before in
-    let s = u .before .before .before in
-    let r = settle-room (now (s .args .map)) (s .pre) (c .before .before .loop .inv) (c .before .loop-test .taken) (u .runs-in .ensures) in
-    omega (arith, s .good)
-
-mul-next-size : tie.Need-mul-next-size Inv-loop μ-loop
-mul-next-size c =
-    let u = c .before .before .before .before .before .before .before in
-    let s = u .before .before .before in
-    let r = settle-room (now (s .args .map)) (s .pre) (c .before .before .loop .inv) (c .before .loop-test .taken) (u .runs-in .ensures) in
-    omega (arith, s .good)
-
-slice-read-next-size : tie.Need-slice-read-next-size Inv-loop μ-loop
-slice-read-next-size c =
-    let l = c .before .before .before in
-    let u = l .before .before .before .before .before in
-    let s = u .before .before .before in
-    let r = settle-room (now (s .args .map)) (s .pre) (l .loop .inv) (c .before .before .loop-test .taken) (u .runs-in .ensures) in
-    omega (arith, s .good)
-
-add-next-number : tie.Need-add-next-number Inv-loop μ-loop
-add-next-number c =
-    let l = c .before .before .before in
-    let u = l .before .before .before .before .before in
-    let s = u .before .before .before in
-    let r = settle-room (now (s .args .map)) (s .pre) (l .loop .inv) (c .before .before .loop-test .taken) (u .runs-in .ensures) in
-    omega (arith, s .good)
-
-mul-next-number : tie.Need-mul-next-number Inv-loop μ-loop
-mul-next-number c =
-    let l = c .before .before .before in
-    let u = l .before .before .before .before .before in
-    let s = u .before .before .before in
-    let r = settle-room (now (s .args .map)) (s .pre) (l .loop .inv) (c .before .before .loop-test .taken) (u .runs-in .ensures) in
-    omega (arith, s .good)
-
-slice-read-next-number : tie.Need-slice-read-next-number Inv-loop μ-loop
-slice-read-next-number c =
-    let l = c .before .before .before .before in
-    let u = l .before .before .before .before .before in
-    let s = u .before .before .before in
-    let r = settle-room (now (s .args .map)) (s .pre) (l .loop .inv) (c .before .before .before .loop-test .taken) (u .runs-in .ensures) in
-    omega (arith, s .good)
+sub-left : tie.Need-sub-left Inv-loop μ-loop
+sub-left c = c .before .before .before .before .before .loop-test .taken
 
 add-i : tie.Need-add-i Inv-loop μ-loop
 add-i c =
-    let l = c .before .before .before .before in
-    let u = l .before .before .before .before .before in
-    let s = u .before .before .before in
-    let r = settle-room (now (s .args .map)) (s .pre) (l .loop .inv) (c .before .before .before .loop-test .taken) (u .runs-in .ensures) in
-    omega (arith, s .good)
-
-add-touches : tie.Need-add-touches Inv-loop μ-loop
-add-touches c = omega (arith, c .before .before .before .before .loop .inv .inside)
-
-touches-requires : tie.Need-touches-requires Inv-loop μ-loop
-touches-requires c κs = tt
-
-add-size : tie.Need-add-size Inv-loop μ-loop
-add-size c =
-    let t = c .before .before .before .before .before in
-    let l = t .before in
-    let u = l .before .before .before .before .before in
-    let s = u .before .before .before in
-    let h : l .loop .i < length (runs (now (s .args .map))) = omega (arith, t .loop-test .taken, u .runs-in .ensures) in
-    let k = settle-join (now (s .args .map)) (s .pre) (l .loop .inv) h (c .before .touches .ensures) (c .if2 .taken) in
-    omega (arith, k .inside)
+    let t = c .before .before in
+    let r = room t in
+    omega (arith, r .1, r .3, t .before .before .before .good)
 
 loop-less : tie.Need-loop-less Inv-loop μ-loop
-loop-less c = omega (arith, c .before .before .before .before .before .loop-test .taken)
+loop-less c = omega (arith, room (c .before .before) .2)
 
 loop-again : tie.Need-loop-again Inv-loop μ-loop
 loop-again c =
-    let t = c .before .before .before .before .before in
+    let t = c .before .before in
     let l = t .before in
-    let u = l .before .before .before .before .before in
-    let s = u .before .before .before in
-    let h : l .loop .i < length (runs (now (s .args .map))) = omega (arith, t .loop-test .taken, u .runs-in .ensures) in
-    settle-join (now (s .args .map)) (s .pre) (l .loop .inv) h (c .before .touches .ensures) (c .if2 .taken)
-
-mul-put-run : tie.Need-mul-put-run Inv-loop μ-loop
-mul-put-run c =
-    let t = c .before .before .before .before .before .before in
-    let l = t .before in
-    let u = l .before .before .before .before .before in
-    let s = u .before .before .before in
-    let r = settle-room (now (s .args .map)) (s .pre) (l .loop .inv) (t .loop-test .taken) (u .runs-in .ensures) in
-    omega (arith, s .good)
-
-put-run-requires : tie.Need-put-run-requires Inv-loop μ-loop
-put-run-requires c κs =
-    let t = c .before .before .before .before .before .before in
-    let l = t .before in
-    let u = l .before .before .before .before .before in
-    let s = u .before .before .before in
-    let r = settle-room (now (s .args .map)) (s .pre) (l .loop .inv) (t .loop-test .taken) (u .runs-in .ensures) in
-    omega (arith, s .good)
-
-add-n : tie.Need-add-n Inv-loop μ-loop
-add-n c =
-    let t = c .before .before .before .before .before .before .before .before .before in
-    let l = t .before in
-    let u = l .before .before .before .before .before in
-    let s = u .before .before .before in
-    let r = settle-room (now (s .args .map)) (s .pre) (l .loop .inv) (t .loop-test .taken) (u .runs-in .ensures) in
-    omega (arith, s .good)
-
-loop-less-2 : tie.Need-loop-less-2 Inv-loop μ-loop
-loop-less-2 c = omega (arith, c .before .before .before .before .before .before .before .before .before .loop-test .taken)
-
-loop-again-2 : tie.Need-loop-again-2 Inv-loop μ-loop
-loop-again-2 c =
-    let i2 = c .before .before .before .before in
-    let o = i2 .before in
-    let t = o .before .before .before .before in
-    let l = t .before in
-    let u = l .before .before .before .before .before in
-    let s = u .before .before .before in
-    let h : l .loop .i < length (runs (now (s .args .map))) = omega (arith, t .loop-test .taken, u .runs-in .ensures) in
-    settle-put (now (s .args .map)) (s .pre) (l .loop .inv) h (o .touches .ensures) (i2 .if2 .left) (c .before .before .put-run .ensures)
-
-mul-put-run-2 : tie.Need-mul-put-run-2 Inv-loop μ-loop
-mul-put-run-2 c =
-    let u = c .before .before .before .before .before .before .before in
-    let s = u .before .before .before in
-    let r = settle-last (now (s .args .map)) (s .pre) (c .before .before .loop .inv) (c .before .loop-test .left) (u .runs-in .ensures) in
-    omega (arith, s .good)
-
-put-run-requires-2 : tie.Need-put-run-requires-2 Inv-loop μ-loop
-put-run-requires-2 c κs =
-    let u = c .before .before .before .before .before .before .before in
-    let s = u .before .before .before in
-    let r = settle-last (now (s .args .map)) (s .pre) (c .before .before .loop .inv) (c .before .loop-test .left) (u .runs-in .ensures) in
-    omega (arith, s .good)
-
-mul-clear-from : tie.Need-mul-clear-from Inv-loop μ-loop
-mul-clear-from c =
-    let t = c .before .before .before .before .before in
-    let l = t .before in
-    let u = l .before .before .before .before .before in
-    let s = u .before .before .before in
-    let r = settle-last (now (s .args .map)) (s .pre) (l .loop .inv) (t .loop-test .left) (u .runs-in .ensures) in
-    omega (arith, s .good)
-
-add-clear-from : tie.Need-add-clear-from Inv-loop μ-loop
-add-clear-from c =
-    let t = c .before .before .before .before .before in
-    let l = t .before in
-    let u = l .before .before .before .before .before in
-    let s = u .before .before .before in
-    let r = settle-last (now (s .args .map)) (s .pre) (l .loop .inv) (t .loop-test .left) (u .runs-in .ensures) in
-    omega (arith, s .good)
-
-mul-clear-from-2 : tie.Need-mul-clear-from-2 Inv-loop μ-loop
-mul-clear-from-2 c =
-    let t = c .before .before .before .before .before in
-    let l = t .before in
-    let u = l .before .before .before .before .before in
-    let s = u .before .before .before in
-    let r = settle-last (now (s .args .map)) (s .pre) (l .loop .inv) (t .loop-test .left) (u .runs-in .ensures) in
-    omega (arith, s .good)
-
-clear-from-requires : tie.Need-clear-from-requires Inv-loop μ-loop
-clear-from-requires c κs =
-    let t = c .before .before .before .before .before in
-    let l = t .before in
-    let u = l .before .before .before .before .before in
-    let s = u .before .before .before in
-    let r = settle-last (now (s .args .map)) (s .pre) (l .loop .inv) (t .loop-test .left) (u .runs-in .ensures) in
-    (omega arith, omega (arith, c .before .before .before .put-run2 .kept .0))
+    let xs = now (l .before .before .args .map) in
+    ⊎-elim
+    (λ w. clear-one xs (l .loop .inv) (t .loop-test .taken) (w .0 .taken) (w .2 .ensures (w .3 .left)) (w .4) (w .5))
+    (λ w. clear-skip xs (l .loop .inv) (t .loop-test .taken) (w .0 .left) (w .1) (w .2))
+    (c .if1 .came)
 
 same-length-2 : tie.Need-same-length-2 Inv-loop μ-loop
-same-length-2 c =
-    let p = c .before .before .before .before .before .before in
-    let l = p .before .before .before in
-    let s = l .before .before .before .before .before .before .before .before in
-    c .before .before .clear-from .kept .0 ∙ p .put-run2 .kept .0 ∙ settle-length (now (s .args .map)) (s .pre) (l .loop .inv)
+same-length-2 c = c .before .loop .inv .same
 
 returns-2 : tie.Need-returns-2 Inv-loop μ-loop
-returns-2 c =
-    let t = c .before .before .before .before .before .before .before .before in
-    let l = t .before in
-    let u = l .before .before .before .before .before in
-    let s = u .before .before .before in
-    let r = settle-last (now (s .args .map)) (s .pre) (l .loop .inv) (t .loop-test .left) (u .runs-in .ensures) in
-    settle-end (now (s .args .map)) (s .pre) (l .loop .inv) (r .1) (u .runs-in .ensures)
-    (c .before .before .before .before .before .before .put-run2 .ensures) (c .before .before .clear-from .ensures)
+returns-2 c = let l = c .before in clear-end (now (l .before .before .args .map)) (l .loop .inv) (c .loop-test .left)
 
 pub settle-spec : {M : Type 1} → statement M
 settle-spec =
@@ -265,38 +109,22 @@ settle-spec =
     (tie.spec
     Inv-loop
     μ-loop
-    runs-in-requires
+    loop-holds
+    mul-if1
+    add-if1
+    mul-if1-2
+    slice-read-if1
+    joins-requires
+    settle-all-requires
     same-length
     returns
-    slice-read-start
-    slice-read-size
-    slice-read-number
-    loop-holds
-    mul-at
-    mul-next-start
-    slice-read-next-start
-    add-next-size
-    mul-next-size
-    slice-read-next-size
-    add-next-number
-    mul-next-number
-    slice-read-next-number
+    mul-map
+    add-map
+    mul-map-2
+    slice-write-map
+    sub-left
     add-i
-    add-touches
-    touches-requires
-    add-size
     loop-less
     loop-again
-    mul-put-run
-    put-run-requires
-    add-n
-    loop-less-2
-    loop-again-2
-    mul-put-run-2
-    put-run-requires-2
-    mul-clear-from
-    add-clear-from
-    mul-clear-from-2
-    clear-from-requires
     same-length-2
     returns-2)

@@ -1,31 +1,29 @@
 -- `extents::pair::settle` meets its contract. Assumes nothing.
 use borrow.Author.Needs.{needs}
-use Rattle.extents.proofs.Pairing.{map-lent, made-home, settled-home}
-use Rattle.runs.specs.Maps.{lawful}
-use Rattle.runs.specs.Cells.{settled}
-use denote.Ref.{now}
-use mathlib.Core.Path.{ap, _∙_}
+use Prim.Native.Nat.{ℕ}
 use native.Mathlib.Omega.{arith}
+use mathlib.Core.Path.{sym, ap, _∙_}
+use mathlib.Core.List.{List}
+use lib.ListN.{length}
+use denote.Ref.{now}
+use Rattle.runs.specs.Cells.{settled}
+use Rattle.runs.specs.Maps.{runs, lawful}
+use Rattle.extents.specs.Packing.{marked}
+use Rattle.extents.proofs.Pairing.{map-lent, made-home}
 use Rattle.extents.proofs.pair.settle.Statement.{statement}
 use Rattle.extents.proofs.pair.settle.Tie as tie
 
-returns : tie.Need-returns
-returns c =
-    let p2 = c .before .before in
-    let a = p2 .args in
-    settled-home (a .space) (a .k) (now (a .maps)) (p2 .pre .0) (p2 .pre .1 .0) (p2 .pre .1 .1) (c .if1 .taken)
-
 mul-size : tie.Need-mul-size
-mul-size c = omega (arith, c .before .before .pre .0)
+mul-size c = omega (arith, c .before .pre .0)
 
 mul-at : tie.Need-mul-at
-mul-at c = omega (arith, c .before .before .pre .0)
+mul-at c = omega (arith, c .before .pre .0)
 
 add-settle : tie.Need-add-settle
-add-settle c = omega (arith, c .before .before .pre .0)
+add-settle c = omega (arith, c .before .pre .0)
 
 mul-settle : tie.Need-mul-settle
-mul-settle c = omega (arith, c .before .before .pre .0)
+mul-settle c = omega (arith, c .before .pre .0)
 
 sub-settle : tie.Need-sub-settle
 sub-settle c = search needs
@@ -34,28 +32,28 @@ part-settle-start : tie.Need-part-settle-start
 part-settle-start c = search needs
 
 part-settle-end : tie.Need-part-settle-end
-part-settle-end c = omega (arith, c .before .before .pre .0)
+part-settle-end c = omega (arith, c .before .pre .0)
 
 settle-requires : tie.Need-settle-requires
 settle-requires c κs =
-    let p3 = c .before .before .before in
-    let a = p3 .args in
-    ap lawful (map-lent (a .space) (a .k) (now (a .maps))) ∙ p3 .pre .1 .0
+    let s = c .before .before in
+    let a = s .args in
+    let e = map-lent (a .space) (a .k) (now (a .maps)) in
+    (ap lawful e ∙ s .pre .1 .0, s .pre .1 .1 ∙ ap (λ (m : List ℕ). length (marked (runs m))) (sym e))
 
 same-length : tie.Need-same-length
 same-length c = search needs
 
-returns-2 : tie.Need-returns-2
-returns-2 c =
-    let p6 = c .before .before .before .before .before .before in
-    let a = p6 .args in
-    made-home (a .space) (a .k) (now (a .maps)) (p6 .pre .0) settled (c .before .before .settle .ensures)
+returns : tie.Need-returns
+returns c =
+    let s = c .before .before .before .before .before in
+    let a = s .args in
+    made-home (a .space) (a .k) (now (a .maps)) (s .pre .0) settled (c .before .before .settle .ensures)
 
 pub settle-spec : {M : Type 1} → statement M
 settle-spec =
     tie.close
     (tie.spec
-    returns
     mul-size
     mul-at
     add-settle
@@ -65,4 +63,4 @@ settle-spec =
     part-settle-end
     settle-requires
     same-length
-    returns-2)
+    returns)
