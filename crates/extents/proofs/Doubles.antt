@@ -22,16 +22,13 @@ use Rattle.runs.proofs.Sides.{with-length, at-same, at-other, with-same, with-c
 use Rattle.extents.specs.declared.Answer.{Answer}
 use Rattle.extents.specs.declared.Answer.the-variants.{Done, Listed, Refused}
 use Rattle.maps.specs.Mixes.{PUBLISH, SETTLE, REFRESH, mixed, mix}
-use Rattle.extents.specs.Entries.{twoMaps, orRefused, orKept, viewOf, belowOf, bothMaps, publishRefusal, publishedMaps, refreshRefusal, refreshedMaps}
+use Rattle.views.specs.Pairs.{twoMaps, viewOf, belowOf}
+use Rattle.extents.specs.Entries.{orRefused, orKept, bothMaps, publishRefusal, publishedMaps, refreshRefusal, refreshedMaps}
 use Rattle.maps.specs.Pieces.{listedIn}
 use Rattle.extents.specs.Entries.{syncRefusal, syncedMaps, readRefusal, postRefusal, postedMaps, countOf}
-use Rattle.extents.specs.Packing.{marked}
+use Rattle.views.specs.Packing.{marked}
 use Rattle.extents.proofs.Entering.{accepted}
-use Rattle.extents.proofs.Pairing.{Told, two-told, map-space, map-whole}
-
--- the two maps stand at two places
-pub two-apart : (space view below : ℕ) (xs : List ℕ) → twoMaps space view below xs ≡ true → view ≡ below → ⊥
-two-apart space view below xs e q = false≢true (sym (rw (eq-eqb view below q)) ∙ e)
+use Rattle.views.proofs.Pairing.{Told, two-told, two-apart, map-space, map-whole}
 
 -- no byte lies in an empty range
 empty-range : (b : ℕ) → inRange 0 0 b ≡ false

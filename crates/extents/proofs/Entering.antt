@@ -22,6 +22,7 @@ use Rattle.maps.proofs.Counting.{starts-most}
 use Rattle.extents.specs.declared.Answer.{Answer}
 use Rattle.extents.specs.declared.Answer.the-variants.{Done, Listed, Refused}
 use Rattle.maps.specs.Pieces.{listedIn}
+use Rattle.views.proofs.Rooms.{pieces-there}
 use Rattle.extents.specs.Entries.{orRefused, orKept, countOf, markOf, writeRefusal, writtenMap, listRefusal}
 
 -- ---- Answers
@@ -150,10 +151,6 @@ pub pieces-most : (f : Bytes) (start n : ℕ) → length (piecesOf f start n) �
 unfolding piecesOf
 pieces-most f start n =
     omega (arith, count-starts n start (λ b. suc (numberIn (f b))), starts-most n start 0 (λ b. suc (numberIn (f b))))
-
--- the pieces of the same range, said by its end
-pub pieces-there : (f : Bytes) (start n : ℕ) → piecesOf f start (start + n - start) ≡ piecesOf f start n
-pieces-there f start n = let q : start + n - start ≡ n = omega arith in ap (piecesOf f start) q
 
 -- the pieces and their count
 pub accepted-list : (xs : List ℕ) (start n : ℕ) (out : List ℕ) {k r : ℕ} {zs : List ℕ} → r ≡ 0 →

@@ -1,6 +1,6 @@
 -- The entries of the map of pieces: their questions in sequence, and what they answer and leave.
 use Prim.Native.Nat.{ℕ, _+_, _*_}
-use mathlib.Core.Bool.{Bool, true, false, cond, not, _&&_}
+use mathlib.Core.Bool.{Bool, true, false, cond, _&&_}
 use mathlib.Core.List.{List, [], _∷_, _++_}
 use lib.ListN.{length}
 use lib.Dec.{leb, eqb}
@@ -8,19 +8,14 @@ use Rattle.models.specs.Limits.{ROWS, OFFSET-MAX}
 use Rattle.trace.specs.Questions.{Question, firstNo}
 use Rattle.runs.specs.Cells.{Bytes, cellOf, overwrite, published, settled, refreshed}
 use Rattle.runs.specs.Runs.{Run, runsOf, piecesOf}
-use Rattle.runs.specs.Maps.{mapFor, spaceIn, bytesOf, lawful, lawfulPublished, mapAt, withMap}
+use Rattle.runs.specs.Maps.{mapFor, spaceIn, bytesOf, lawful, withMap}
+use Rattle.views.specs.Pairs.{twoMaps, viewOf, belowOf}
 use Rattle.extents.specs.declared.Answer.{Answer}
 use Rattle.extents.specs.declared.Answer.the-variants.{Listed, Refused}
 
 -- ---- Questions
 
--- 13, of one map; of a view and of the published map, which stand at two places of one slice
-abbrev pub twoMaps : ℕ → ℕ → ℕ → List ℕ → Bool
-twoMaps space view below xs =
-    not (eqb view below)
-    && (leb ((view + 1) * (4 * space)) (length xs)
-    && (leb ((below + 1) * (4 * space)) (length xs) && (lawful (mapAt space view xs) && lawfulPublished (mapAt space below xs))))
-
+-- 13, of maps
 abbrev pub asksLaw : Bool → Question
 asksLaw law = record { number = 13; yes = law }
 
@@ -81,11 +76,12 @@ listRefusal xs start length room =
 -- ---- A view and the published map
 
 module _ (space view below : ℕ) (xs : List ℕ) where
-  abbrev pub viewOf : Bytes
-  viewOf = bytesOf (mapAt space view xs)
+  -- what the two maps mean
+  abbrev own : Bytes
+  own = viewOf space view below xs
 
-  abbrev pub belowOf : Bytes
-  belowOf = bytesOf (mapAt space below xs)
+  abbrev base : Bytes
+  base = belowOf space view below xs
 
   -- the slice with both maps anew
   unfoldable pub bothMaps : Bytes → Bytes → List ℕ
@@ -97,41 +93,41 @@ module _ (space view below : ℕ) (xs : List ℕ) where
 
   -- publish the view
   unfoldable pub publishRefusal : ℕ
-  publishRefusal = firstNo (asksLaw (twoMaps space view below xs) ∷ asksBoth (settled viewOf) (published viewOf belowOf))
+  publishRefusal = firstNo (asksLaw (twoMaps space view below xs) ∷ asksBoth (settled own) (published own base))
 
   unfoldable pub publishedMaps : List ℕ
-  publishedMaps = bothMaps (settled viewOf) (published viewOf belowOf)
+  publishedMaps = bothMaps (settled own) (published own base)
 
   -- refresh it
   unfoldable pub refreshRefusal : ℕ
-  refreshRefusal = firstNo (asksLaw (twoMaps space view below xs) ∷ asksBoth (refreshed viewOf belowOf) belowOf)
+  refreshRefusal = firstNo (asksLaw (twoMaps space view below xs) ∷ asksBoth (refreshed own base) base)
 
   unfoldable pub refreshedMaps : List ℕ
-  refreshedMaps = bothMaps (refreshed viewOf belowOf) belowOf
+  refreshedMaps = bothMaps (refreshed own base) base
 
   -- publish, then refresh
   unfoldable pub syncRefusal : ℕ
   syncRefusal =
       firstNo
       (asksLaw (twoMaps space view below xs)
-      ∷ asksBoth (refreshed (settled viewOf) (published viewOf belowOf)) (published viewOf belowOf))
+      ∷ asksBoth (refreshed (settled own) (published own base)) (published own base))
 
   unfoldable pub syncedMaps : List ℕ
-  syncedMaps = bothMaps (refreshed (settled viewOf) (published viewOf belowOf)) (published viewOf belowOf)
+  syncedMaps = bothMaps (refreshed (settled own) (published own base)) (published own base)
 
   module _ (start length : ℕ) where
     -- write a range, then publish
     abbrev pub writing : ℕ → Bytes
-    writing number = overwrite start length (cellOf number 1) viewOf
+    writing number = overwrite start length (cellOf number 1) own
 
     unfoldable pub postRefusal : ℕ → ℕ
     postRefusal number =
         firstNo
         (asksLaw (twoMaps space view below xs)
-        ∷ (asksNumber number ∷ (asksRange start length ++ asksBoth (settled (writing number)) (published (writing number) belowOf))))
+        ∷ (asksNumber number ∷ (asksRange start length ++ asksBoth (settled (writing number)) (published (writing number) base))))
 
     unfoldable pub postedMaps : ℕ → List ℕ
-    postedMaps number = bothMaps (settled (writing number)) (published (writing number) belowOf)
+    postedMaps number = bothMaps (settled (writing number)) (published (writing number) base)
 
     -- refresh, then list the pieces of a range
     unfoldable pub readRefusal : ℕ → ℕ
@@ -139,4 +135,4 @@ module _ (space view below : ℕ) (xs : List ℕ) where
         firstNo
         (asksLaw (twoMaps space view below xs)
         ∷ (asksRange start length
-        ++ (asksBoth (refreshed viewOf belowOf) belowOf ++ (asksRoom (piecesOf (refreshed viewOf belowOf) start length) room ∷ []))))
+        ++ (asksBoth (refreshed own base) base ++ (asksRoom (piecesOf (refreshed own base) start length) room ∷ []))))

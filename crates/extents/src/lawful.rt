@@ -9,8 +9,10 @@ ghost use Rattle.runs.specs.Cells.{cellOf, refreshed};
 ghost use Rattle.runs.specs.Runs.{piecesOf};
 ghost use Rattle.runs.specs.Maps.{bytesOf, lawful};
 ghost use Rattle.maps.specs.Pieces.{listedIn};
-ghost use Rattle.extents.specs.Entries.{twoMaps, orRefused, orKept, countOf, markOf, writeRefusal, writtenMap, listRefusal};
-ghost use Rattle.extents.specs.Entries.{viewOf, belowOf, publishRefusal, publishedMaps, refreshRefusal, refreshedMaps, syncRefusal, syncedMaps};
+ghost use Rattle.views.specs.Pairs.{twoMaps};
+ghost use Rattle.extents.specs.Entries.{orRefused, orKept, countOf, markOf, writeRefusal, writtenMap, listRefusal};
+ghost use Rattle.views.specs.Pairs.{viewOf, belowOf};
+ghost use Rattle.extents.specs.Entries.{publishRefusal, publishedMaps, refreshRefusal, refreshedMaps, syncRefusal, syncedMaps};
 ghost use Rattle.extents.specs.Entries.{postRefusal, postedMaps, readRefusal};
 ghost use Rattle.extents.specs.declared.Answer.the-variants.{Done};
 
@@ -87,12 +89,12 @@ pub fn publish(maps: &mut [u32], space: usize, view: usize, below: usize) -> Ans
     ensures left { λ r. ⌜ now (maps .exit) ≡ orKept (publishRefusal space view below (now (maps .entry)))
         (publishedMaps space view below (now (maps .entry))) (now (maps .entry)) ⌝ }
 {
-    let own = crate::pair::own_runs(maps, space, view);
-    if !crate::pair::fits(maps, space, view, below, own, 0, 0, 0, 0) {
+    let own = views::pair::own_runs(maps, space, view);
+    if !views::pair::fits(maps, space, view, below, own, 0, 0, 0, 0) {
         return Answer::Refused(16);
     }
-    crate::share::share(maps, space, view, below, own, 0, 0, 0);
-    crate::pair::settle(maps, space, view, own);
+    views::share::share(maps, space, view, below, own, 0, 0, 0);
+    views::pair::settle(maps, space, view, own);
     Answer::Done
 }
 
@@ -103,11 +105,11 @@ pub fn refresh(maps: &mut [u32], space: usize, view: usize, below: usize) -> Ans
     ensures left { λ r. ⌜ now (maps .exit) ≡ orKept (refreshRefusal space view below (now (maps .entry)))
         (refreshedMaps space view below (now (maps .entry))) (now (maps .entry)) ⌝ }
 {
-    let own = crate::pair::own_runs(maps, space, view);
-    if !crate::pair::fits(maps, space, view, below, own, 2, 0, 0, 0) {
+    let own = views::pair::own_runs(maps, space, view);
+    if !views::pair::fits(maps, space, view, below, own, 2, 0, 0, 0) {
         return Answer::Refused(16);
     }
-    crate::merge::refresh(maps, space, view, below, own);
+    views::merge::refresh(maps, space, view, below, own);
     Answer::Done
 }
 
@@ -118,12 +120,12 @@ pub fn sync(maps: &mut [u32], space: usize, view: usize, below: usize) -> Answer
     ensures left { λ r. ⌜ now (maps .exit) ≡ orKept (syncRefusal space view below (now (maps .entry)))
         (syncedMaps space view below (now (maps .entry))) (now (maps .entry)) ⌝ }
 {
-    let own = crate::pair::own_runs(maps, space, view);
-    if !crate::pair::fits(maps, space, view, below, own, 0, 0, 0, 0) {
+    let own = views::pair::own_runs(maps, space, view);
+    if !views::pair::fits(maps, space, view, below, own, 0, 0, 0, 0) {
         return Answer::Refused(16);
     }
-    crate::share::share(maps, space, view, below, own, 0, 0, 0);
-    crate::pair::copy(maps, space, below, view);
+    views::share::share(maps, space, view, below, own, 0, 0, 0);
+    views::pair::copy(maps, space, below, view);
     Answer::Done
 }
 
@@ -153,17 +155,17 @@ pub fn post(
     }
     let end = start + length;
     let cell = number * 2;
-    let own = crate::pair::own_runs(maps, space, view);
-    if !crate::pair::fits(maps, space, view, below, own, 0, start, end, cell) {
+    let own = views::pair::own_runs(maps, space, view);
+    if !views::pair::fits(maps, space, view, below, own, 0, start, end, cell) {
         return Answer::Refused(16);
     }
-    if !crate::pair::fits(maps, space, view, below, own, 1, start, end, cell) {
+    if !views::pair::fits(maps, space, view, below, own, 1, start, end, cell) {
         return Answer::Refused(16);
     }
-    crate::share::share(maps, space, view, below, own, start, end, number);
-    crate::pair::settle(maps, space, view, own);
+    views::share::share(maps, space, view, below, own, start, end, number);
+    views::pair::settle(maps, space, view, own);
     if start < end {
-        crate::pair::lay(maps, space, view, start, end, cell);
+        views::pair::lay(maps, space, view, start, end, cell);
     }
     Answer::Done
 }
@@ -193,14 +195,14 @@ pub fn read(
         return Answer::Refused(11);
     }
     let end = start + length;
-    let own = crate::pair::own_runs(maps, space, view);
-    if !crate::pair::fits(maps, space, view, below, own, 2, 0, 0, 0) {
+    let own = views::pair::own_runs(maps, space, view);
+    if !views::pair::fits(maps, space, view, below, own, 2, 0, 0, 0) {
         return Answer::Refused(16);
     }
-    if crate::pair::lacks(maps, space, view, below, own, start, end, out.len() / 3) {
+    if views::pair::lacks(maps, space, view, below, own, start, end, out.len() / 3) {
         return Answer::Refused(17);
     }
-    crate::merge::refresh(maps, space, view, below, own);
-    let n = crate::pair::list(maps, space, view, start, end, out);
+    views::merge::refresh(maps, space, view, below, own);
+    let n = views::pair::list(maps, space, view, start, end, out);
     Answer::Listed(n as u32)
 }

@@ -6,14 +6,12 @@ ghost use Rattle.runs.specs.Runs.{piecesOf};
 ghost use Rattle.runs.specs.Maps.{bytesOf, lawful, lawfulPublished};
 ghost use Rattle.maps.specs.Pieces.{listedIn};
 ghost use Rattle.extents.specs.Entries.{orRefused, orKept, countOf, writeRefusal, writtenMap, listRefusal};
-ghost use Rattle.extents.specs.Entries.{viewOf, belowOf, publishRefusal, publishedMaps, refreshRefusal, refreshedMaps, syncRefusal, syncedMaps};
+ghost use Rattle.views.specs.Pairs.{viewOf, belowOf};
+ghost use Rattle.extents.specs.Entries.{publishRefusal, publishedMaps, refreshRefusal, refreshedMaps, syncRefusal, syncedMaps};
 ghost use Rattle.extents.specs.Entries.{postRefusal, postedMaps, readRefusal};
 ghost use Rattle.extents.specs.declared.Answer.the-variants.{Done};
 
 pub mod lawful;
-mod merge;
-mod pair;
-mod share;
 
 // Nothing to list, a count of pieces, or a refusal's number.
 pub enum Answer {
@@ -65,7 +63,7 @@ pub fn publish(maps: &mut [u32], space: usize, view: usize, below: usize) -> Ans
     ensures left { λ r. ⌜ now (maps .exit) ≡ orKept (publishRefusal space view below (now (maps .entry)))
         (publishedMaps space view below (now (maps .entry))) (now (maps .entry)) ⌝ }
 {
-    if !pair::two_maps(maps, space, view, below) {
+    if !views::pair::two_maps(maps, space, view, below) {
         return Answer::Refused(13);
     }
     lawful::publish(maps, space, view, below)
@@ -77,7 +75,7 @@ pub fn refresh(maps: &mut [u32], space: usize, view: usize, below: usize) -> Ans
     ensures left { λ r. ⌜ now (maps .exit) ≡ orKept (refreshRefusal space view below (now (maps .entry)))
         (refreshedMaps space view below (now (maps .entry))) (now (maps .entry)) ⌝ }
 {
-    if !pair::two_maps(maps, space, view, below) {
+    if !views::pair::two_maps(maps, space, view, below) {
         return Answer::Refused(13);
     }
     lawful::refresh(maps, space, view, below)
@@ -89,7 +87,7 @@ pub fn sync(maps: &mut [u32], space: usize, view: usize, below: usize) -> Answer
     ensures left { λ r. ⌜ now (maps .exit) ≡ orKept (syncRefusal space view below (now (maps .entry)))
         (syncedMaps space view below (now (maps .entry))) (now (maps .entry)) ⌝ }
 {
-    if !pair::two_maps(maps, space, view, below) {
+    if !views::pair::two_maps(maps, space, view, below) {
         return Answer::Refused(13);
     }
     lawful::sync(maps, space, view, below)
@@ -109,7 +107,7 @@ pub fn post(
     ensures left { λ r. ⌜ now (maps .exit) ≡ orKept (postRefusal space view below (now (maps .entry)) start length number)
         (postedMaps space view below (now (maps .entry)) start length number) (now (maps .entry)) ⌝ }
 {
-    if !pair::two_maps(maps, space, view, below) {
+    if !views::pair::two_maps(maps, space, view, below) {
         return Answer::Refused(13);
     }
     lawful::post(maps, space, view, below, start, length, number)
@@ -135,7 +133,7 @@ pub fn read(
         (listedIn (piecesOf (refreshed (viewOf space view below (now (maps .entry))) (belowOf space view below (now (maps .entry)))) start length)
         (now (out .entry))) (now (out .entry)) ⌝ }
 {
-    if !pair::two_maps(maps, space, view, below) {
+    if !views::pair::two_maps(maps, space, view, below) {
         return Answer::Refused(13);
     }
     lawful::read(maps, space, view, below, start, length, out)

@@ -28,11 +28,13 @@ use Rattle.layers.proofs.Stepping.{AllYes}
 use Rattle.maps.specs.Pieces.{listedIn}
 use Rattle.extents.specs.declared.Answer as extents
 use Rattle.extents.specs.declared.Answer.the-variants.{Done, Refused}
-use Rattle.extents.specs.Entries.{twoMaps, bothMaps, orRefused, orKept, countOf, writeRefusal, writtenMap, listRefusal}
-use Rattle.extents.specs.Entries.{viewOf, belowOf, publishRefusal, publishedMaps, refreshRefusal, refreshedMaps, syncRefusal, syncedMaps}
+use Rattle.views.specs.Pairs.{twoMaps}
+use Rattle.extents.specs.Entries.{bothMaps, orRefused, orKept, countOf, writeRefusal, writtenMap, listRefusal}
+use Rattle.views.specs.Pairs.{viewOf, belowOf}
+use Rattle.extents.specs.Entries.{publishRefusal, publishedMaps, refreshRefusal, refreshedMaps, syncRefusal, syncedMaps}
 use Rattle.extents.specs.Entries.{postRefusal, postedMaps, readRefusal}
-use Rattle.extents.proofs.Parts.{home}
-use Rattle.extents.proofs.Pairing.{two-told, lentMap, map-lent, map-space}
+use Rattle.views.proofs.Parts.{home}
+use Rattle.views.proofs.Pairing.{two-told, lentMap, map-lent, map-space}
 use Rattle.machine.specs.Answers.{answerOf, Steps, Ready}
 use Rattle.machine.proofs.Maps.{first-map, here-fit, state-two, state-view, state-in, anew, fit-both, to-both, to-view-alone, to-same}
 use Rattle.machine.proofs.Maps.{shared′, view′, row-both}

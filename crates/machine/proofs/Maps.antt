@@ -29,7 +29,8 @@ use Rattle.runs.proofs.Trips.{both, not-passed, lawful-map, length-map}
 use Rattle.runs.proofs.Longest.{runs-back}
 use Rattle.runs.proofs.Sides.{with-length, with-other, at-same, at-other}
 use Rattle.order.specs.Counting.{blocks}
-use Rattle.extents.specs.Entries.{twoMaps, bothMaps}
+use Rattle.views.specs.Pairs.{twoMaps}
+use Rattle.extents.specs.Entries.{bothMaps}
 
 -- ---- Numbers below a bound
 

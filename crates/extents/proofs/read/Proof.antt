@@ -2,7 +2,8 @@
 use borrow.Author.Needs.{needs}
 use Rattle.extents.proofs.Doubles.{refused-both, read-unlawful}
 use Rattle.maps.specs.Pieces.{listedIn}
-use Rattle.extents.specs.Entries.{viewOf, belowOf, refreshedMaps, countOf}
+use Rattle.views.specs.Pairs.{viewOf, belowOf}
+use Rattle.extents.specs.Entries.{refreshedMaps, countOf}
 use Rattle.runs.specs.Runs.{piecesOf}
 use Rattle.runs.specs.Cells.{refreshed}
 use lib.ListN.{length}

@@ -5,7 +5,7 @@ use mathlib.Core.Path.{ap}
 use lib.Dec.{ltb}
 use denote.Ref.{now}
 use Rattle.runs.specs.Maps.{bytesOf}
-use Rattle.extents.proofs.Rooms.{map-enough, map-counted}
+use Rattle.views.proofs.Rooms.{map-enough, map-counted}
 use Rattle.extents.proofs.lawful.lacks.Statement.{statement}
 use Rattle.extents.proofs.lawful.lacks.Tie as tie
 

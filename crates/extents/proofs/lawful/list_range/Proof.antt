@@ -1,7 +1,7 @@
 -- `extents::lawful::list_range` meets its contract. Assumes nothing.
 use borrow.Author.Needs.{needs}
-use Rattle.extents.proofs.Entering.{refused, list-past, list-full, list-fits, pieces-most, pieces-there, accepted-list}
-use Rattle.extents.proofs.Rooms.{slice-short, slice-enough}
+use Rattle.extents.proofs.Entering.{refused, list-past, list-full, list-fits, pieces-most, accepted-list}
+use Rattle.views.proofs.Rooms.{pieces-there, slice-short, slice-enough}
 use Rattle.maps.specs.Pieces.{listedIn}
 use Rattle.extents.specs.Entries.{countOf}
 use Rattle.runs.specs.Maps.{bytesOf}

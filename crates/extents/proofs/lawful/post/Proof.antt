@@ -10,7 +10,7 @@ use Rattle.extents.proofs.Entering.{refused}
 use Rattle.extents.specs.declared.Answer.the-variants.{Done}
 use denote.Ref.{now}
 use native.Mathlib.Omega.{arith}
-use Rattle.extents.proofs.Pairing.{two-told}
+use Rattle.views.proofs.Pairing.{two-told}
 use Rattle.extents.proofs.lawful.post.Statement.{statement}
 use Rattle.extents.proofs.lawful.post.Tie as tie
 

@@ -3,9 +3,10 @@ use borrow.Author.Needs.{needs}
 use Rattle.extents.proofs.Doubles.{view-in-fresh, view-law-fresh, pieces-fresh}
 use Rattle.extents.proofs.Doubles.{refused-both, refresh-enough, refresh-short, read-past, read-full, read-long, read-done}
 use Rattle.extents.proofs.Entering.{pieces-most}
-use Rattle.extents.proofs.Rooms.{slice-short, slice-enough}
+use Rattle.views.proofs.Rooms.{slice-short, slice-enough}
 use Rattle.maps.specs.Pieces.{listedIn}
-use Rattle.extents.specs.Entries.{viewOf, belowOf, refreshedMaps, countOf}
+use Rattle.views.specs.Pairs.{viewOf, belowOf}
+use Rattle.extents.specs.Entries.{refreshedMaps, countOf}
 use Rattle.runs.specs.Runs.{Run, piecesOf}
 use Rattle.runs.specs.Cells.{refreshed}
 use lib.ListN.{length}
@@ -13,7 +14,7 @@ use mathlib.Core.List.{List}
 use denote.Ref.{now}
 use mathlib.Core.Path.{ap, _∙_}
 use native.Mathlib.Omega.{arith}
-use Rattle.extents.proofs.Pairing.{two-told}
+use Rattle.views.proofs.Pairing.{two-told}
 use Rattle.extents.proofs.lawful.read.Statement.{statement}
 use Rattle.extents.proofs.lawful.read.Tie as tie
 

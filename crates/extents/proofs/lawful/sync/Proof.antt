@@ -1,6 +1,6 @@
 -- `extents::lawful::sync` meets its contract. Assumes nothing.
 use borrow.Author.Needs.{needs}
-use Rattle.extents.proofs.Doubles.{two-apart, publish-enough, publish-short, sync-full, share-fits, sync-done}
+use Rattle.extents.proofs.Doubles.{publish-enough, publish-short, sync-full, share-fits, sync-done}
 use Rattle.extents.proofs.Doubles.{view-in-after, below-in-after, view-law-after, below-law-after}
 use Rattle.extents.specs.Entries.{syncedMaps}
 use Rattle.extents.proofs.Entering.{refused}
@@ -8,7 +8,7 @@ use Rattle.extents.specs.declared.Answer.the-variants.{Done}
 use denote.Ref.{now}
 use mathlib.Core.Path.{sym}
 use native.Mathlib.Omega.{arith}
-use Rattle.extents.proofs.Pairing.{two-told}
+use Rattle.views.proofs.Pairing.{two-told, two-apart}
 use Rattle.extents.proofs.lawful.sync.Statement.{statement}
 use Rattle.extents.proofs.lawful.sync.Tie as tie
 
