@@ -79,12 +79,12 @@ over-more s n c f =
 -- ---- The ranges of some runs
 
 -- runs written over bytes, each with a cell made of its own
-unfoldable laid : (ℕ → ℕ) → List Run → Bytes → Bytes
+unfoldable pub laid : (ℕ → ℕ) → List Run → Bytes → Bytes
 laid h [] f = f
 laid h (r ∷ rs) f = overwrite (r .start) (r .length) (h (r .cell)) (laid h rs f)
 
 -- each adds at most two runs
-laid-more : (h : ℕ → ℕ) (rs : List Run) (f : Bytes) → length (runsOf (laid h rs f)) ≤ length (runsOf f) + 2 * length rs
+pub laid-more : (h : ℕ → ℕ) (rs : List Run) (f : Bytes) → length (runsOf (laid h rs f)) ≤ length (runsOf f) + 2 * length rs
 unfolding laid
 laid-more h [] f = omega arith
 laid-more h (r ∷ rs) f = omega (arith, over-more (r .start) (r .length) (h (r .cell)) (laid h rs f), laid-more h rs f)
@@ -117,7 +117,7 @@ marked-over h rs l f b =
 
 module _ (rs : List Run) (law : Lawful rs) (w : Bytes) where
   -- the unpublished runs written over the published map
-  laid-over : (h : ℕ → ℕ) (b : ℕ) → over h (cellAt rs b) (w b) ≡ laid h (marked rs) w b
+  pub laid-over : (h : ℕ → ℕ) (b : ℕ) → over h (cellAt rs b) (w b) ≡ laid h (marked rs) w b
   laid-over h b = sym (laid-mean h (marked rs) w b (marked-all rs) ∙ marked-over h rs law w b)
 
   module _ (start n c : ℕ) where

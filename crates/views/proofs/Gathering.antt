@@ -20,12 +20,12 @@ use Rattle.views.proofs.Spots.{Here, noRun, here-at, here-same, putAt}
 -- ---- Unpublished runs
 
 -- an unpublished one is kept
-marked-in : (r : Run) (rs : List Run) → unpublished (r .cell) ≡ true → marked (r ∷ rs) ≡ r ∷ marked rs
+pub marked-in : (r : Run) (rs : List Run) → unpublished (r .cell) ≡ true → marked (r ∷ rs) ≡ r ∷ marked rs
 unfolding marked
 marked-in r rs e = rw e
 
 -- a published one is left out
-marked-out : (r : Run) (rs : List Run) → unpublished (r .cell) ≡ false → marked (r ∷ rs) ≡ marked rs
+pub marked-out : (r : Run) (rs : List Run) → unpublished (r .cell) ≡ false → marked (r ∷ rs) ≡ marked rs
 unfolding marked
 marked-out r rs e = rw e
 

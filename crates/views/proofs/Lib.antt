@@ -16,3 +16,4 @@ pub mod Pairing
 pub mod Bounds
 pub mod Rooms
 pub mod Clearing
+pub mod Laying

@@ -3,7 +3,7 @@ use Prim.Native.Nat.{ℕ, _+_, _*_, _-_, _/_, _≤_, _<_}
 use native.Mathlib.Nat.{add-mul, one-mul, mul-le-mul-right}
 use native.Mathlib.Decide.{decLt}
 use native.Mathlib.Omega.{arith}
-use mathlib.Core.Path.{_≡_, refl, sym, ap, _∙_}
+use mathlib.Core.Path.{_≡_, refl, sym, ap, subst, _∙_}
 use mathlib.Core.Logic.{_⊎_, inl, inr}
 use mathlib.Core.Bool.{true, not}
 use mathlib.Core.List.{List}
@@ -26,7 +26,8 @@ use Rattle.views.proofs.Gathering.{published-none}
 use Rattle.views.proofs.Sweeps.{over-at, over-same, fill-same, Fits, Rises, Drawn, downs-fits, downs-drawn, downs-same, up-step}
 use Rattle.views.proofs.Drawing.{taken-back, goal, lefts, rights, others, goal-good}
 use Rattle.views.proofs.Drawing.{rights-rise, others-rise, lefts-rise, rights-drawn, lefts-drawn}
-use Rattle.views.proofs.Parts.{Holds, holds-start, holds-view, holds-bytes, holds-next, lent-space, lent-bytes, lent-next}
+use Rattle.views.proofs.Laying.{all-fits}
+use Rattle.views.proofs.Parts.{lent, lent-below, Holds, holds-start, holds-same, holds-view, holds-bytes, holds-next, lent-space, lent-bytes, lent-next}
 
 -- ---- A pass down and a pass up, in a slice that holds some bytes
 
@@ -143,25 +144,44 @@ module _ {size v w start end c : ℕ} {xs : List ℕ} (s : Shared size v w start
   new-fits : Fits (size / 4) new
   new-fits = record { good = goal-good all all-law old start end c (s .order) (s .inside) (begin .fits .good) (s .fine); few = s .fit }
 
-  -- without unpublished runs the range is all
-  module _ {own : ℕ} (e : own ≡ length (marked all)) (z : own ≡ 0) where
+  -- the published bytes
+  abbrev all-out : Bytes
+  all-out = published (cellAt all) old
+
+  -- without unpublished runs they are there
+  pub out-none : {own : ℕ} → own ≡ length (marked all) → own ≡ 0 → Holds size w xs all-out xs
+  out-none e z =
+      let same : (b : ℕ) → old b ≡ all-out b = λ b. sym (published-none all all-law (sym e ∙ z) old b) in
+      let f = begin .fits in
+      holds-same all-out
+      (record {
+        good = record { fine = λ b. subst Fine (same b) (f .good .fine b); ends = λ b l. sym (same b) ∙ f .good .ends b l };
+        few = omega (arith, f .few, ap length (runs-same old all-out (λ b _. same b)));
+      })
+      same begin
+
+  -- laid one by one they are there
+  pub out-laid : length (runs (partAt w size xs)) + 2 * length (marked all) ≤ size / 4 → {ys : List ℕ} → ys ≡ withBytes size w all-out xs →
+      Holds size w xs all-out ys
+  out-laid room q = record { fits = all-fits size v w xs (s .two) room; same = q }
+
+  -- then the range is all that is to be written
+  module _ {ys : List ℕ} (k : Holds size w xs all-out ys) where
     abbrev alone : Bytes
-    alone = overwrite start (end - start) c (bytesOf (take (w + size - w) (drop w xs)))
+    alone = overwrite start (end - start) c (bytesOf (take (w + size - w) (drop w ys)))
 
     -- its bytes are those at the end
     alone-bytes : (b : ℕ) → alone b ≡ new b
-    alone-bytes b =
-        over-same start end c (bytesOf (take (w + size - w) (drop w xs))) old (lent-bytes (s .two) begin) b
-        ∙ over-same start end c old (published (cellAt all) old) (λ y. sym (published-none all all-law (sym e ∙ z) old y)) b
+    alone-bytes = over-same start end c (bytesOf (take (w + size - w) (drop w ys))) all-out (lent-bytes (s .two) k)
 
     -- they fit
-    pub alone-fit : length (runsOf alone) ≤ spaceIn (take (w + size - w) (drop w xs))
-    alone-fit = omega (arith, new-fits .few, lent-space (s .two) begin, ap length (runs-same alone new (λ b _. alone-bytes b)))
+    pub alone-fit : length (runsOf alone) ≤ spaceIn (take (w + size - w) (drop w ys))
+    alone-fit = omega (arith, new-fits .few, lent-space (s .two) k, ap length (runs-same alone new (λ b _. alone-bytes b)))
 
     -- and are left
-    pub alone-end : {last : List ℕ} → last ≡ mapFor (spaceIn (take (w + size - w) (drop w xs))) alone →
-        Holds size w xs new (putMid w (w + size - w) xs last)
-    alone-end q = lent-next (s .two) begin new alone new-fits alone-bytes q
+    pub alone-end : {last : List ℕ} → last ≡ mapFor (spaceIn (take (w + size - w) (drop w ys))) alone →
+        Holds size w xs new (putMid w (w + size - w) ys last)
+    alone-end q = lent-next (s .two) k new alone new-fits alone-bytes q
 
   -- the first: down on the right
   pub down-right : {ys : List ℕ} → ys ≡ withBytes size w (sunk size v w end OFFSET-MAX xs) xs → Holds size w xs (downs right old) ys
@@ -310,6 +330,23 @@ module _ (space view below start end number : ℕ) (xs : List ℕ) where
   pub own-part : {k : ℕ} → k ≡ length (marked (runs (mapAt space view xs))) →
       k ≡ length (marked (runs (partAt (view * (space * 4)) (space * 4) xs)))
   own-part e = e ∙ ap (λ (m : List ℕ). length (marked (runs m))) (map-part space view xs)
+
+  -- a map has no more runs than its space
+  pub below-few : twoMaps space view below xs ≡ true → {n : ℕ} →
+      n ≡ length (runs (take (below * (space * 4) + space * 4 - below * (space * 4)) (drop (below * (space * 4)) xs))) → n ≤ space
+  below-few e q =
+      let t = two-parts space view below xs e in
+      let k = holds-start t in
+      omega (arith, q, lawful-map _ (lent-below t k) .fit, lent-space t k)
+
+  -- there is room for two runs more for each
+  pub own-room : twoMaps space view below xs ≡ true → {own n : ℕ} → own ≡ length (marked (runs (mapAt space view xs))) →
+      n ≡ length (runs (take (below * (space * 4) + space * 4 - below * (space * 4)) (drop (below * (space * 4)) xs))) → n + 2 * own + 2 ≤ space →
+      length (runs (partAt (below * (space * 4)) (space * 4) xs)) + 2 * length (marked (runs (partAt (view * (space * 4)) (space * 4) xs)))
+      ≤ space * 4 / 4
+  own-room e {own} {n} o q h =
+      let a = q ∙ ap (λ (l : List ℕ). length (runs l)) (lent (below * (space * 4)) (space * 4) xs) in
+      omega (arith, own-part o, a, h)
 
   -- the six steps can be made
   pub shared : twoMaps space view below xs ≡ true → start ≤ end → end ≤ OFFSET-MAX → number ≤ ROWS → length (runsOf to) ≤ space →

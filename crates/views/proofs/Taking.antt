@@ -20,7 +20,7 @@ abbrev pub runAmong : List Run → ℕ → Run
 runAmong rs i = getD rs i (runOf 0 0 0)
 
 -- it ends within all bytes, and its row number is small
-inside-at : (rs : List Run) (i e c : ℕ) → Rising OFFSET-MAX e c rs → runAmong rs i .start + runAmong rs i .length ≤ OFFSET-MAX
+pub inside-at : (rs : List Run) (i e c : ℕ) → Rising OFFSET-MAX e c rs → runAmong rs i .start + runAmong rs i .length ≤ OFFSET-MAX
 inside-at [] i e c t = omega arith
 inside-at (r ∷ rs) zero e c t = t .0 .inside
 inside-at (r ∷ rs) (suc i) e c t = inside-at rs i (r .start + r .length) (r .cell) (t .1)

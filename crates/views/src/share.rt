@@ -1,18 +1,19 @@
-// Publishing the unpublished runs of a view, and a range with a cell of its own, on the published map in the same slice, in place: two passes of
-// single ranges, neither of which makes more runs than there were or than there are at the end.
-ghost use Prim.Native.Nat.{_+_, _*_, _-_, _≤_, _<_};
+// Publishing the unpublished runs of a view, and a range with a cell of its own, on the published map in the same slice, in place: one by one
+// where there is room for two runs more for each, else by two passes of single ranges, neither of which makes more runs than there were or than
+// there are at the end.
+ghost use Prim.Native.Nat.{_+_, _*_, _-_, _/_, _≤_, _<_};
 ghost use mathlib.Core.Path.{_≡_};
 ghost use mathlib.Core.Bool.{true};
 ghost use mathlib.Core.Logic.{_⊎_};
 ghost use lib.ListN.{length, getD};
 ghost use Rattle.models.specs.Limits.{ROWS};
-ghost use Rattle.runs.specs.Cells.{numberIn, cellOf, unpublished, overwrite};
+ghost use Rattle.runs.specs.Cells.{numberIn, cellOf, unpublished, overwrite, published};
 ghost use Rattle.runs.specs.Runs.{runOf, runsOf};
 ghost use Rattle.runs.specs.Maps.{mapFor, spaceIn, runs, bytesOf, lawful, mapAt, withMap};
 ghost use Rattle.maps.specs.Mixes.{PUBLISH, mix};
 ghost use Rattle.views.specs.Pairs.{twoMaps, viewOf, belowOf};
 ghost use Rattle.views.specs.Packing.{marked};
-ghost use Rattle.views.specs.Strokes.{within, stroke, filled, withBytes, Two, sunk, raised, Ready};
+ghost use Rattle.views.specs.Strokes.{within, stroke, filled, partAt, withBytes, Two, sunk, raised, Ready};
 
 // Publishes a view, of whose runs `own` are unpublished, and a range of a row number, 0 where the range is empty, on a published map that fits
 // then.
@@ -40,12 +41,34 @@ pub fn share(
         put(&mut maps[w..w + size], start, end, cell);
         return;
     }
+    if maps::splice::runs_in(&maps[w..w + size]) + 2 * own + 2 <= space {
+        lay_own(maps, size, v, w);
+        put(&mut maps[w..w + size], start, end, cell);
+        return;
+    }
     pass_down(maps, size, v, w, end, 4294967295);
     fill(&mut maps[w..w + size], start, end);
     pass_down(maps, size, v, w, 0, start);
     pass_up(maps, size, v, w, 0, start);
     put(&mut maps[w..w + size], start, end, cell);
     pass_up(maps, size, v, w, end, 4294967295);
+}
+
+// Lays the unpublished runs of a view on the published map one by one, where there is room for two runs more for each.
+fn lay_own(maps: &mut [u32], size: usize, v: usize, w: usize)
+    requires { ⌜ Two size v w (now maps)
+        × (length (runs (partAt w size (now maps))) + 2 * length (marked (runs (partAt v size (now maps)))) ≤ size / 4) ⌝ }
+    ensures { λ _. ⌜ now (maps .exit) ≡ withBytes size w
+        (published (bytesOf (partAt v size (now (maps .entry)))) (bytesOf (partAt w size (now (maps .entry))))) (now (maps .entry)) ⌝ }
+{
+    let mut i = maps::splice::runs_in(&maps[v..v + size]);
+    while 0 < i {
+        i -= 1;
+        if is_own(&maps[v..v + size], i) {
+            let s = stroke_at(&maps[v..v + size], i, 0, 4294967295);
+            put(&mut maps[w..w + size], s.from, s.to, s.cell);
+        }
+    }
 }
 
 // A range to be written, and its cell.
