@@ -1,7 +1,7 @@
 // The bench lines that are not theorems: what the whole call answers to each text. What it writes is held to the file stdout.
 use checker::Judged;
 use extents::Answer;
-use machine::Machine;
+use asking::Machine;
 use machine::Made;
 use trace::Row;
 

@@ -17,11 +17,12 @@ use Rattle.extents.specs.declared.Answer.the-variants.{Done, Listed, Refused}
 use Rattle.layers.specs.States.{Header}
 use Rattle.layers.specs.Steps as steps
 use Rattle.layers.specs.Steps.{Step, madeTo}
-use Rattle.machine.specs.declared.Machine.{Machine}
+use Rattle.asking.specs.declared.Machine.{Machine}
 use Rattle.machine.specs.declared.Made as machine
 use Rattle.machine.specs.declared.Made.the-variants as made
 use Rattle.machine.specs.declared.Replayed.{Replayed}
-use Rattle.machine.specs.Answers.{headerOf, answerOf as answeredOf, madeOf, Steps}
+use Rattle.asking.specs.Answers.{headerOf, answerOf as answeredOf, Steps}
+use Rattle.machine.specs.Makes.{madeOf}
 use Rattle.machine.specs.Replays.{Replay, Replays}
 use Rattle.kiqsaryn.specs.Packing.{packed, Gives, packedFilled, Fills, packedFound, Judges, Makes, packedStep, StepGives, ReplayGives}
 

@@ -10,7 +10,7 @@ ghost use Rattle.layers.specs.Steps.{makingQuestions, plainMakingQuestions, ste
 ghost use Rattle.machine.specs.Replays.{replayOf, plainReplayOf};
 ghost use Rattle.kiqsaryn.specs.Packing.{Gives, Fills, Judges, headed, rowed, Makes, StepGives, ReplayGives};
 use extents::Answer;
-use machine::Machine;
+use asking::Machine;
 use machine::Made;
 use order::Filled;
 use races::Found;

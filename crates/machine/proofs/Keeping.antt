@@ -26,9 +26,10 @@ use Rattle.layers.specs.Steps.{Answer, refusing, done, listed, Step, rowAsked, 
 use Rattle.layers.proofs.Points.{picked, prior, Pointed, LayersPointed, PlainPointed, Writing, fresh-pointed, row-pointed, plain-row-pointed}
 use Rattle.layers.proofs.Slices.{LayersHeld, PlainHeld, Alike, alike-fit, alike-to}
 use Rattle.layers.proofs.Stepping.{AllYes, alike-row, to-lawful, plain-lawful}
-use Rattle.machine.specs.Replays.{refusalIn, countIn, putTo}
-use Rattle.machine.proofs.Maps.{all-out, state-making, plain-making, state-parts}
-use Rattle.machine.proofs.Questions.{Named, no-none, named-append, yes-parts, room-named, row-named, asked-number, asked-process, asked-range}
+use Rattle.asking.specs.Answers.{putTo}
+use Rattle.machine.specs.Replays.{refusalIn, countIn}
+use Rattle.asking.proofs.Maps.{all-out, state-making, plain-making, state-parts}
+use Rattle.asking.proofs.Questions.{Named, no-none, named-append, yes-parts, room-named, row-named, asked-number, asked-process, asked-range}
 
 -- ---- What every step keeps
 

@@ -1,8 +1,3 @@
-pub mod Maps
-pub mod Questions
-pub mod Answering
-pub mod Keeping
-pub mod Laying
-pub mod Plainly
 pub mod Making
+pub mod Keeping
 pub mod Replaying

@@ -11,7 +11,7 @@ use Rattle.models.specs.Limits.{MODELS, FILES}
 use Rattle.trace.specs.Questions.{firstNo}
 use Rattle.layers.specs.States.{Header, mapsLength, processLimit}
 use Rattle.layers.specs.Steps.{makingQuestions, plainMakingQuestions, madeTo}
-use Rattle.machine.specs.Answers.{madeOf}
+use Rattle.machine.specs.Makes.{madeOf}
 use Rattle.machine.specs.declared.Made.the-variants.{Made, Refused}
 
 -- a refusal changes nothing

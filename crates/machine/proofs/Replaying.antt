@@ -12,13 +12,13 @@ use Rattle.trace.specs.declared.Row.{Row}
 use Rattle.trace.specs.Questions.{firstNo}
 use Rattle.order.specs.Clock.{rowIn}
 use Rattle.runs.proofs.Trips.{both}
-use Rattle.layers.specs.Layers.{ofFile}
 use Rattle.layers.specs.Steps.{Answer, refusing, done, listed, Step, answered}
 use Rattle.extents.specs.declared.Answer as extents
 use Rattle.extents.specs.declared.Answer.the-variants.{Done}
-use Rattle.machine.specs.Answers.{answerOf, refusalOf, countOf, Steps}
+use Rattle.asking.specs.Answers.{answerOf, refusalOf, countOf, Steps}
 use Rattle.machine.proofs.Keeping.{Keeps, Sound, put-sound}
-use Rattle.machine.specs.Replays.{Replay, refusalIn, countIn, putTo, tried, passed, stopped, onward, after}
+use Rattle.asking.specs.Answers.{putTo}
+use Rattle.machine.specs.Replays.{Replay, refusalIn, countIn, tried, passed, stopped, onward, after}
 use Rattle.machine.specs.Replays.{replayQuestions, started, replayBy, Replays}
 
 -- the code's refusal is the definition's
@@ -32,20 +32,6 @@ count-told : (a : Answer) → countOf (answerOf a) ≡ countIn a
 count-told (refusing number) = refl
 count-told done = refl
 count-told (listed count) = refl
-
--- ---- A row put to the file that it names
-
-module _ (step : List ℕ → Row → ℕ → List ℕ → Step) (file : ℕ) (xs : List ℕ) (r : Row) (number : ℕ) (out : List ℕ) where
-  -- rows of others change nothing
-  pub put-other : ofFile file r ≡ false → Steps (putTo step file xs r number out) Done xs out
-  unfolding putTo
-  put-other e = rw e (record { answered = refl; maps-left = refl; out-left = refl })
-
-  -- its own do what they do
-  pub put-own : ofFile file r ≡ true → {a : extents.Answer} {ys zs : List ℕ} → Steps (step xs r number out) a ys zs →
-      Steps (putTo step file xs r number out) a ys zs
-  unfolding putTo
-  put-own e k = rw e k
 
 -- ---- One row
 

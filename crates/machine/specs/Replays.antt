@@ -8,9 +8,9 @@ use lib.Dec.{leb, eqb}
 use Rattle.trace.specs.declared.Row.{Row}
 use Rattle.trace.specs.Questions.{Question, firstNo}
 use Rattle.order.specs.Clock.{rowIn}
-use Rattle.layers.specs.Layers.{ofFile}
 use Rattle.layers.specs.States.{Header, lawfulState, lawfulPlain}
 use Rattle.layers.specs.Steps.{Answer, refusing, done, listed, Step, stepOf, plainStepOf}
+use Rattle.asking.specs.Answers.{putTo}
 use Rattle.machine.specs.declared.Replayed.{Replayed}
 
 -- How far a replay is: 0, or the refusal of the row that is next; the rows gone through; the pieces of its reads; and the slices it leaves.
@@ -33,14 +33,10 @@ countIn done = 0
 countIn (listed count) = count
 
 module _ (step : List ℕ → Row → ℕ → List ℕ → Step) (file : ℕ) where
-  -- a row is put to the file that it names; other rows change nothing
-  unfoldable pub putTo : List ℕ → Row → ℕ → List ℕ → Step
-  putTo xs r number out = cond (ofFile file r) (step xs r number out) (record { answer = done; maps = xs; out = out })
-
   module _ (rows : List ℕ) where
     -- the row that is next; a refusal leaves all as it is
     abbrev pub tried : Replay → Step
-    tried s = putTo (s .maps) (rowIn rows (s .rows)) (suc (s .rows)) (drop (3 * s .pieces) (s .out))
+    tried s = putTo step file (s .maps) (rowIn rows (s .rows)) (suc (s .rows)) (drop (3 * s .pieces) (s .out))
 
     -- it counts its pieces, and a read's stand behind those of the reads before it
     abbrev pub passed : Step → Replay → Replay

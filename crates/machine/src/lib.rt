@@ -5,45 +5,12 @@ ghost use lib.ListN.{length};
 ghost use Rattle.trace.specs.Questions.{firstNo};
 ghost use Rattle.layers.specs.States.{mapsLength};
 ghost use Rattle.layers.specs.Steps.{makingQuestions, plainMakingQuestions, madeTo, stepOf, plainStepOf};
-ghost use Rattle.machine.specs.Answers.{headerOf, madeOf, Steps};
+ghost use Rattle.asking.specs.Answers.{headerOf, Steps};
+ghost use Rattle.machine.specs.Makes.{madeOf};
 ghost use Rattle.machine.specs.Replays.{replayOf, plainReplayOf, Replays};
+use asking::Machine;
 use extents::Answer;
 use trace::Row;
-
-mod asking;
-mod layered;
-mod plain;
-
-// What a machine serves: a model, processes below a limit, one file, and maps with space for so many pieces each. A plain file's model is not
-// read.
-pub struct Machine {
-    pub model: u32,
-    pub process_limit: u32,
-    pub file: u32,
-    pub map_space: u32,
-}
-
-impl Machine {
-    pub const MODELS: u32 = 4;
-
-    pub const PROCESSES: u32 = 64;
-
-    pub const FILES: u32 = 64;
-
-    pub const ROWS: u32 = 4096;
-
-    // The header of an empty machine.
-    pub fn fresh(model: u32, process_limit: u32, file: u32, map_space: u32) -> Machine
-        ensures { λ r. ⌜ headerOf r ≡ record { model = model; processes = «process_limit»; file = file; space = «map_space» } ⌝ }
-    {
-        Machine {
-            model: model,
-            process_limit: process_limit,
-            file: file,
-            map_space: map_space,
-        }
-    }
-}
 
 // A machine over the slice, or the number of the question that was answered No.
 pub enum Made {

@@ -3,7 +3,7 @@ use Rattle.kiqsaryn.proofs.kiqsaryn_make.Statement.{statement}
 use Rattle.kiqsaryn.proofs.kiqsaryn_make.Tie as tie
 use Rattle.kiqsaryn.proofs.kiqsaryn_make.Reads as reads
 use Rattle.kiqsaryn.proofs.kiqsaryn_make.Lts as lts
-use Rattle.machine.proofs.Machine.fresh.Reads as fresh-reads
+use Rattle.asking.proofs.Machine.fresh.Reads as fresh-reads
 use Rattle.machine.proofs.make.Reads as make-reads
 use lib.ListN.{length}
 use denote.Ref.{now}

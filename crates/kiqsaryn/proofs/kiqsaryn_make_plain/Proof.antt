@@ -3,7 +3,7 @@ use Rattle.kiqsaryn.proofs.kiqsaryn_make_plain.Statement.{statement}
 use Rattle.kiqsaryn.proofs.kiqsaryn_make_plain.Tie as tie
 use Rattle.kiqsaryn.proofs.kiqsaryn_make_plain.Reads as reads
 use Rattle.kiqsaryn.proofs.kiqsaryn_make_plain.Lts as lts
-use Rattle.machine.proofs.Machine.fresh.Reads as fresh-reads
+use Rattle.asking.proofs.Machine.fresh.Reads as fresh-reads
 use Rattle.machine.proofs.make_plain.Reads as make-plain-reads
 use Prim.Native.Nat.{_*_}
 use lib.ListN.{length}

@@ -3,7 +3,7 @@ use Rattle.kiqsaryn.proofs.kiqsaryn_replay.Statement.{statement}
 use Rattle.kiqsaryn.proofs.kiqsaryn_replay.Tie as tie
 use Rattle.kiqsaryn.proofs.kiqsaryn_replay.Reads as reads
 use Rattle.kiqsaryn.proofs.kiqsaryn_replay.Lts as lts
-use Rattle.machine.proofs.Machine.fresh.Reads as fresh-reads
+use Rattle.asking.proofs.Machine.fresh.Reads as fresh-reads
 use Rattle.machine.proofs.replay.Reads as replay-reads
 use denote.Ref.{now}
 use Rattle.layers.specs.States.{Header}

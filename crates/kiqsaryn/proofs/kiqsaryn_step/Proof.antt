@@ -3,7 +3,7 @@ use Rattle.kiqsaryn.proofs.kiqsaryn_step.Statement.{statement}
 use Rattle.kiqsaryn.proofs.kiqsaryn_step.Tie as tie
 use Rattle.kiqsaryn.proofs.kiqsaryn_step.Reads as reads
 use Rattle.kiqsaryn.proofs.kiqsaryn_step.Lts as lts
-use Rattle.machine.proofs.Machine.fresh.Reads as fresh-reads
+use Rattle.asking.proofs.Machine.fresh.Reads as fresh-reads
 use Rattle.machine.proofs.step.Reads as step-reads
 use denote.Ref.{now}
 use Rattle.layers.specs.States.{Header}

@@ -3,7 +3,7 @@ use Rattle.kiqsaryn.proofs.kiqsaryn_step_plain.Statement.{statement}
 use Rattle.kiqsaryn.proofs.kiqsaryn_step_plain.Tie as tie
 use Rattle.kiqsaryn.proofs.kiqsaryn_step_plain.Reads as reads
 use Rattle.kiqsaryn.proofs.kiqsaryn_step_plain.Lts as lts
-use Rattle.machine.proofs.Machine.fresh.Reads as fresh-reads
+use Rattle.asking.proofs.Machine.fresh.Reads as fresh-reads
 use Rattle.machine.proofs.step_plain.Reads as step-plain-reads
 use denote.Ref.{now}
 use Rattle.layers.specs.States.{Header}

@@ -5,7 +5,7 @@ use Prim.Native.Nat.{_+_, _*_, _≤_}
 use mathlib.Core.Path.{_≡_, sym, _∙_}
 use denote.Ref.{now}
 use borrow.Author.Tests.{not-true, not-false}
-use Rattle.machine.specs.Answers.{headerOf}
+use Rattle.asking.specs.Answers.{headerOf}
 use Rattle.layers.specs.States.{mapsLength}
 use Rattle.machine.proofs.Making.{make-short, make-model, make-limit, make-file, make-made}
 use native.Mathlib.Nat.{mul-le-mul}

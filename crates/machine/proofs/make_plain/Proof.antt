@@ -5,7 +5,7 @@ use Prim.Native.Nat.{_*_}
 use mathlib.Core.Path.{_≡_, sym, _∙_}
 use denote.Ref.{now}
 use borrow.Author.Tests.{not-true, not-false}
-use Rattle.machine.specs.Answers.{headerOf}
+use Rattle.asking.specs.Answers.{headerOf}
 use Rattle.machine.proofs.Making.{plain-short, plain-limit, plain-file, plain-made}
 use Rattle.machine.proofs.make_plain.Statement.{statement}
 use Rattle.machine.proofs.make_plain.Tie as tie

@@ -1,0 +1,156 @@
+// What a machine and a plain file serve, the questions that both ask, and rows and answers by their numbers.
+ghost use Prim.Native.Nat.{_+_, _*_, _≤_};
+ghost use mathlib.Core.Path.{_≡_};
+ghost use mathlib.Core.Bool.{_&&_};
+ghost use mathlib.Core.List.{_++_};
+ghost use lib.ListN.{length, drop, replicate};
+ghost use lib.Dec.{leb};
+ghost use Rattle.trace.specs.Questions.{firstNo};
+ghost use Rattle.order.specs.Clock.{rowIn};
+ghost use Rattle.layers.specs.Layers.{ofFile};
+ghost use Rattle.layers.specs.States.{processLimit};
+ghost use Rattle.layers.specs.Steps.{rowAsked};
+ghost use Rattle.asking.specs.Answers.{headerOf, refusalOf, countOf};
+use extents::Answer;
+use trace::Row;
+
+// What a machine serves: a model, processes below a limit, one file, and maps with space for so many pieces each. A plain file's model is not
+// read.
+pub struct Machine {
+    pub model: u32,
+    pub process_limit: u32,
+    pub file: u32,
+    pub map_space: u32,
+}
+
+impl Machine {
+    pub const MODELS: u32 = 4;
+
+    pub const PROCESSES: u32 = 64;
+
+    pub const FILES: u32 = 64;
+
+    pub const ROWS: u32 = 4096;
+
+    // The header of an empty machine.
+    pub fn fresh(model: u32, process_limit: u32, file: u32, map_space: u32) -> Machine
+        ensures { λ r. ⌜ headerOf r ≡ record { model = model; processes = «process_limit»; file = file; space = «map_space» } ⌝ }
+    {
+        Machine {
+            model: model,
+            process_limit: process_limit,
+            file: file,
+            map_space: map_space,
+        }
+    }
+}
+
+pub fn is_process_limit(n: u32) -> bool
+    ensures { λ r. ⌜ r ≡ processLimit n ⌝ }
+{
+    if n < 1 {
+        return false;
+    }
+    n <= Machine::PROCESSES
+}
+
+// Puts 0 into the first n numbers.
+pub fn clear(maps: &mut [u32], n: usize)
+    requires { ⌜ n ≤ length (now maps) ⌝ }
+    ensures { λ _. ⌜ now (maps .exit) ≡ replicate n 0 ++ drop n (now (maps .entry)) ⌝ }
+{
+    let mut i = 0;
+    while i < n {
+        maps[i] = 0;
+        i += 1;
+    }
+}
+
+// The first No of the questions 15, 14, 10 and 11, and 0 where there is none.
+pub fn ask_row(machine: Machine, row: Row, number: u32) -> u32
+    ensures { λ r. ⌜ r ≡ firstNo (rowAsked (headerOf machine) row number) ⌝ }
+{
+    if 5 < row.kind {
+        return 15;
+    }
+    if row.file != machine.file {
+        return 15;
+    }
+    if number < 1 {
+        return 14;
+    }
+    if Machine::ROWS < number {
+        return 14;
+    }
+    if machine.process_limit <= row.process {
+        return 10;
+    }
+    if 1 < row.kind {
+        return 0;
+    }
+    let offset = row.offset;
+    let length = row.length;
+    if 4294967295 - offset < length {
+        return 11;
+    }
+    0
+}
+
+// A row of the file: no send or receive, and it names it.
+pub fn is_of(machine: Machine, row: Row) -> bool
+    ensures { λ r. ⌜ r ≡ ofFile (headerOf machine .file) row ⌝ }
+{
+    if 5 < row.kind {
+        return false;
+    }
+    row.file == machine.file
+}
+
+// Six numbers for each row, and one for its count.
+pub fn slices_fit(rows_len: usize, counts_len: usize, n: u32) -> bool
+    ensures { λ r. ⌜ r ≡ leb (6 * n) «rows_len» && leb n «counts_len» ⌝ }
+{
+    let all = n as usize;
+    if rows_len / 6 < all {
+        return false;
+    }
+    all <= counts_len
+}
+
+// The row at a place.
+pub fn row_at(rows: &[u32], k: usize) -> Row
+    requires { ⌜ k * 6 + 6 ≤ length (now rows) ⌝ }
+    ensures { λ r. ⌜ r ≡ rowIn (now (rows .entry)) k ⌝ }
+{
+    let at = k * 6;
+    Row {
+        process: rows[at],
+        kind: rows[at + 1],
+        file: rows[at + 2],
+        offset: rows[at + 3],
+        length: rows[at + 4],
+        message: rows[at + 5],
+    }
+}
+
+// The number of a refusal, and 0 for any other answer.
+pub fn refusal_in(answer: Answer) -> u32
+    ensures { λ r. ⌜ r ≡ refusalOf answer ⌝ }
+{
+    match answer {
+        Answer::Refused(number) => number,
+        Answer::Listed(_) => 0,
+        Answer::Done => 0,
+    }
+}
+
+// The count of pieces, and 0 for any other answer.
+pub fn count_in(answer: Answer) -> u32
+    ensures { λ r. ⌜ r ≡ countOf answer ⌝ }
+{
+    match answer {
+        Answer::Refused(_) => 0,
+        Answer::Listed(count) => count,
+        Answer::Done => 0,
+    }
+}

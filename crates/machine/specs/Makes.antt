@@ -1,0 +1,10 @@
+-- What making answers.
+use Prim.Native.Nat.{ℕ}
+use mathlib.Core.Bool.{cond}
+use lib.Dec.{eqb}
+use Rattle.machine.specs.declared.Made.{Made}
+use Rattle.machine.specs.declared.Made.the-variants as made
+
+-- the first No, or that it is made
+abbrev pub madeOf : ℕ → Made
+madeOf refusal = cond (eqb refusal 0) made.Made (made.Refused refusal)
