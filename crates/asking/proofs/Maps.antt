@@ -15,7 +15,7 @@ use borrow.Author.Tests.{le-leb, leb-true, eq-eqb, ne-eqb, eqb-true, eqb-false}
 use Rattle.models.specs.Limits.{MODELS, FILES}
 use Rattle.models.specs.Operations.{WRITE}
 use Rattle.models.specs.Table.{publishes, refreshes}
-use Rattle.trace.specs.declared.Row.{Row}
+use Rattle.fields.specs.declared.Row.{Row}
 use Rattle.runs.specs.Cells.{Bytes, cellOf, overwrite, published, settled, refreshed}
 use Rattle.runs.specs.Runs.{Run, runsOf}
 use Rattle.runs.specs.Maps.{mapOf, mapFor, runs, spaceIn, bytesOf, lawful, lawfulPublished, mapAt, withMap}

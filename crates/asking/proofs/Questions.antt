@@ -10,7 +10,7 @@ use lib.Dec.{leb, ltb, eqb}
 use borrow.Author.Tests.{le-leb, lt-leb, leb-true, lt-ltb, le-ltb, ltb-true, eq-eqb, ne-eqb}
 use Rattle.models.specs.Limits.{ROWS, OFFSET-MAX}
 use Rattle.models.specs.Operations.{READ, WRITE}
-use Rattle.trace.specs.declared.Row.{Row}
+use Rattle.fields.specs.declared.Row.{Row}
 use Rattle.trace.specs.Rows.{rowHere}
 use Rattle.trace.specs.Questions.{Question, firstNo}
 use Rattle.order.specs.Clock.{rowIn}

@@ -7,7 +7,7 @@ use lib.Dec.{eqb}
 use Rattle.trace.specs.Questions.{firstNo}
 use Rattle.extents.specs.declared.Answer as extents
 use Rattle.extents.specs.declared.Answer.the-variants.{Done, Listed, Refused}
-use Rattle.trace.specs.declared.Row.{Row}
+use Rattle.fields.specs.declared.Row.{Row}
 use Rattle.layers.specs.Layers.{ofFile}
 use Rattle.layers.specs.States.{Header, lawfulState}
 use Rattle.layers.specs.Steps.{Answer, refusing, done, listed, Step, rowAsked}

@@ -12,7 +12,7 @@ ghost use Rattle.layers.specs.States.{processLimit};
 ghost use Rattle.layers.specs.Steps.{rowAsked};
 ghost use Rattle.asking.specs.Answers.{headerOf, refusalOf, countOf};
 use extents::Answer;
-use trace::Row;
+use fields::Row;
 
 // What a machine serves: a model, processes below a limit, one file, and maps with space for so many pieces each. A plain file's model is not
 // read.

@@ -1,9 +1,9 @@
 // The bench lines that are not theorems: what the whole call answers to each text. What it writes is held to the file stdout.
+use asking::Machine;
 use checker::Judged;
 use extents::Answer;
-use asking::Machine;
+use fields::Row;
 use machine::Made;
-use trace::Row;
 
 fn put(text: &[u8]) {
     io::write_all(1, text);

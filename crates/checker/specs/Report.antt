@@ -6,7 +6,7 @@ use lib.ListN.{length, drop}
 use lib.Dec.{leb}
 use Rattle.models.specs.Operations.{POSIX, COMMIT-MODEL, SESSION, MPI-IO}
 use Rattle.print.specs.Decimal.{decimalOf}
-use Rattle.trace.specs.declared.Row.{Row}
+use Rattle.fields.specs.declared.Row.{Row}
 use Rattle.trace.specs.Questions.{Outcome, refused, accepted, checkTrace}
 use Rattle.races.specs.Races.{Verdict, free, racing, verdictOf}
 

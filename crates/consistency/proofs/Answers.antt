@@ -9,7 +9,7 @@ use lib.ListN.{length, drop}
 use lib.Dec.{leb, eqb}
 use borrow.Author.Tests.{leb-true, ltb-true}
 use Rattle.models.specs.Operations.{READ}
-use Rattle.trace.specs.declared.Row.{Row}
+use Rattle.fields.specs.declared.Row.{Row}
 use Rattle.order.proofs.Below.{and-out}
 use Rattle.runs.specs.Cells.{Bytes, numberIn, inRange}
 use Rattle.runs.specs.Runs.{piecesOf}

@@ -12,7 +12,7 @@ use borrow.Author.Tests.{lt-ltb, ne-eqb, eqb-true, eqb-false, not-true}
 use Rattle.models.specs.Limits.{MODELS}
 use Rattle.models.specs.Operations.{READ, WRITE, COMMIT, SEND, COMMIT-MODEL}
 use Rattle.models.specs.Table.{publishes, refreshes}
-use Rattle.trace.specs.declared.Row.{Row}
+use Rattle.fields.specs.declared.Row.{Row}
 use Rattle.order.specs.Order.{rowAt, edge, hb}
 use Rattle.order.proofs.Below.{and-out}
 use Rattle.order.proofs.Clocks.{edge-forward, hb-iff}

@@ -9,7 +9,7 @@ use lib.Dec.{eqb}
 use borrow.Author.Tests.{ne-eqb, eqb-true}
 use Rattle.models.specs.Operations.{READ, WRITE, COMMIT, COMMIT-MODEL}
 use Rattle.models.specs.Table.{publishes, refreshes}
-use Rattle.trace.specs.declared.Row.{Row}
+use Rattle.fields.specs.declared.Row.{Row}
 use Rattle.order.specs.Order.{rowAt}
 use Rattle.order.proofs.Below.{and-out}
 use Rattle.runs.specs.Cells.{Bytes, cellOf, numberIn, unpublished, cleared, inRange, overwrite, settled, refreshed}

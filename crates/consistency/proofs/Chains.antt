@@ -12,7 +12,7 @@ use borrow.Author.Tests.{lt-ltb, ltb-true, le-leb, leb-true, eq-eqb, ne-eqb, eqb
 use Rattle.models.specs.Limits.{MODELS}
 use Rattle.models.specs.Operations.{READ, WRITE, COMMIT, OPEN, CLOSE, SYNC, SEND}
 use Rattle.models.specs.Table.{publishes, refreshes}
-use Rattle.trace.specs.declared.Row.{Row}
+use Rattle.fields.specs.declared.Row.{Row}
 use Rattle.order.specs.Order.{rowAt, sameProcess}
 use Rattle.order.proofs.Below.{and-out}
 use Rattle.runs.specs.Cells.{inRange}

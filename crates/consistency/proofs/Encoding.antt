@@ -11,7 +11,7 @@ use lib.Dec.{leb, eqb}
 use borrow.Author.Tests.{le-leb, lt-ltb, eq-eqb}
 use Rattle.models.specs.Limits.{MODELS, PROCESSES, ROWS, FILES, OFFSET-MAX}
 use Rattle.models.specs.Operations.{READ, WRITE}
-use Rattle.trace.specs.declared.Row.{Row}
+use Rattle.fields.specs.declared.Row.{Row}
 use Rattle.order.proofs.Below.{or-right}
 use Rattle.runs.specs.Cells.{Bytes, numberIn}
 use Rattle.runs.specs.Runs.{Run, piecesOf}

@@ -8,7 +8,7 @@ use lib.Dec.{eqb}
 use borrow.Author.Tests.{eqb-true}
 use Rattle.models.specs.Operations.{READ, WRITE}
 use Rattle.models.specs.Table.{publishes, refreshes}
-use Rattle.trace.specs.declared.Row.{Row}
+use Rattle.fields.specs.declared.Row.{Row}
 use Rattle.order.specs.Order.{rowAt, edge}
 use Rattle.order.proofs.Below.{and-out}
 use Rattle.order.proofs.Clocks.{edge-forward, edge-in, program-order}

@@ -4,7 +4,7 @@ use mathlib.Core.Path.{_≡_, refl}
 use mathlib.Core.Logic.{_⊎_, inl, inr}
 use mathlib.Core.Bool.{true}
 use mathlib.Core.List.{List, [], _∷_, _++_, reverseAux, reverse, reverseAux-append, reverse-reverse}
-use Rattle.trace.specs.declared.Row.{Row}
+use Rattle.fields.specs.declared.Row.{Row}
 use Rattle.order.specs.Order.{edge, one}
 use Rattle.consistency.specs.Orders.{In, Once, Stands, Allowed}
 use Rattle.consistency.proofs.Core.{Trace, Ok, none, next}

@@ -11,7 +11,7 @@ use Rattle.models.specs.Operations.{WRITE, COMMIT, CLOSE, SEND, RECV, COMMIT-MO
 use Rattle.models.specs.Table.{publishes, refreshes}
 use Rattle.csv.specs.Reading.{records, recordsFrom, onFound, readAt, fieldsFrom, onStop, prepend, fieldAt}
 use Rattle.csv.specs.Reading.{afterCR, stopOf, run as runText, isText, contentOf, sameBytes}
-use Rattle.trace.specs.declared.Row.{Row}
+use Rattle.fields.specs.declared.Row.{Row}
 use Rattle.trace.specs.Rows.{wordOf, usedBy, allDigits, startsPlain, valueFrom, rowOf}
 use Rattle.trace.specs.Questions.{firstNo, callQuestions, filledAsUsed, numbersInRange, any, messageInOrder, fieldQuestions, rowQuestions}
 use Rattle.trace.specs.Questions.{judgeRows, readTrace, checkTrace, accepted}

@@ -11,7 +11,7 @@ use borrow.Author.Tests.{eqb-true, eq-eqb, ltb-true, lt-ltb}
 use Rattle.models.specs.Limits.{MODELS, PROCESSES, ROWS, FILES, OFFSET-MAX}
 use Rattle.models.specs.Operations.{READ, WRITE, COMMIT, SEND, COMMIT-MODEL}
 use Rattle.csv.specs.Reading.{records}
-use Rattle.trace.specs.declared.Row.{Row}
+use Rattle.fields.specs.declared.Row.{Row}
 use Rattle.trace.specs.Questions.{checkTrace, accepted}
 use Rattle.trace.proofs.Laws.{WellFormed, Sound, accepted-passed, accepted-sound}
 use Rattle.order.specs.Order.{rowAt, noRow}

@@ -8,7 +8,7 @@ use lib.ListN.{length}
 use lib.Dec.{eqb}
 use Rattle.models.specs.Limits.{ROWS, FILES, OFFSET-MAX}
 use Rattle.models.specs.Operations.{WRITE, COMMIT, COMMIT-MODEL}
-use Rattle.trace.specs.declared.Row.{Row}
+use Rattle.fields.specs.declared.Row.{Row}
 use Rattle.order.specs.Order.{rowAt}
 use Rattle.runs.specs.Cells.{numberIn}
 use Rattle.layers.specs.Layers.{ofFile}

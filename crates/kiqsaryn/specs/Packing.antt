@@ -11,7 +11,7 @@ use Rattle.races.specs.declared.Found.the-variants.{Free, Race, Refused as Refu
 use Rattle.races.specs.Scan.{answerOf, countsAfter}
 use Rattle.trace.specs.declared.Checked.{Checked}
 use Rattle.trace.specs.declared.Checked.the-variants.{Accepted, Refused as RefusedAt}
-use Rattle.trace.specs.declared.Row.{Row}
+use Rattle.fields.specs.declared.Row.{Row}
 use Rattle.trace.specs.Questions.{Question, firstNo, Outcome, checkedOf, rowsLeft, countsLeft}
 use Rattle.layers.specs.States.{Header}
 use Rattle.layers.specs.Steps as steps

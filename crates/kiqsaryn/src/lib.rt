@@ -9,13 +9,13 @@ ghost use Rattle.checker.specs.Report.{reportLength, reportIn};
 ghost use Rattle.layers.specs.Steps.{makingQuestions, plainMakingQuestions, stepOf, plainStepOf};
 ghost use Rattle.machine.specs.Replays.{replayOf, plainReplayOf};
 ghost use Rattle.kiqsaryn.specs.Packing.{Gives, Fills, Judges, headed, rowed, Makes, StepGives, ReplayGives};
-use extents::Answer;
 use asking::Machine;
+use extents::Answer;
+use fields::Row;
 use machine::Made;
 use order::Filled;
 use races::Found;
 use trace::Checked;
-use trace::Row;
 
 // Checks a trace, as trace::check_trace does. The answer is the row count of an accepted trace, below 2^32, and of a refusal its number
 // times 2^32 plus its place.

@@ -11,7 +11,7 @@ ghost use Rattle.asking.specs.Answers.{headerOf, Steps, Ready};
 ghost use Rattle.asking.specs.Answers.{putTo};
 use asking::Machine;
 use extents::Answer;
-use trace::Row;
+use fields::Row;
 
 // A lawful state: a header as for making, a slice that is long enough, and lawful maps in it.
 pub fn is_state(machine: Machine, maps: &[u32]) -> bool

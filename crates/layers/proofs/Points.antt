@@ -12,7 +12,7 @@ use borrow.Author.Tests.{eqb-true, ne-eqb}
 use Rattle.models.specs.Limits.{ROWS, OFFSET-MAX}
 use Rattle.models.specs.Operations.{WRITE}
 use Rattle.models.specs.Table.{publishes, refreshes}
-use Rattle.trace.specs.declared.Row.{Row}
+use Rattle.fields.specs.declared.Row.{Row}
 use Rattle.runs.specs.Cells.{Bytes, cellOf, numberIn, unpublished, cleared, inRange, overwrite, published, settled, refreshed}
 use Rattle.runs.specs.Runs.{runsOf, piecesOf}
 use Rattle.runs.specs.Points.{In}

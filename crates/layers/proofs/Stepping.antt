@@ -10,7 +10,7 @@ use borrow.Author.Tests.{le-leb, leb-true, ltb-true, eq-eqb}
 use Rattle.models.specs.Limits.{MODELS}
 use Rattle.models.specs.Operations.{WRITE}
 use Rattle.models.specs.Table.{publishes, refreshes}
-use Rattle.trace.specs.declared.Row.{Row}
+use Rattle.fields.specs.declared.Row.{Row}
 use Rattle.trace.specs.Questions.{Question, firstNo}
 use Rattle.runs.specs.Cells.{Bytes, cellOf, overwrite, published, settled, refreshed}
 use Rattle.runs.specs.Runs.{Run}

@@ -5,7 +5,7 @@ use mathlib.Core.Bool.{cond}
 use lib.Dec.{eqb}
 use Rattle.models.specs.Operations.{READ, WRITE, COMMIT, OPEN, CLOSE, SYNC, POSIX, COMMIT-MODEL, SESSION, MPI-IO}
 use Rattle.models.specs.Table.{publishes, refreshes}
-use Rattle.trace.specs.declared.Row.{Row}
+use Rattle.fields.specs.declared.Row.{Row}
 use Rattle.layers.specs.Layers.{Layers, written, publishing, refreshing, afterRow}
 
 -- a row of a kind by process p

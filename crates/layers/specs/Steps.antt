@@ -6,7 +6,7 @@ use lib.ListN.{length, drop, replicate}
 use lib.Dec.{leb, ltb, eqb}
 use Rattle.models.specs.Limits.{MODELS, ROWS, FILES, OFFSET-MAX}
 use Rattle.models.specs.Operations.{READ, WRITE}
-use Rattle.trace.specs.declared.Row.{Row}
+use Rattle.fields.specs.declared.Row.{Row}
 use Rattle.trace.specs.Questions.{Question, firstNo}
 use Rattle.runs.specs.Cells.{Bytes}
 use Rattle.runs.specs.Runs.{Run}

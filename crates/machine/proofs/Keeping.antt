@@ -11,7 +11,7 @@ use lib.Dec.{leb, ltb, eqb}
 use borrow.Author.Tests.{leb-true, ltb-true, lt-ltb, eqb-true}
 use Rattle.models.specs.Limits.{OFFSET-MAX}
 use Rattle.models.specs.Operations.{READ, WRITE}
-use Rattle.trace.specs.declared.Row.{Row}
+use Rattle.fields.specs.declared.Row.{Row}
 use Rattle.trace.specs.Questions.{Question, firstNo}
 use Rattle.runs.specs.Runs.{Run, runsOf}
 use Rattle.runs.specs.Maps.{threes, runs, bytesOf, lawful, lawfulPublished, noMarks, mapAt}

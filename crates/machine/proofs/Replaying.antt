@@ -8,7 +8,7 @@ use lib.ListN.{length, take, drop, set, length-set, length-append, length-drop, 
 use lib.Seq.{length-take-le, take-all}
 use lib.Dec.{leb, eqb}
 use borrow.Author.Tests.{leb-true, eq-eqb, ne-eqb}
-use Rattle.trace.specs.declared.Row.{Row}
+use Rattle.fields.specs.declared.Row.{Row}
 use Rattle.trace.specs.Questions.{firstNo}
 use Rattle.order.specs.Clock.{rowIn}
 use Rattle.runs.proofs.Trips.{both}

@@ -10,7 +10,7 @@ ghost use Rattle.machine.specs.Makes.{madeOf};
 ghost use Rattle.machine.specs.Replays.{replayOf, plainReplayOf, Replays};
 use asking::Machine;
 use extents::Answer;
-use trace::Row;
+use fields::Row;
 
 // A machine over the slice, or the number of the question that was answered No.
 pub enum Made {

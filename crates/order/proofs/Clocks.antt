@@ -9,7 +9,7 @@ use mathlib.Core.List.{List}
 use lib.ListN.{length}
 use lib.Dec.{ltb, eqb}
 use borrow.Author.Tests.{lt-ltb, ltb-true, eq-eqb, eqb-true, eqb-false}
-use Rattle.trace.specs.declared.Row.{Row}
+use Rattle.fields.specs.declared.Row.{Row}
 use Rattle.order.specs.Counting.{anyBelow, countBelow}
 use Rattle.order.specs.Order.{rowAt, sameProcess, delivers, edge, HB, one, more, hbWithin, hb, upTo, count}
 use Rattle.order.specs.Clock.{lastBelow, fromLast, joinedTo, clock}

@@ -10,7 +10,7 @@ use lib.ListN.{length, getD, take, drop, replicate, length-append, length-replic
 use lib.Seq.{take-at, drop-at, getD-append-add, drop-drop, drop-append-add}
 use lib.Dec.{leb, eqb}
 use borrow.Author.Tests.{leb-true}
-use Rattle.trace.specs.declared.Row.{Row}
+use Rattle.fields.specs.declared.Row.{Row}
 use Rattle.trace.specs.Rows.{rowsIn, rowHere}
 use Rattle.order.specs.Counting.{values, blocks}
 use Rattle.order.specs.Order.{noRow, rowAt, delivers, count, countsOf, fits, filledOf, filledLeft}

@@ -5,7 +5,7 @@ use mathlib.Core.Bool.{Bool, cond}
 use mathlib.Core.List.{List, _++_}
 use lib.ListN.{getD, take, drop}
 use lib.Dec.{eqb}
-use Rattle.trace.specs.declared.Row.{Row}
+use Rattle.fields.specs.declared.Row.{Row}
 use Rattle.trace.specs.Rows.{rowHere}
 use Rattle.order.specs.Counting.{values}
 use Rattle.order.specs.Order.{rowAt, delivers, count}

@@ -6,7 +6,7 @@ use mathlib.Core.List.{List, [], _∷_, _++_}
 use lib.ListN.{length, getD, replicate}
 use lib.Dec.{leb, ltb, eqb}
 use Rattle.models.specs.Limits.{ROWS, PROCESSES}
-use Rattle.trace.specs.declared.Row.{Row}
+use Rattle.fields.specs.declared.Row.{Row}
 use Rattle.trace.specs.Rows.{SEND, RECV, rowsIn}
 use Rattle.order.specs.Counting.{anyBelow, countBelow, values, blocks}
 use Rattle.order.specs.declared.Filled.{Filled}

@@ -10,7 +10,7 @@ use lib.Dec.{leb, eqb}
 use borrow.Author.Tests.{le-leb, lt-leb, leb-true, lt-ltb, le-ltb, ne-eqb}
 use Rattle.models.specs.Limits.{ROWS, FILES, OFFSET-MAX}
 use Rattle.models.specs.Operations.{READ, WRITE}
-use Rattle.trace.specs.declared.Row.{Row}
+use Rattle.fields.specs.declared.Row.{Row}
 use Rattle.trace.specs.Questions.{firstNo}
 use Rattle.runs.specs.Cells.{Bytes, cellOf, overwrite}
 use Rattle.runs.specs.Runs.{Run, runsOf, piecesOf}

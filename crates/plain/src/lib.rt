@@ -7,7 +7,7 @@ ghost use Rattle.asking.specs.Answers.{headerOf, Steps};
 ghost use Rattle.asking.specs.Answers.{putTo};
 use asking::Machine;
 use extents::Answer;
-use trace::Row;
+use fields::Row;
 
 // A lawful plain file: limits as for making, a slice that is long enough, and a lawful map without marks.
 pub fn is_plain(plain: Machine, map: &[u32]) -> bool

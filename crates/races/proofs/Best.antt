@@ -13,7 +13,7 @@ use lib.Dec.{leb, ltb, eqb}
 use borrow.Author.Tests.{lt-ltb, ltb-true, le-leb, leb-true, eq-eqb, ne-eqb, eqb-true}
 use Rattle.models.specs.Operations.{READ, WRITE}
 use Rattle.models.specs.Table.{publishes, refreshes}
-use Rattle.trace.specs.declared.Row.{Row}
+use Rattle.fields.specs.declared.Row.{Row}
 use Rattle.order.specs.Counting.{anyBelow}
 use Rattle.order.specs.Order.{rowAt, edge, HB, one, more, hb, upTo, count}
 use Rattle.order.proofs.Below.{and-out, or-out, or-right, same-test, not-passed, count-less, count-cut}

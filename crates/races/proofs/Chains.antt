@@ -10,7 +10,7 @@ use lib.Dec.{ltb, eqb}
 use borrow.Author.Tests.{lt-ltb, ltb-true, eq-eqb, eqb-true}
 use Rattle.models.specs.Operations.{COMMIT, OPEN, CLOSE, SYNC}
 use Rattle.models.specs.Table.{publishes, refreshes}
-use Rattle.trace.specs.declared.Row.{Row}
+use Rattle.fields.specs.declared.Row.{Row}
 use Rattle.order.specs.Counting.{anyBelow}
 use Rattle.order.specs.Order.{rowAt, sameProcess, edge, HB, one, more, hb}
 use Rattle.order.proofs.Below.{and-out, same-test, any-in, any-out}

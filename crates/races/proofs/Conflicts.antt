@@ -6,7 +6,7 @@ use mathlib.Core.Bool.{Bool, true, false, not, _&&_, _||_, or-true}
 use lib.Dec.{eqb}
 use borrow.Author.Tests.{eq-eqb, ne-eqb, eqb-true, eqb-false, not-true}
 use Rattle.models.specs.Operations.{READ, WRITE}
-use Rattle.trace.specs.declared.Row.{Row}
+use Rattle.fields.specs.declared.Row.{Row}
 use Rattle.order.specs.Order.{sameProcess}
 use Rattle.order.proofs.Below.{and-out, or-out}
 use Rattle.races.specs.Races.{isWrite, isData, sameFile, shareByte, conflict}

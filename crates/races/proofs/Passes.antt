@@ -13,7 +13,7 @@ use lib.Dec.{leb, ltb, eqb}
 use borrow.Author.Tests.{eq-eqb, ne-eqb, lt-ltb, le-ltb}
 use Rattle.models.specs.Operations.{READ}
 use Rattle.models.specs.Table.{publishes, refreshes}
-use Rattle.trace.specs.declared.Row.{Row}
+use Rattle.fields.specs.declared.Row.{Row}
 use Rattle.trace.specs.Rows.{rowsIn, rowHere}
 use Rattle.order.specs.Order.{rowAt, count, countsOf}
 use Rattle.order.specs.Clock.{rowIn, cellIn}

@@ -9,7 +9,7 @@ use lib.Dec.{ltb, eqb}
 use borrow.Author.Tests.{lt-ltb, ltb-true, eq-eqb, eqb-true}
 use Rattle.models.specs.Operations.{WRITE}
 use Rattle.models.specs.Table.{publishes}
-use Rattle.trace.specs.declared.Row.{Row}
+use Rattle.fields.specs.declared.Row.{Row}
 use Rattle.order.specs.Order.{rowAt, edge, HB}
 use Rattle.order.proofs.Below.{and-out, same-test}
 use Rattle.order.proofs.Clocks.{edge-forward, HB-less, hb-iff}

@@ -9,7 +9,7 @@ use mathlib.Core.List.{List}
 use lib.ListN.{length}
 use lib.Dec.{ltb, eqb}
 use borrow.Author.Tests.{lt-ltb, ltb-true, eqb-true, eqb-false}
-use Rattle.trace.specs.declared.Row.{Row}
+use Rattle.fields.specs.declared.Row.{Row}
 use Rattle.order.specs.Counting.{anyBelow}
 use Rattle.order.proofs.Below.{and-out, any-in, any-out}
 use Rattle.races.specs.Races.{shareByte, race, leastFrom, Verdict, free, racing, verdictOf}

@@ -9,7 +9,7 @@ use lib.Dec.{leb, ltb, eqb}
 use Rattle.models.specs.Operations.{READ, WRITE}
 use Rattle.models.specs.Limits.{MODELS}
 use Rattle.models.specs.Table.{publishes, refreshes}
-use Rattle.trace.specs.declared.Row.{Row}
+use Rattle.fields.specs.declared.Row.{Row}
 use Rattle.trace.specs.Rows.{rowsIn}
 use Rattle.order.specs.Order.{rowAt, sameProcess, count, countsOf, fits, filledLeft}
 use Rattle.order.specs.Clock.{rowIn, cellIn}

@@ -12,9 +12,9 @@ use borrow.Author.Tests.{lt-ltb, le-ltb, le-leb, lt-leb, eq-eqb, ne-eqb, eqb-tru
 use Rattle.csv.specs.Reading.{contentOf, noSpan, sameBytes}
 use Rattle.csv.specs.declared.Span.{Span}
 use Rattle.models.specs.Limits.{MODELS, PROCESSES, ROWS}
-use Rattle.trace.specs.declared.Row.{Row}
-use Rattle.trace.specs.declared.fields.Judged.{Judged}
-use Rattle.trace.specs.declared.fields.Judged.the-variants.{Kept, No}
+use Rattle.fields.specs.declared.Row.{Row}
+use Rattle.fields.specs.declared.Judged.{Judged}
+use Rattle.fields.specs.declared.Judged.the-variants.{Kept, No}
 use Rattle.trace.specs.Rows.{headerNames, sameFields, rowOf}
 use Rattle.trace.specs.Questions.{Question, firstNo, inLimits, callQuestions, fieldQuestions, messageInOrder}
 use Rattle.trace.specs.Reads.{fieldsOf, judgedBy, judgedFields, judgedRow, headed}

@@ -8,7 +8,7 @@ use mathlib.Core.List.{List, [], _∷_}
 use lib.ListN.{drop}
 use lib.Seq.{drop-drop}
 use borrow.Author.Tests.{eq-eqb, ne-eqb}
-use Rattle.trace.specs.declared.Row.{Row}
+use Rattle.fields.specs.declared.Row.{Row}
 use Rattle.trace.specs.Rows.{SEND, RECV, rowHere, rowsIn}
 use Rattle.trace.specs.Questions.{any, carries, messageInOrder}
 use Rattle.trace.specs.Reads.{matches}

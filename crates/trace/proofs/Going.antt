@@ -15,10 +15,10 @@ use Rattle.csv.specs.declared.Answer.the-variants.{End, Malformed, Limit, Recor
 use Rattle.csv.proofs.Limit.{records-next}
 use Rattle.csv.proofs.Places.{found-places}
 use Rattle.csv.proofs.Answers.{Told, tells, all-six}
-use Rattle.trace.specs.declared.Row.{Row}
+use Rattle.fields.specs.declared.Row.{Row}
 use Rattle.trace.specs.declared.Checked.the-variants.{Accepted, Refused}
-use Rattle.trace.specs.declared.fields.Judged.{Judged}
-use Rattle.trace.specs.declared.fields.Judged.the-variants.{Kept, No}
+use Rattle.fields.specs.declared.Judged.{Judged}
+use Rattle.fields.specs.declared.Judged.the-variants.{Kept, No}
 use Rattle.trace.specs.Rows.{rowOf, six, numbers, rowsIn}
 use Rattle.trace.specs.Questions.{Question, firstNo, fieldQuestions, rowQuestions, messageInOrder, Outcome, refused, accepted, judgeRows, checkedOf, Holds}
 use Rattle.trace.specs.Reads.{fieldsOf, judgedBy, judgedRow, judgeFrom}

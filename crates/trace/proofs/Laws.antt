@@ -10,7 +10,7 @@ use lib.Dec.{leb, eqb}
 use borrow.Author.Tests.{leb-true, ltb-true, eqb-true, eqb-false}
 use Rattle.csv.specs.Reading.{Records, records, Ending, all-read, at-malformed, at-limit}
 use Rattle.models.specs.Limits.{PROCESSES, ROWS, FILES, MESSAGES, OFFSET-MAX}
-use Rattle.trace.specs.declared.Row.{Row}
+use Rattle.fields.specs.declared.Row.{Row}
 use Rattle.trace.specs.Rows.{KINDS, kindOf, usedBy, isPlain, value, valueFrom, isNumber, field, rowOf, numbers, six, rowHere, rowsIn}
 use Rattle.trace.specs.Questions.{Question, firstNo, callQuestions, isHeader, kindKnown, asUsed, filledAsUsed, numberIf, numbersInRange, endInRange, messageInOrder, fieldQuestions, rowQuestions, Outcome, refused, accepted, judgeRows, judgeHeader, readTrace, checkTrace, rowsLeft}
 

@@ -2,8 +2,5 @@ pub mod Laws
 pub mod Slices
 pub mod Earlier
 pub mod Asking
-pub mod Numbers
-pub mod Words
-pub mod Judging
 pub mod Going
 pub mod Whole

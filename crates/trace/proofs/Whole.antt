@@ -13,7 +13,7 @@ use Rattle.csv.specs.Reading.{contentOf, sameBytes, readAt, records, recordsFro
 use Rattle.csv.specs.declared.Span.{Span}
 use Rattle.csv.proofs.Limit.{records-next}
 use Rattle.csv.proofs.Answers.{all-six}
-use Rattle.trace.specs.declared.Row.{Row}
+use Rattle.fields.specs.declared.Row.{Row}
 use Rattle.trace.specs.declared.Checked.{Checked}
 use Rattle.trace.specs.declared.Checked.the-variants.{Accepted, Refused}
 use Rattle.trace.specs.Rows.{headerNames, sameFields, numbers}

@@ -1,42 +1,17 @@
 -- What the parts of the reading answer, put together from the questions. These are the contracts of private functions; specs/Questions.antt
--- says what the whole call answers.
-use Prim.Native.Nat.{ℕ, suc, _-_}
-use mathlib.Core.Bool.{Bool, true, false, cond, not, _&&_, _||_}
-use mathlib.Core.List.{List, [], _∷_, _++_, map}
+-- says what the whole call answers. What is answered of one record's fields is defined in the crate `fields`.
+use Prim.Native.Nat.{ℕ, suc}
+use mathlib.Core.Bool.{Bool, not, _&&_, _||_}
+use mathlib.Core.List.{List, [], _∷_, _++_}
 use lib.ListN.{length}
-use lib.Dec.{ltb, eqb}
-use Rattle.csv.specs.Reading.{contentOf, recordsFrom, Records}
-use Rattle.csv.specs.declared.Span.{Span}
-use Rattle.trace.specs.declared.Row.{Row}
-use Rattle.trace.specs.declared.fields.Number.{Number}
-use Rattle.trace.specs.declared.fields.Number.the-variants.{Plain, Bad}
-use Rattle.trace.specs.declared.fields.Used.{Used}
-use Rattle.trace.specs.declared.fields.Judged.{Judged}
-use Rattle.trace.specs.declared.fields.Judged.the-variants.{Kept, No}
-use Rattle.trace.specs.Rows.{numberUpTo, field, rowOf}
-use Rattle.trace.specs.Questions.{Question, firstNo, fieldQuestions, inRowLimit, messageInOrder, asUsed, carries, isHeader, Outcome, judgeRows}
-
--- the contents of spans
-abbrev pub fieldsOf : List ℕ → List Span → List (List ℕ)
-fieldsOf text spans = map (contentOf text) spans
-
--- question 9 for given used fields
-unfoldable pub fillsAs : Used → List (List ℕ) → Bool
-fillsAs u fields =
-    asUsed true (field fields 0)
-    && (asUsed (u .file) (field fields 2)
-    && (asUsed (u .range) (field fields 3) && (asUsed (u .range) (field fields 4) && asUsed (u .message) (field fields 5))))
-
--- the number of a used field, 0 of any other
-abbrev pub numberWhere : Bool → ℕ → List ℕ → Number
-numberWhere used most content = cond used (numberUpTo most content) (Plain 0)
-
--- the row of a record, or the first No
-abbrev pub judgedBy : ℕ → List (List ℕ) → Judged
-judgedBy first fields = cond (eqb first 0) (Kept (rowOf fields)) (No first)
-
-unfoldable pub judgedFields : ℕ → List (List ℕ) → Judged
-judgedFields processLimit fields = judgedBy (firstNo (fieldQuestions processLimit fields)) fields
+use lib.Dec.{eqb}
+use Rattle.csv.specs.Reading.{recordsFrom, Records}
+use Rattle.fields.specs.declared.Row.{Row}
+use Rattle.fields.specs.declared.Judged.{Judged}
+pub use Rattle.fields.specs.Reads.{fieldsOf, numberWhere, judgedBy}
+unfoldable pub use Rattle.fields.specs.Reads.{fillsAs, judgedFields}
+use Rattle.trace.specs.Rows.{rowOf}
+use Rattle.trace.specs.Questions.{Question, firstNo, fieldQuestions, inRowLimit, messageInOrder, carries, isHeader, Outcome, judgeRows}
 
 -- the questions 6 to 12 of a record of `count` fields, of which the first six are given, behind n rows
 unfoldable pub judgedRow : ℕ → ℕ → ℕ → List Row → ℕ → List (List ℕ) → Judged

@@ -1,5 +1,4 @@
 // Traces: rows of file operations, read from RFC 4180 text into slices that the caller lends, and the questions that an input is asked.
-mod fields;
 mod rows;
 
 ghost use mathlib.Core.Path.{_≡_};
@@ -10,16 +9,6 @@ ghost use Rattle.trace.specs.Questions.{firstNo, callQuestions, readTrac
 ghost use Rattle.trace.specs.Reads.{fieldsOf, headed};
 use csv::Answer;
 use csv::Span;
-
-// A row: six numbers in field order. Fields that the kind does not use are 0.
-pub struct Row {
-    pub process: u32,
-    pub kind: u32,
-    pub file: u32,
-    pub offset: u32,
-    pub length: u32,
-    pub message: u32,
-}
 
 // The answer to a trace: its row count, or the number of the question that was answered No and the record's place.
 pub enum Checked {

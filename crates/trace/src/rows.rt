@@ -8,10 +8,10 @@ ghost use Rattle.trace.specs.Rows.{six, rowHere, rowsIn};
 ghost use Rattle.trace.specs.Questions.{any, messageInOrder, checkedOf, Holds};
 ghost use Rattle.trace.specs.Reads.{fieldsOf, matches, judgedRow, judgeFrom};
 use crate::Checked;
-use crate::Row;
-use crate::fields::Judged;
 use csv::Answer;
 use csv::Span;
+use fields::Judged;
+use fields::Row;
 
 // Lays a row down at a place.
 fn put_row(rows: &mut [u32], at: usize, row: Row)
@@ -97,7 +97,7 @@ fn judge_row(
     if count != 6 {
         return Judged::No(7);
     }
-    match crate::fields::judge_fields(text, spans, process_limit) {
+    match fields::judge_fields(text, spans, process_limit) {
         Judged::No(k) => Judged::No(k),
         Judged::Kept(row) => {
             if !in_order(rows, n, row) {

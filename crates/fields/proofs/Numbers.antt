@@ -12,10 +12,10 @@ use lib.Dec.{leb, eqb}
 use borrow.Author.Tests.{le-leb, lt-leb, eqb-true}
 use Rattle.csv.specs.Reading.{within, rawOf, contentOf, undouble}
 use Rattle.csv.specs.declared.Span.{Span}
-use Rattle.trace.specs.declared.fields.Number.{Number}
-use Rattle.trace.specs.declared.fields.Number.the-variants.{Plain, Bad}
-use Rattle.trace.specs.Reads.{numberWhere}
-use Rattle.trace.specs.Rows.{allDigits, startsPlain, valueFrom, numberUpTo}
+use Rattle.fields.specs.declared.Number.{Number}
+use Rattle.fields.specs.declared.Number.the-variants.{Plain, Bad}
+use Rattle.fields.specs.Reads.{numberWhere}
+use Rattle.fields.specs.Rows.{allDigits, startsPlain, valueFrom, numberUpTo}
 
 -- the first byte: there is none, it is the only one, or one of several
 pub plain-none : (s : List ℕ) → length s ≡ 0 → false ≡ startsPlain s

@@ -7,9 +7,9 @@ use mathlib.Core.List.{List, [], _∷_, _++_}
 use lib.ListN.{length, getD, take, drop, replicate, getD-replicate, length-replicate, List·getD-append, List·getD-eq-default}
 use lib.Seq.{getD-append-add}
 use Rattle.csv.specs.Reading.{sameBytes, isNil}
-use Rattle.trace.specs.declared.fields.Used.{Used}
-use Rattle.trace.specs.Rows.{kindWords, wordOf, kindOf, usedBy, usedTable, ofRange, ofFile, ofMessage, ofNothing}
-use Rattle.trace.specs.Questions.{asUsed}
+use Rattle.fields.specs.declared.Used.{Used}
+use Rattle.fields.specs.Rows.{kindWords, wordOf, kindOf, usedBy, usedTable, ofRange, ofFile, ofMessage, ofNothing}
+use Rattle.fields.specs.Questions.{asUsed}
 
 -- a content that is none of the first n words, and the words that are left
 pub record Past (n : ℕ) (ws : List (List ℕ)) : Type 0 where

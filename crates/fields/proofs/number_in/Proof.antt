@@ -1,12 +1,12 @@
--- `trace::fields::number_in` meets its contract. Assumes nothing.
+-- `fields::number_in` meets its contract. Assumes nothing.
 use borrow.Author.Needs.{needs}
 use borrow.Author.Tests.{not-true, not-false}
 use Rattle.csv.specs.Reading.{contentOf}
-use Rattle.trace.proofs.Numbers.{number-unused, number-used}
+use Rattle.fields.proofs.Numbers.{number-unused, number-used}
 use mathlib.Core.Path.{_∙_}
 use denote.Ref.{now}
-use Rattle.trace.proofs.fields.number_in.Statement.{statement}
-use Rattle.trace.proofs.fields.number_in.Tie as tie
+use Rattle.fields.proofs.number_in.Statement.{statement}
+use Rattle.fields.proofs.number_in.Tie as tie
 
 returns : tie.Need-returns
 returns c =

@@ -1,11 +1,11 @@
--- `trace::fields::judge_fields` meets its contract. Assumes nothing.
+-- `fields::judge_fields` meets its contract. Assumes nothing.
 use borrow.Author.Needs.{needs}
-use Rattle.trace.proofs.Judging.{refused, passed, Known, Filled, Numbered, no-kind, no-filled, no-end, kept}
-use Rattle.trace.proofs.Judging.{no-process, no-file, no-offset, no-length, no-message}
+use Rattle.fields.proofs.Judging.{refused, passed, Known, Filled, Numbered, no-kind, no-filled, no-end, kept}
+use Rattle.fields.proofs.Judging.{no-process, no-file, no-offset, no-length, no-message}
 use denote.Ref.{now}
 use mathlib.Core.Path.{sym, _∙_}
-use Rattle.trace.proofs.fields.judge_fields.Statement.{statement}
-use Rattle.trace.proofs.fields.judge_fields.Tie as tie
+use Rattle.fields.proofs.judge_fields.Statement.{statement}
+use Rattle.fields.proofs.judge_fields.Tie as tie
 
 -- the record where its kind is known
 abbrev known : tie.After-used-by → Known

@@ -1,9 +1,9 @@
--- `trace::fields::starts_plain` meets its contract. Assumes nothing.
+-- `fields::starts_plain` meets its contract. Assumes nothing.
 use borrow.Author.Needs.{needs}
-use Rattle.trace.proofs.Numbers.{plain-none, plain-one, plain-more}
+use Rattle.fields.proofs.Numbers.{plain-none, plain-one, plain-more}
 use denote.Ref.{now}
-use Rattle.trace.proofs.fields.starts_plain.Statement.{statement}
-use Rattle.trace.proofs.fields.starts_plain.Tie as tie
+use Rattle.fields.proofs.starts_plain.Statement.{statement}
+use Rattle.fields.proofs.starts_plain.Tie as tie
 
 returns : tie.Need-returns
 returns c = plain-none (now (c .before .args .s)) (c .if1 .taken)

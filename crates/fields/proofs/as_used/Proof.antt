@@ -1,10 +1,10 @@
--- `trace::fields::as_used` meets its contract. Assumes nothing.
+-- `fields::as_used` meets its contract. Assumes nothing.
 use borrow.Author.Needs.{needs}
 use Rattle.csv.specs.Reading.{contentOf}
-use Rattle.trace.proofs.Words.{filled-used, empty-unused}
+use Rattle.fields.proofs.Words.{filled-used, empty-unused}
 use denote.Ref.{now}
-use Rattle.trace.proofs.fields.as_used.Statement.{statement}
-use Rattle.trace.proofs.fields.as_used.Tie as tie
+use Rattle.fields.proofs.as_used.Statement.{statement}
+use Rattle.fields.proofs.as_used.Tie as tie
 
 is-empty-requires : tie.Need-is-empty-requires
 is-empty-requires c κs = search needs

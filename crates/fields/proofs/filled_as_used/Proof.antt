@@ -1,10 +1,10 @@
--- `trace::fields::filled_as_used` meets its contract. Assumes nothing.
+-- `fields::filled_as_used` meets its contract. Assumes nothing.
 use borrow.Author.Needs.{needs}
-use Rattle.trace.proofs.Judging.{refused, passed, fills-not-process, fills-not-file, fills-not-offset, fills-not-length, fills-message}
+use Rattle.fields.proofs.Judging.{refused, passed, fills-not-process, fills-not-file, fills-not-offset, fills-not-length, fills-message}
 use denote.Ref.{now}
 use mathlib.Core.Path.{_∙_}
-use Rattle.trace.proofs.fields.filled_as_used.Statement.{statement}
-use Rattle.trace.proofs.fields.filled_as_used.Tie as tie
+use Rattle.fields.proofs.filled_as_used.Statement.{statement}
+use Rattle.fields.proofs.filled_as_used.Tie as tie
 
 array-copy-out-as-used : tie.Need-array-copy-out-as-used
 array-copy-out-as-used c = search needs

@@ -1,15 +1,15 @@
--- `trace::fields::digits` meets its contract. Assumes nothing.
+-- `fields::digits` meets its contract. Assumes nothing.
 use borrow.Author.Needs.{needs}
-use Rattle.trace.specs.Rows.{numberUpTo}
-use Rattle.trace.proofs.Judging.{refused, passed}
-use Rattle.trace.proofs.Numbers.{numberFrom, number-start, number-none, digit-low, digit-high, digit-on, digit-past, digits-end}
+use Rattle.fields.specs.Rows.{numberUpTo}
+use Rattle.fields.proofs.Judging.{refused, passed}
+use Rattle.fields.proofs.Numbers.{numberFrom, number-start, number-none, digit-low, digit-high, digit-on, digit-past, digits-end}
 use Prim.Native.Nat.{_-_, _≤_}
 use native.Mathlib.Omega.{arith}
 use mathlib.Core.Path.{_≡_, sym, _∙_}
 use lib.ListN.{length, drop}
 use denote.Ref.{now}
-use Rattle.trace.proofs.fields.digits.Statement.{statement}
-use Rattle.trace.proofs.fields.digits.Tie as tie
+use Rattle.fields.proofs.digits.Statement.{statement}
+use Rattle.fields.proofs.digits.Tie as tie
 
 abbrev Inv-loop : tie.InvT-loop
 Inv-loop s most v₀ i₀ v i = (v ≤ most) × (numberUpTo most s ≡ numberFrom most v (drop i s))

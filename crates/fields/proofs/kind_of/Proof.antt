@@ -1,12 +1,12 @@
--- `trace::fields::kind_of` meets its contract. Assumes nothing.
+-- `fields::kind_of` meets its contract. Assumes nothing.
 use borrow.Author.Needs.{needs}
 use Rattle.csv.specs.Reading.{contentOf}
-use Rattle.trace.specs.Rows.{kindWords}
-use Rattle.trace.proofs.Words.{Past, start, next, here, none}
+use Rattle.fields.specs.Rows.{kindWords}
+use Rattle.fields.proofs.Words.{Past, start, next, here, none}
 use lib.ListN.{drop}
 use denote.Ref.{now}
-use Rattle.trace.proofs.fields.kind_of.Statement.{statement}
-use Rattle.trace.proofs.fields.kind_of.Tie as tie
+use Rattle.fields.proofs.kind_of.Statement.{statement}
+use Rattle.fields.proofs.kind_of.Tie as tie
 
 -- where the first words are not the content
 abbrev past1 : tie.Else1 → Past 1 (drop 1 kindWords)

@@ -1,29 +1,38 @@
-// The fields of one record: its kind, which fields that kind uses, and their numbers.
+// The fields of one record: its kind, which fields that kind uses, their numbers, and the row that they make.
 ghost use mathlib.Core.Path.{_≡_};
 ghost use mathlib.Core.Bool.{cond};
 ghost use Prim.Native.Nat.{_<_};
 ghost use Rattle.csv.specs.Reading.{contentOf};
-ghost use Rattle.trace.specs.Rows.{kindOf, usedBy, startsPlain, numberUpTo};
-ghost use Rattle.trace.specs.Questions.{asUsed};
-ghost use Rattle.trace.specs.Reads.{fieldsOf, fillsAs, numberWhere, judgedFields};
-use crate::Row;
+ghost use Rattle.fields.specs.Rows.{kindOf, usedBy, startsPlain, numberUpTo};
+ghost use Rattle.fields.specs.Questions.{asUsed};
+ghost use Rattle.fields.specs.Reads.{fieldsOf, fillsAs, numberWhere, judgedFields};
 use csv::Span;
 
+// A row: six numbers in field order. Fields that the kind does not use are 0.
+pub struct Row {
+    pub process: u32,
+    pub kind: u32,
+    pub file: u32,
+    pub offset: u32,
+    pub length: u32,
+    pub message: u32,
+}
+
 // A number within its range, or what is none.
-pub(crate) enum Number {
+pub enum Number {
     Plain(u32),
     Bad,
 }
 
 // The fields that a kind uses besides process and kind; offset and length go together.
-pub(crate) struct Used {
+pub struct Used {
     pub file: bool,
     pub range: bool,
     pub message: bool,
 }
 
 // A record's row, or the number of the question that was answered No.
-pub(crate) enum Judged {
+pub enum Judged {
     Kept(Row),
     No(u32),
 }
@@ -170,7 +179,7 @@ fn number_in(text: &[u8], span: Span, most: u32, used: bool) -> Number
 }
 
 // The questions 8 to 11, put to a record of six fields.
-pub(crate) fn judge_fields(text: &[u8], spans: [Span; 6], process_limit: u32) -> Judged
+pub fn judge_fields(text: &[u8], spans: [Span; 6], process_limit: u32) -> Judged
     requires { ⌜ 0 < «process_limit» ⌝ }
     ensures { λ r. ⌜ r ≡ judgedFields «process_limit» (fieldsOf (now (text .entry)) spans) ⌝ }
 {

@@ -1,7 +1,7 @@
--- `trace::fields::used_by` meets its contract. Assumes nothing.
-use Rattle.trace.proofs.Words.{used-range, used-file, used-message, used-nothing}
-use Rattle.trace.proofs.fields.used_by.Statement.{statement}
-use Rattle.trace.proofs.fields.used_by.Tie as tie
+-- `fields::used_by` meets its contract. Assumes nothing.
+use Rattle.fields.proofs.Words.{used-range, used-file, used-message, used-nothing}
+use Rattle.fields.proofs.used_by.Statement.{statement}
+use Rattle.fields.proofs.used_by.Tie as tie
 
 returns : tie.Need-returns
 returns c = used-range _ (c .if1 .taken)

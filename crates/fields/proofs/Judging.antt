@@ -10,15 +10,15 @@ use borrow.Author.Tests.{lt-ltb, le-ltb, le-leb, lt-leb, leb-true, not-true, not
 use Rattle.csv.specs.Reading.{contentOf, noSpan}
 use Rattle.csv.specs.declared.Span.{Span}
 use Rattle.models.specs.Limits.{FILES, MESSAGES, OFFSET-MAX}
-use Rattle.trace.specs.declared.Row.{Row}
-use Rattle.trace.specs.declared.fields.Number.{Number}
-use Rattle.trace.specs.declared.fields.Number.the-variants.{Plain, Bad}
-use Rattle.trace.specs.declared.fields.Used.{Used}
-use Rattle.trace.specs.declared.fields.Judged.{Judged}
-use Rattle.trace.specs.declared.fields.Judged.the-variants.{Kept, No}
-use Rattle.trace.specs.Rows.{KINDS, kindOf, usedBy, isPlain, isNumber, value, valueFrom, numberUpTo, field, rowOf}
-use Rattle.trace.specs.Questions.{firstNo, fieldQuestions, kindKnown, asUsed, filledAsUsed, numberIf, numbersInRange, endInRange}
-use Rattle.trace.specs.Reads.{fieldsOf, fillsAs, numberWhere, judgedBy, judgedFields}
+use Rattle.fields.specs.declared.Row.{Row}
+use Rattle.fields.specs.declared.Number.{Number}
+use Rattle.fields.specs.declared.Number.the-variants.{Plain, Bad}
+use Rattle.fields.specs.declared.Used.{Used}
+use Rattle.fields.specs.declared.Judged.{Judged}
+use Rattle.fields.specs.declared.Judged.the-variants.{Kept, No}
+use Rattle.fields.specs.Rows.{KINDS, kindOf, usedBy, isPlain, isNumber, value, valueFrom, numberUpTo, field, rowOf}
+use Rattle.fields.specs.Questions.{firstNo, fieldQuestions, kindKnown, asUsed, filledAsUsed, numberIf, numbersInRange, endInRange}
+use Rattle.fields.specs.Reads.{fieldsOf, fillsAs, numberWhere, judgedBy, judgedFields}
 
 -- a test that `!` turned round
 pub refused : {x r : Bool} → r ≡ x → not r ≡ true → x ≡ false

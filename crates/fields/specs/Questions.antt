@@ -1,0 +1,63 @@
+-- A question and its answer, and the questions 8 to 11, which are put to the fields of one record, each one definition, in document 01's
+-- order; the first No decides.
+use Prim.Native.Nat.{ℕ, _+_, _-_}
+use mathlib.Core.Bool.{Bool, true, false, cond, not, _&&_}
+use mathlib.Core.List.{List, [], _∷_}
+use lib.Dec.{leb, ltb}
+use Rattle.csv.specs.Reading.{isNil}
+use Rattle.models.specs.Limits.{FILES, MESSAGES, OFFSET-MAX}
+use Rattle.fields.specs.declared.Row.{Row}
+use Rattle.fields.specs.Rows.{KINDS, kindOf, usedBy, isNumber, field, rowOf}
+
+-- a question's number and its answer
+pub record Question : Type 0 where
+  pub number : ℕ
+  pub yes : Bool
+
+-- the number of the first No, and 0 where every answer is Yes
+unfoldable pub firstNo : List Question → ℕ
+firstNo [] = 0
+firstNo (q ∷ qs) = cond (q .yes) (firstNo qs) (q .number)
+
+-- 8. Is the kind known?
+abbrev pub kindKnown : List (List ℕ) → Bool
+kindKnown fields = ltb (kindOf (field fields 1)) KINDS
+
+-- filled where used, and empty where not
+abbrev pub asUsed : Bool → List ℕ → Bool
+asUsed true content = not (isNil content)
+asUsed false content = isNil content
+
+-- 9. Are the used fields filled and the unused empty?
+unfoldable pub filledAsUsed : List (List ℕ) → Bool
+filledAsUsed fields =
+    let u = usedBy (kindOf (field fields 1)) in
+    asUsed true (field fields 0)
+    && (asUsed (u .file) (field fields 2)
+    && (asUsed (u .range) (field fields 3) && (asUsed (u .range) (field fields 4) && asUsed (u .message) (field fields 5))))
+
+-- a field that is not used has no number to judge
+abbrev pub numberIf : Bool → ℕ → List ℕ → Bool
+numberIf true most content = isNumber most content
+numberIf false most content = true
+
+-- 10. Is each number plain and within its range?
+unfoldable pub numbersInRange : ℕ → List (List ℕ) → Bool
+numbersInRange processLimit fields =
+    let u = usedBy (kindOf (field fields 1)) in
+    isNumber (processLimit - 1) (field fields 0)
+    && (numberIf (u .file) (FILES - 1) (field fields 2)
+    && (numberIf (u .range) OFFSET-MAX (field fields 3)
+    && (numberIf (u .range) OFFSET-MAX (field fields 4) && numberIf (u .message) (MESSAGES - 1) (field fields 5))))
+
+-- 11. Is offset + length at most 4,294,967,295?
+abbrev pub endInRange : Row → Bool
+endInRange r = leb (r .offset + r .length) OFFSET-MAX
+
+-- the questions 8 to 11
+unfoldable pub fieldQuestions : ℕ → List (List ℕ) → List Question
+fieldQuestions processLimit fields =
+    record { number = 8; yes = kindKnown fields }
+    ∷ (record { number = 9; yes = filledAsUsed fields }
+    ∷ (record { number = 10; yes = numbersInRange processLimit fields }
+    ∷ (record { number = 11; yes = endInRange (rowOf fields) } ∷ [])))
