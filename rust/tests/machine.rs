@@ -1,30 +1,10 @@
 //! Every vector of `vectors/machine.txt`: the answer, the whole slice of maps and the whole answer slice.
 
-use kiqsaryn::{make, make_plain, step, step_plain, Header, Refusal, Row, READ};
+#[allow(dead_code)]
+mod state;
 
-/// A machine (with its model) or a plain file, over a slice.
-struct State {
-    model: Option<u32>,
-    header: Header,
-    maps: Vec<u32>,
-    fill: u32,
-}
-
-impl State {
-    fn make(&mut self) -> Result<(), Refusal> {
-        match self.model {
-            Some(model) => make(model, self.header, &mut self.maps),
-            None => make_plain(self.header, &mut self.maps),
-        }
-    }
-
-    fn step(&mut self, row: Row, number: u32, out: &mut [u32]) -> Result<u32, Refusal> {
-        match self.model {
-            Some(model) => step(model, self.header, &mut self.maps, row, number, out),
-            None => step_plain(self.header, &mut self.maps, row, number, out),
-        }
-    }
-}
+use kiqsaryn::{Header, Row, READ};
+use state::State;
 
 #[test]
 fn every_machine_vector() {
@@ -32,6 +12,7 @@ fn every_machine_vector() {
     let text = std::fs::read_to_string(path).expect("the vectors");
     let mut lines = text.lines().enumerate().peekable();
     let mut state = None;
+    let mut fill = 0;
     let (mut made, mut steps) = (0, 0);
     while let Some((at, line)) = lines.next() {
         let w: Vec<&str> = line.split(' ').collect();
@@ -42,8 +23,8 @@ fn every_machine_vector() {
                 let model = (w[0] == "M").then(|| n(2));
                 let at = if model.is_some() { 3 } else { 2 };
                 let header = Header { process_limit: n(at), file: n(at + 1), map_space: n(at + 2) };
-                let fill = n(at + 4);
-                let mut s = State { model, header, maps: vec![fill; n(at + 3) as usize], fill };
+                fill = n(at + 4);
+                let mut s = State { model, header, maps: vec![fill; n(at + 3) as usize] };
                 expected = s.maps.clone();
                 let answer = match s.make() {
                     Ok(()) => "made".to_string(),
@@ -60,7 +41,7 @@ fn every_machine_vector() {
             "S" => {
                 let s = state.as_mut().expect("a state");
                 let row = Row { process: n(2), kind: n(3), file: n(4), offset: n(5), length: n(6), message: n(7) };
-                let blank = s.fill + 1;
+                let blank = fill + 1;
                 let mut out = vec![blank; n(8) as usize];
                 let answer = s.step(row, n(1), &mut out);
                 let count = answer.unwrap_or(0) as usize;

@@ -6,21 +6,15 @@
 
 #[allow(dead_code)]
 mod naive;
+mod state;
 
-use kiqsaryn::{make, make_plain, replay, replay_plain, step, step_plain, Header, Refusal, Replayed, Row, COMMIT, READ, RECV, SYNC, WRITE};
+use kiqsaryn::{Header, Refusal, Replayed, Row, COMMIT, READ, RECV, SYNC, WRITE};
 use naive::machine::{self, encode, numbers, Cell, Lent};
 use naive::random::{setting, Random};
+use state::State;
 
 const STEPS: u64 = 300_000;
 const SEED: u64 = 20_240_202;
-
-/// A machine, or a plain file where there is no model, over a slice.
-#[derive(Clone, Debug)]
-struct State {
-    model: Option<u32>,
-    header: Header,
-    maps: Vec<u32>,
-}
 
 /// How often each answer came.
 #[derive(Default, Debug)]
@@ -45,27 +39,6 @@ fn again(seed: u64) -> String {
 }
 
 impl State {
-    fn make(&mut self) -> Result<(), Refusal> {
-        match self.model {
-            Some(model) => make(model, self.header, &mut self.maps),
-            None => make_plain(self.header, &mut self.maps),
-        }
-    }
-
-    fn step(&mut self, row: Row, number: u32, out: &mut [u32]) -> Result<u32, Refusal> {
-        match self.model {
-            Some(model) => step(model, self.header, &mut self.maps, row, number, out),
-            None => step_plain(self.header, &mut self.maps, row, number, out),
-        }
-    }
-
-    fn replay(&mut self, rows: &[u32], first: u32, n: u32, counts: &mut [u32], out: &mut [u32]) -> Replayed {
-        match self.model {
-            Some(model) => replay(model, self.header, &mut self.maps, rows, first, n, counts, out),
-            None => replay_plain(self.header, &mut self.maps, rows, first, n, counts, out),
-        }
-    }
-
     /// Where each map lies in the slice; none where the limits are wild.
     fn parts(&self) -> Vec<std::ops::Range<usize>> {
         let space = 4 * self.header.map_space as usize;

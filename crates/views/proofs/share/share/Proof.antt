@@ -151,7 +151,7 @@ lay-own-requires c κs =
     let a = p7 .args in
     let p = p7 .pre in
     let room =
-    own-room (a .space) (a .view) (a .below) (a .start) (a .end) (a .number) (now (a .maps)) (p .0) (p .1 .0 .3) (c .before .before .runs-in .ensures) (c .before .if2 .taken) in
+    own-room (a .space) (a .view) (a .below) (a .start) (a .end) (a .number) (now (a .maps)) (p .0) (p .1 .0 .3) (c .before .before .runs-in .ensures) (omega (arith, c .before .if2 .taken)) in
     (two-parts (a .space) (a .view) (a .below) (now (a .maps)) (p .0), room)
 
 add-put-2 : tie.Need-add-put-2
@@ -185,7 +185,7 @@ part-put-end-2 c =
     shared (a .space) (a .view) (a .below) (a .start) (a .end) (a .number) (now (a .maps)) (p .0) (p .1 .0 .0)
     (omega (arith, p10 .fits .end)) (p .1 .0 .2) (p .1 .1) in
     let room =
-    own-room (a .space) (a .view) (a .below) (a .start) (a .end) (a .number) (now (a .maps)) (p .0) (p .1 .0 .3) (p5 .runs-in .ensures) (p4 .if2 .taken) in
+    own-room (a .space) (a .view) (a .below) (a .start) (a .end) (a .number) (now (a .maps)) (p .0) (p .1 .0 .3) (p5 .runs-in .ensures) (omega (arith, p4 .if2 .taken)) in
     let k = out-laid s room (c .before .before .lay-own .ensures) in
     omega (arith, holds-two (s .two) k .below-in)
 
@@ -201,7 +201,7 @@ put-requires-2 c κs =
     shared (a .space) (a .view) (a .below) (a .start) (a .end) (a .number) (now (a .maps)) (p .0) (p .1 .0 .0)
     (omega (arith, p11 .fits .end)) (p .1 .0 .2) (p .1 .1) in
     let room =
-    own-room (a .space) (a .view) (a .below) (a .start) (a .end) (a .number) (now (a .maps)) (p .0) (p .1 .0 .3) (p6 .runs-in .ensures) (p5 .if2 .taken) in
+    own-room (a .space) (a .view) (a .below) (a .start) (a .end) (a .number) (now (a .maps)) (p .0) (p .1 .0 .3) (p6 .runs-in .ensures) (omega (arith, p5 .if2 .taken)) in
     let k = out-laid s room (p3 .lay-own .ensures) in
     ((lent-below (s .two) k, s .fine), alone-fit s k)
 
@@ -221,7 +221,7 @@ returns-2 c =
     shared (a .space) (a .view) (a .below) (a .start) (a .end) (a .number) (now (a .maps)) (p .0) (p .1 .0 .0)
     (omega (arith, p14 .fits .end)) (p .1 .0 .2) (p .1 .1) in
     let room =
-    own-room (a .space) (a .view) (a .below) (a .start) (a .end) (a .number) (now (a .maps)) (p .0) (p .1 .0 .3) (p9 .runs-in .ensures) (p8 .if2 .taken) in
+    own-room (a .space) (a .view) (a .below) (a .start) (a .end) (a .number) (now (a .maps)) (p .0) (p .1 .0 .3) (p9 .runs-in .ensures) (omega (arith, p8 .if2 .taken)) in
     let k = out-laid s room (p6 .lay-own .ensures) in
     shared-end (a .space) (a .view) (a .below) (a .start) (a .end) (a .number) (now (a .maps)) (alone-end s k (c .before .before .put2 .ensures))
 
