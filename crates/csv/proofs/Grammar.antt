@@ -3,6 +3,7 @@
 use Prim.Native.Nat.{ℕ, suc, zero, _+_, _-_, _≤_, _<_}
 use native.Mathlib.Omega.{arith}
 use native.Mathlib.Nat.{le-refl}
+use native.Mathlib.Decide.{decLt}
 use mathlib.Core.Path.{_≡_, refl, sym, ap, _∙_}
 use mathlib.Core.Logic.{_↔_}
 use mathlib.Core.Bool.{Bool, true, false, cond}
@@ -17,6 +18,7 @@ use Rattle.csv.specs.declared.Span.{Span}
 use Rattle.csv.proofs.Fields.{behind}
 use Rattle.csv.proofs.Records.{Halt, line, whole, after, record-found, Derived, found-derived, Settled, settled}
 use Rattle.csv.proofs.Places.{found-places}
+use Rattle.csv.proofs.Limit.{limit-same}
 
 -- a record at the front of a text is what its length takes
 line-own : {t own rest : List ℕ} {fields : List (List ℕ)} → Line t own fields rest → take (length own) t ≡ own
@@ -213,4 +215,34 @@ unfolding records
 records-text text limit rows h = (
   λ e. rw (ap (λ (r : Records). r .rows) e) at (read-text text limit h _ 0 (omega arith) (ap (λ (r : Records). r .ending) e)),
   λ t. text-read text limit h t _ 0 refl (omega arith),
+)
+
+-- where all of a text is read, the text ends within the limit
+within-limit : (text : List ℕ) (limit k at : ℕ) → length text < at + k → at ≤ limit → recordsFrom k text limit at .ending ≡ all-read →
+    length text ≤ limit
+unfolding recordsFrom onFound
+within-limit text limit zero at h i e = omega arith
+within-limit text limit (suc k) at h i e = go (readAt text at limit) refl e (λ p j. within-limit text limit k p j) (decLt limit (length text))
+  where
+    go : (f : Found) → readAt text at limit ≡ f → onFound text f (λ p. recordsFrom k text limit p) .ending ≡ all-read →
+        ((p : ℕ) → length text < p + k → p ≤ limit → recordsFrom k text limit p .ending ≡ all-read → length text ≤ limit) →
+        Dec (limit < length text) → length text ≤ limit
+    go nothing q e r d =
+        let same = limit-same text at limit (λ p. let z : _≡_ {A = ℕ} 0 1 = cc in absurd (omega arith)) in
+        omega (arith, nothing-end text (length text) (le-refl (length text)) at (sym same ∙ q))
+    go malformed q e r d = let z : _≡_ {A = ℕ} 0 1 = cc in absurd (omega arith)
+    go past-limit q e r d = let z : _≡_ {A = ℕ} 0 1 = cc in absurd (omega arith)
+    go (found spans end next) q e r (yes l) =
+        let p = found-places text at limit spans end next q in
+        r next (omega arith) (p .4 l) e
+    go (found spans end next) q e r (no l) = omega arith
+
+-- All of a text is read exactly where it ends within the limit and the grammar derives it, and its records are those that are derived.
+pub all-read-iff : (text : List ℕ) (limit : ℕ) (rows : List (List (List ℕ))) →
+    (records text limit ≡ record { rows = rows; ending = all-read }) ↔ ((length text ≤ limit) × Text text rows)
+unfolding records
+all-read-iff text limit rows = (
+  λ e. let h = within-limit text limit (suc (length text)) 0 (omega arith) (omega arith) (ap (λ (r : Records). r .ending) e) in
+      (h, records-text text limit rows h .0 e),
+  λ (h, t). records-text text limit rows h .1 t,
 )
