@@ -34,7 +34,7 @@ mul-spans : tie.Need-mul-spans Inv-loop μ-loop
 mul-spans c = omega (arith, c .if1 .taken)
 
 array-set-from-spans : tie.Need-array-set-from-spans Inv-loop μ-loop
-array-set-from-spans c = c .if1 .taken
+array-set-from-spans c = omega (arith, c .if1 .taken)
 
 -- the spans after the branch: those of the fields read, the new one with them
 kept : (c : lts.Joined1 (field-at-reads.Asked, field-at-reads.Learnt, refusal-reads.Asked, refusal-reads.Learnt) reads.Pre reads.Post Inv-loop μ-loop) →
@@ -43,7 +43,7 @@ kept c =
     let l = c .before .before .before .loop in
     let x = c .before .before .field-at .result .span in
     stored (l .inv) x
-    (⊎-elim (λ w. inl (w .0 .taken, w .1)) (λ w. inr (w .0 .left, w .1)) (c .if1 .came))
+    (⊎-elim (λ w. inl (omega (arith, w .0 .taken), w .1)) (λ w. inr (w .0 .left, w .1)) (c .if1 .came))
 
 add-count : tie.Need-add-count Inv-loop μ-loop
 add-count c = omega (arith, c .before .before .before .loop .inv .few)
