@@ -4,3 +4,4 @@ pub mod Earlier
 pub mod Asking
 pub mod Going
 pub mod Whole
+pub mod Accepting
