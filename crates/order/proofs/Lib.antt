@@ -4,3 +4,4 @@ pub mod Cells
 pub mod Joins
 pub mod Filling
 pub mod Sounds
+pub mod Messages
