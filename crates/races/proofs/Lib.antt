@@ -7,3 +7,4 @@ pub mod Scans
 pub mod Cells
 pub mod Passes
 pub mod Whole
+pub mod Meaning
