@@ -11,3 +11,4 @@ pub mod Going
 pub mod Contents
 pub mod Examples
 pub mod Answers
+pub mod Cutting

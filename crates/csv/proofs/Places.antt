@@ -2,7 +2,7 @@
 use Prim.Native.Nat.{ℕ, suc, zero, _+_, _-_, _≤_, _<_}
 use native.Mathlib.Omega.{arith}
 use native.Mathlib.Decide.{decLe}
-use mathlib.Core.Path.{_≡_, refl, ap, _∙_}
+use mathlib.Core.Path.{_≡_, refl, ap, subst, _∙_}
 use mathlib.Core.Bool.{Bool, true, false, cond}
 use mathlib.Core.List.{List, [], _∷_, _++_, append-nil}
 use mathlib.Core.Logic.{_⊎_, inl, inr}
@@ -70,7 +70,7 @@ run-more (b ∷ t) u h = go (isText b) h (run-more t u)
     go false g more = refl
 
 -- a run ends within the bytes
-run-in : (w : List ℕ) → run w ≤ length w
+pub run-in : (w : List ℕ) → run w ≤ length w
 unfolding run
 run-in [] = omega arith
 run-in (b ∷ t) = go (isText b) (run-in t)
@@ -105,6 +105,10 @@ mutual
   after-more (b ∷ t) u n d k h =
       goes-cond u k (eqb b DQUOTE) (quotes (suc (suc n)) true t) (quotes (suc (suc n)) true (t ++ u)) (Closed n d) (Closed n d)
       (quotes-more t u (suc (suc n)) true k (omega arith)) (omega arith, inl refl)
+
+-- a closing quote stands within the bytes
+pub closed-in : (w : List ℕ) (n : ℕ) (d : Bool) → quotes 0 false w ≡ Closed n d → n < length w
+closed-in w n d e = let g = subst (λ q. Goes [] (length w) q (quotes 0 false (w ++ []))) e (quotes-more w [] 0 false (length w) (omega arith)) in g .0
 
 -- more bytes open no quote at a place, but where it is the end of those before
 quote-more : (p u : List ℕ) (at : ℕ) → at ≤ length p → (length p ≤ at → eqb (getD u 0 0) DQUOTE ≡ false) →
@@ -268,7 +272,7 @@ fields-past k s at h =
     rw (past-end s true at h, drop-of-length-le s l)
 
 -- a record behind a field is the record that was found, behind it
-prepend-found : (span : Span) (r : Found) (spans : List Span) (end next : ℕ) → prepend span r ≡ found spans end next →
+pub prepend-found : (span : Span) (r : Found) (spans : List Span) (end next : ℕ) → prepend span r ≡ found spans end next →
     (rest : List Span) × (r ≡ found rest end next)
 unfolding prepend
 prepend-found span nothing spans end next e = let z : _≡_ {A = ℕ} 0 1 = cc in absurd (omega arith)
