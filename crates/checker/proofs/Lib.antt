@@ -1,3 +1,4 @@
 pub mod Lines
 pub mod Verdicts
 pub mod Reports
+pub mod Input

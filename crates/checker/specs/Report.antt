@@ -1,5 +1,5 @@
 -- What the program prints: CSV with CR LF, a line for each model, or one line for a refusal.
-use Prim.Native.Nat.{ℕ, _*_}
+use Prim.Native.Nat.{ℕ, _+_, _*_}
 use mathlib.Core.Bool.{cond}
 use mathlib.Core.List.{List, [], _∷_, _++_}
 use lib.ListN.{length, drop}
@@ -73,6 +73,10 @@ reportOf (accepted rows) =
 
 abbrev pub BYTES : ℕ
 BYTES = 8192
+
+-- what the program's buffer holds: one byte more than the limit, so that a byte behind the limit is seen to be there
+abbrev pub INPUT : ℕ
+INPUT = BYTES + 1
 
 abbrev pub REPORT-ROWS : ℕ
 REPORT-ROWS = 128

@@ -56,6 +56,9 @@ pub fn judge(
     }
 }
 
+// The bytes of the program's input buffer: the 8,192 of the longest trace that it takes, and one that tells a longer one.
+pub const INPUT: usize = 8193;
+
 // Puts what the program prints of a trace with header at the front of a slice, and answers its length. A slice of 256 bytes has room for
 // every report; a shorter one is left as it is, with the answer 0.
 pub fn report(text: &[u8], out: &mut [u8]) -> usize
@@ -77,6 +80,19 @@ pub fn report(text: &[u8], out: &mut [u8]) -> usize
         }
         Checked::Accepted(n) => put_models(out, rows, n, counts),
     }
+}
+
+// The report of what the program has read: the first n bytes of its input buffer, or all of them where n is larger.
+pub fn report_input(input: &[u8; INPUT], n: usize, out: &mut [u8]) -> usize
+    ensures answer { λ r. ⌜ r ≡ reportLength (take n (now (input .entry))) (now (out .entry)) ⌝ }
+    ensures left { λ r. ⌜ now (out .exit) ≡ reportIn (take n (now (input .entry))) (now (out .entry)) ⌝ }
+    ensures front { λ r. ⌜ (r ≤ length (now (out .exit))) × (r ≡ length (take r (now (out .exit)))) ⌝ }
+{
+    let text: &[u8] = input;
+    if n < text.len() {
+        return report(&text[..n], out);
+    }
+    report(text, out)
 }
 
 // The heading and the four models' lines.

@@ -1,10 +1,21 @@
 // Reads a trace with header from standard input and writes its verdict under each model, or its refusal. Of a longer input only the byte
-// behind the 8,192nd matters, and only that it is there.
+// behind the 8,192nd matters, and only that it is there. Where reading fails, nothing is written to standard output.
+use streams::Read;
+
+const STDIN: i32 = 0;
+
+const STDOUT: i32 = 1;
 
 fn main() {
-    let mut text = [0u8; 8193];
-    let n = io::read_full(0, &mut text);
-    let mut lines = [0u8; 256];
-    let m = checker::report(&text[..n], &mut lines);
-    io::write_all(1, &lines[..m]);
+    let mut input = [0u8; 8193];
+    match streams::read_all(STDIN, &mut input) {
+        Read::Failed => os::fail(b"verdict: standard input"),
+        Read::Whole(n) => {
+            let mut lines = [0u8; 256];
+            let m = checker::report_input(&input, n, &mut lines);
+            if !streams::write_all(STDOUT, &lines[..m]) {
+                os::fail(b"verdict: standard output");
+            }
+        }
+    }
 }
