@@ -20,12 +20,14 @@ pub enum Answer {
     Refused(u32),
 }
 
+// The map keeps all that document 01 asks of one: runs in rising order, as long as they can be, then 0.
 pub fn is_lawful(map: &[u32]) -> bool
     ensures { λ r. ⌜ r ≡ lawful (now (map .entry)) ⌝ }
 {
     maps::scan::is_lawful(map)
 }
 
+// The map is lawful and none of its runs is marked unpublished.
 pub fn is_published(map: &[u32]) -> bool
     ensures { λ r. ⌜ r ≡ lawfulPublished (now (map .entry)) ⌝ }
 {

@@ -270,12 +270,14 @@ fn edge(start: u32, end: u32, x: u32) -> u32
     4294967295
 }
 
+// The smaller of two numbers.
 pub fn least(a: u32, b: u32) -> u32
     ensures { λ r. ⌜ r ≡ min a b ⌝ }
 {
     if a < b { a } else { b }
 }
 
+// The larger of two numbers.
 pub fn most(a: u32, b: u32) -> u32
     ensures { λ r. ⌜ r ≡ max a b ⌝ }
 {

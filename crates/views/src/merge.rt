@@ -221,6 +221,7 @@ fn interleave(
     clear_from(maps, v + larger(n, first) * 4, v + space * 4);
 }
 
+// The larger of two numbers.
 pub fn larger(a: usize, b: usize) -> usize
     ensures { λ r. ⌜ r ≡ max a b ⌝ }
 {
