@@ -84,7 +84,12 @@ touch and what is missing between them.
   --header yes|no   the first record holds the names (yes) or is row 1 (no)
   --model M         posix, commit, session or mpiio; commit if left out
   --processes N     process numbers are below N; 1 to 64, 64 if left out
-  -o FILE           write to FILE; standard output if left out
+  -o FILE           write to FILE; standard output if left out, or for -
+
+FILE is replaced only once the picture is complete: it is written to a new file
+beside it, which then takes its name and keeps its mode. If FILE is a symbolic
+link, the file that it leads to is replaced; a pipe or a device is written to
+as it stands. FILE cannot be the trace, under whatever name.
 
 Exit status: 0 done, 2 refused, 3 wrong command line or file error.
 

@@ -2,7 +2,8 @@
 
 use crate::args::{Common, Source};
 use crate::explain::Rows;
-use crate::text::escape;
+use crate::standard;
+use crate::text::path_name;
 use kiqsaryn::{check_trace, fill_counts, Checked, Refusal, Settings, ROWS};
 use std::fs::File;
 use std::io::{self, Read};
@@ -87,18 +88,14 @@ fn record(text: &[u8], header: bool, number: u32) -> &[u8] {
     text.get(at..record_end(text, at).0).unwrap_or(&[])
 }
 
+/// The bytes of a trace up to the limit, and one more if there are more. No error is taken for the end.
 fn read_bytes(source: &Source, limit: usize) -> io::Result<Vec<u8>> {
-    let mut text = Vec::new();
-    let most = limit as u64 + 1;
-    match source {
-        Source::Standard => io::stdin().lock().take(most).read_to_end(&mut text)?,
-        Source::Path(path) => {
-            if path.is_dir() {
-                return Err(io::Error::other("it is a directory"));
-            }
-            File::open(path)?.take(most).read_to_end(&mut text)?
-        }
+    let file = match source {
+        Source::Standard => standard::input()?,
+        Source::Path(path) => File::open(path)?,
     };
+    let mut text = Vec::new();
+    file.take(limit as u64 + 1).read_to_end(&mut text)?;
     Ok(text)
 }
 
@@ -106,7 +103,7 @@ fn read_bytes(source: &Source, limit: usize) -> io::Result<Vec<u8>> {
 pub fn load(common: &Common) -> Result<Loaded, String> {
     let name = match &common.trace {
         Source::Standard => "standard input".to_string(),
-        Source::Path(path) => escape(path.as_os_str().as_encoded_bytes(), 400),
+        Source::Path(path) => path_name(path),
     };
     let byte_limit = byte_limit(common.header);
     let text = read_bytes(&common.trace, byte_limit).map_err(|e| format!("cannot read {name}: {e}"))?;

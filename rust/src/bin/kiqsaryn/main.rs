@@ -6,14 +6,15 @@ mod diagram;
 mod explain;
 mod help;
 mod input;
+mod output;
 mod refused;
 mod replay;
+mod standard;
 mod text;
 mod words;
 
-use args::{Common, Request, Source};
+use args::{Common, Request};
 use input::{Loaded, Trace};
-use std::fs;
 use std::io::{self, Write};
 use std::path::{Path, PathBuf};
 use std::process::ExitCode;
@@ -45,12 +46,17 @@ impl Outcome {
     }
 }
 
-/// Loads a trace and does the rest with it if it is accepted.
+/// Loads a trace and does the rest with it if it is accepted. Output that would overwrite the trace is not begun.
 fn with_trace(
     common: &Common,
+    output: Option<&Path>,
     refused: impl Fn(&input::Refused) -> Outcome,
     accepted: impl Fn(&Trace) -> Result<Outcome, String>,
 ) -> Outcome {
+    if output::overwrites(&common.trace, output) {
+        let place = if output.is_some() { "-o names" } else { "standard output is" };
+        return Outcome::failed(&format!("{place} the trace itself; nothing is written"));
+    }
     let done = match input::load(common) {
         Ok(Loaded::Accepted(trace)) => accepted(&trace),
         Ok(Loaded::Refused(r)) => Ok(refused(&r)),
@@ -59,23 +65,13 @@ fn with_trace(
     done.unwrap_or_else(|e| Outcome::failed(&e))
 }
 
-/// Whether both name one existing file.
-fn same_file(trace: &Source, output: &Path) -> bool {
-    let Source::Path(trace) = trace else {
-        return false;
-    };
-    match (fs::canonicalize(trace), fs::canonicalize(output)) {
-        (Ok(a), Ok(b)) => a == b,
-        _ => false,
-    }
-}
-
 fn run(request: Request) -> Outcome {
     match request {
         Request::Help(topic) => Outcome::out(help::help(topic).to_string(), FREE),
         Request::Version => Outcome::out(format!("kiqsaryn {}\n", env!("CARGO_PKG_VERSION")), FREE),
         Request::Check { common, models, csv } => with_trace(
             &common,
+            None,
             |r| Outcome::out(if csv { refused::csv(r) } else { refused::report(r) }, REFUSED),
             |trace| {
                 let verdicts = check::judge(trace, &models)?;
@@ -85,16 +81,15 @@ fn run(request: Request) -> Outcome {
         ),
         Request::Replay { common, file, model } => with_trace(
             &common,
+            None,
             |r| Outcome::out(refused::report(r), REFUSED),
             |trace| Ok(Outcome::out(replay::report(trace, file, model)?, FREE)),
         ),
         Request::Diagram { common, model, output } => {
             let output = output.filter(|o| o.as_os_str() != "-");
-            if output.as_ref().is_some_and(|o| same_file(&common.trace, o)) {
-                return Outcome::failed("-o names the trace itself; nothing is written");
-            }
             with_trace(
                 &common,
+                output.as_deref(),
                 |r| Outcome::err(refused::report(r), REFUSED),
                 |trace| Ok(Outcome { file: output.clone(), ..Outcome::out(diagram::svg(trace, model)?, FREE) }),
             )
@@ -105,12 +100,11 @@ fn run(request: Request) -> Outcome {
 /// Writes all at once. A failure has exit status 3.
 fn finish(outcome: Outcome) -> u8 {
     let _ = io::stderr().write_all(outcome.err.as_bytes());
+    let bytes = outcome.out.as_bytes();
     let written = match &outcome.file {
-        Some(path) => fs::write(path, &outcome.out).map_err(|e| format!("cannot write {}: {e}", path.display())),
-        None => {
-            let mut out = io::stdout().lock();
-            out.write_all(outcome.out.as_bytes()).and_then(|()| out.flush()).map_err(|e| format!("cannot write the output: {e}"))
-        }
+        Some(path) => output::to_file(path, bytes).map_err(|e| format!("cannot write {}: {e}", text::path_name(path))),
+        None if bytes.is_empty() => Ok(()),
+        None => output::to_standard(bytes).map_err(|e| format!("cannot write to standard output: {e}")),
     };
     match written {
         Ok(()) => outcome.status,

@@ -1,6 +1,7 @@
 //! Rows and bytes in words.
 
 use kiqsaryn::{Row, CLOSE, COMMIT, OPEN, READ, RECV, SEND, SYNC, WRITE};
+use std::path::Path;
 
 /// Lines of a report are no wider, save for records shown as they stand.
 pub const WIDTH: usize = 78;
@@ -22,6 +23,11 @@ pub fn escape(bytes: &[u8], most: usize) -> String {
         s.push_str(" ... (cut here)");
     }
     s
+}
+
+/// A path as printable text on one line.
+pub fn path_name(path: &Path) -> String {
+    escape(path.as_os_str().as_encoded_bytes(), 400)
 }
 
 /// A range of bytes by its first and last.
