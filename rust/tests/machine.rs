@@ -2,25 +2,25 @@
 
 #[allow(dead_code)]
 mod state;
+#[allow(dead_code)]
+mod vectors;
 
 use kiqsaryn::{Header, Row, READ};
 use state::State;
 
 #[test]
 fn every_machine_vector() {
-    let path = concat!(env!("CARGO_MANIFEST_DIR"), "/../vectors/machine.txt");
-    let text = std::fs::read_to_string(path).expect("the vectors");
-    let mut lines = text.lines().enumerate().peekable();
+    let text = vectors::text("machine.txt");
+    let mut lines = vectors::lines(&text).peekable();
     let mut state = None;
     let mut fill = 0;
-    let (mut made, mut steps) = (0, 0);
-    while let Some((at, line)) = lines.next() {
-        let w: Vec<&str> = line.split(' ').collect();
-        let n = |k: usize| w[k].parse::<u32>().expect("a number");
+    let mut run = 0;
+    while let Some(line) = lines.next() {
+        let n = |k: usize| line.number(k);
         let mut expected = state.as_ref().map_or(Vec::new(), |s: &State| s.maps.clone());
-        let answer = match w[0] {
-            "M" | "F" => {
-                let model = (w[0] == "M").then(|| n(2));
+        let answer = match line.kind(&[("M", 8), ("F", 7), ("!", 3), ("S", 9)]) {
+            kind @ ("M" | "F") => {
+                let model = (kind == "M").then(|| n(2));
                 let at = if model.is_some() { 3 } else { 2 };
                 let header = Header { process_limit: n(at), file: n(at + 1), map_space: n(at + 2) };
                 fill = n(at + 4);
@@ -31,22 +31,22 @@ fn every_machine_vector() {
                     Err(refusal) => format!("refused {}", refusal.number()),
                 };
                 state = Some(s);
-                made += 1;
+                run += 1;
                 answer
             }
             "!" => {
                 state.as_mut().expect("a state").maps[n(1) as usize] = n(2);
                 continue;
             }
-            "S" => {
+            _ => {
                 let s = state.as_mut().expect("a state");
                 let row = Row { process: n(2), kind: n(3), file: n(4), offset: n(5), length: n(6), message: n(7) };
                 let blank = fill + 1;
                 let mut out = vec![blank; n(8) as usize];
                 let answer = s.step(row, n(1), &mut out);
                 let count = answer.unwrap_or(0) as usize;
-                assert!(out[3 * count..].iter().all(|x| *x == blank), "the answer slice of line {}", at + 1);
-                steps += 1;
+                assert!(out[3 * count..].iter().all(|x| *x == blank), "the answer slice of {line}");
+                run += 1;
                 match answer {
                     Err(refusal) => format!("refused {}", refusal.number()),
                     Ok(_) if row.kind != READ => "done".to_string(),
@@ -57,17 +57,13 @@ fn every_machine_vector() {
                     }
                 }
             }
-            _ => panic!("line {}", at + 1),
         };
-        let (_, want) = lines.next().expect("an answer");
-        assert_eq!(format!("> {answer}"), want, "line {}", at + 1);
-        if let Some((_, line)) = lines.next_if(|(_, l)| l.starts_with('=')) {
-            expected = line.split(' ').skip(1).filter(|x| *x != "-").map(|x| x.parse().expect("a number")).collect();
+        let want = lines.next().expect("an answer");
+        assert_eq!(format!("> {answer}"), want.words.join(" "), "the answer of {line}");
+        if let Some(slice) = lines.next_if(|l| l.words[0] == "=") {
+            expected = slice.numbers("=");
         }
-        assert_eq!(state.as_ref().expect("a state").maps, expected, "the maps of line {}", at + 1);
+        assert_eq!(state.as_ref().expect("a state").maps, expected, "the maps of {line}");
     }
-    assert_eq!((made, steps), (MADE, STEPS));
+    vectors::all_run("machine.txt", &text, &["M", "F", "S"], run);
 }
-
-const MADE: usize = 500;
-const STEPS: usize = 2790;

@@ -1,17 +1,9 @@
-//! Every vector of `vectors/traces.txt`: the answer and both slices whole.
+//! Every vector of `vectors/traces.txt` and `vectors/aimed.txt`: the answer and both slices whole.
+
+#[allow(dead_code)]
+mod vectors;
 
 use kiqsaryn::{check_trace, fill_counts, verdict, Checked, Refusal, Settings, Verdict};
-
-fn bytes(hex: &str) -> Vec<u8> {
-    if hex == "-" {
-        return Vec::new();
-    }
-    (0..hex.len() / 2).map(|i| u8::from_str_radix(&hex[2 * i..2 * i + 2], 16).expect("hexadecimal")).collect()
-}
-
-fn numbers(line: &str) -> Vec<u32> {
-    line.split(' ').skip(1).filter(|w| !w.is_empty() && *w != "-").map(|w| w.parse().expect("a number")).collect()
-}
 
 /// A slice that holds these numbers, then 0.
 fn padded(front: &[u32], len: usize) -> Vec<u32> {
@@ -22,13 +14,22 @@ fn padded(front: &[u32], len: usize) -> Vec<u32> {
 
 #[test]
 fn every_trace_vector() {
-    let path = concat!(env!("CARGO_MANIFEST_DIR"), "/../vectors/traces.txt");
-    let text = std::fs::read_to_string(path).expect("the vectors");
-    let lines: Vec<&str> = text.lines().collect();
+    every_vector("traces.txt");
+}
+
+#[test]
+fn every_aimed_vector() {
+    every_vector("aimed.txt");
+}
+
+fn every_vector(file: &str) {
+    let text = vectors::text(file);
+    let mut lines = vectors::lines(&text);
     let mut run = 0;
-    for (i, line) in lines.iter().enumerate().filter(|(_, l)| l.starts_with("T ")) {
-        let w: Vec<&str> = line.split(' ').collect();
-        let n = |k: usize| w[k].parse::<u32>().expect("a number");
+    while let Some(line) = lines.next() {
+        line.kind(&[("T", 11)]);
+        let w = &line.words;
+        let n = |k: usize| line.number(k);
         let fill = n(8);
         let settings = Settings {
             header: n(2),
@@ -40,10 +41,13 @@ fn every_trace_vector() {
         let (rows_len, counts_len) = (n(6) as usize, n(7) as usize);
         let mut rows = vec![fill; rows_len];
         let mut counts = vec![fill as u16; counts_len];
-        let got = check_trace(&bytes(w[10]), settings, &mut rows, &mut counts);
+        let got = check_trace(&line.bytes(10), settings, &mut rows, &mut counts);
 
-        let a: Vec<&str> = lines[i + 1].split(' ').collect();
-        let v = |k: usize| a[k].parse::<u32>().expect("a number");
+        let answer = lines.next().expect("an answer");
+        let a = &answer.words;
+        let v = |k: usize| answer.number(k);
+        let known = matches!(a[..], ["A", "refused", _, _] | ["A", "accepted", _, "free"] | ["A", "accepted", _, "race", _, _]);
+        assert!(known, "{answer}: no answer");
         if a[1] == "refused" {
             let (number, place) = (v(2), v(3));
             let refusal = Refusal::from_number(number).expect("a refusal");
@@ -53,18 +57,18 @@ fn every_trace_vector() {
             assert!(counts.iter().all(|x| u32::from(*x) == left), "counts of vector {}", w[1]);
         } else {
             assert_eq!(got, Checked::Accepted(v(2)), "vector {}", w[1]);
-            assert_eq!(rows, padded(&numbers(lines[i + 2]), rows_len), "rows of vector {}", w[1]);
+            assert_eq!(rows, padded(&lines.next().expect("the rows").numbers("R"), rows_len), "rows of vector {}", w[1]);
             assert!(counts.iter().all(|x| *x == 0), "counts of vector {} are cleared", w[1]);
             assert!(fill_counts(&rows, v(2), settings.process_limit, &mut counts), "counts of vector {}", w[1]);
             let want = if a[3] == "free" { Verdict::Free } else { Verdict::Race { earlier: v(4), later: v(5) } };
             let judged = verdict(&rows, v(2), settings.process_limit, settings.model, &mut counts);
             assert_eq!(judged, want, "verdict of vector {}", w[1]);
             let wide: Vec<u32> = counts.iter().map(|x| u32::from(*x)).collect();
-            assert_eq!(wide, padded(&numbers(lines[i + 3]), counts_len), "counts of vector {}", w[1]);
+            assert_eq!(wide, padded(&lines.next().expect("the counts").numbers("C"), counts_len), "counts of vector {}", w[1]);
         }
         run += 1;
     }
-    assert_eq!(run, 600);
+    vectors::all_run(file, &text, &["T"], run);
 }
 
 #[test]

@@ -1,0 +1,67 @@
+//! The conformance vectors: the folder, the lines of a file, and the words of a line. `vectors/README.md` says what the lines mean.
+
+use std::fmt;
+use std::path::PathBuf;
+
+/// The text of a vector file. `KIQSARYN_VECTORS` names its folder, from the repository's root unless it is absolute.
+pub fn text(file: &str) -> String {
+    let folder = std::env::var_os("KIQSARYN_VECTORS").unwrap_or("vectors".into());
+    let path = PathBuf::from(concat!(env!("CARGO_MANIFEST_DIR"), "/..")).join(folder).join(file);
+    std::fs::read_to_string(&path).unwrap_or_else(|e| panic!("{}: {e}", path.display()))
+}
+
+/// A line of a vector file: its number and its words.
+pub struct Line<'a> {
+    number: usize,
+    pub words: Vec<&'a str>,
+}
+
+impl fmt::Display for Line<'_> {
+    fn fmt(&self, f: &mut fmt::Formatter) -> fmt::Result {
+        write!(f, "line {}, {:.40}", self.number, self.words.join(" "))
+    }
+}
+
+/// All lines, to be taken one by one; none is left out.
+pub fn lines(text: &str) -> impl Iterator<Item = Line<'_>> {
+    (1..).zip(text.lines()).map(|(number, line)| Line { number, words: line.split(' ').collect() })
+}
+
+impl Line<'_> {
+    /// The line's kind. Fails where the line has not as many words as lines of this kind have.
+    pub fn kind(&self, kinds: &[(&'static str, usize)]) -> &'static str {
+        let found = kinds.iter().find(|(kind, words)| self.words[0] == *kind && self.words.len() == *words);
+        found.unwrap_or_else(|| panic!("{self}: not one of {kinds:?}")).0
+    }
+
+    pub fn number(&self, k: usize) -> u32 {
+        let digits = self.words[k].bytes().all(|b| b.is_ascii_digit());
+        self.words[k].parse().ok().filter(|_| digits).unwrap_or_else(|| panic!("{self}: word {k} is no number"))
+    }
+
+    /// All numbers behind the kind; `-` alone is none.
+    pub fn numbers(&self, kind: &str) -> Vec<u32> {
+        assert_eq!(self.words[0], kind, "{self}");
+        match self.words[1..] {
+            ["-"] => Vec::new(),
+            _ => (1..self.words.len()).map(|k| self.number(k)).collect(),
+        }
+    }
+
+    /// The bytes of a hexadecimal word; `-` is none.
+    pub fn bytes(&self, k: usize) -> Vec<u8> {
+        if self.words[k] == "-" {
+            return Vec::new();
+        }
+        let digits: Option<Vec<u8>> = self.words[k].chars().map(|c| c.to_digit(16).map(|d| d as u8)).collect();
+        let digits = digits.filter(|d| d.len() % 2 == 0).unwrap_or_else(|| panic!("{self}: word {k} is not hexadecimal"));
+        digits.chunks_exact(2).map(|pair| 16 * pair[0] + pair[1]).collect()
+    }
+}
+
+/// Fails unless every line of these kinds was run, and one at least.
+pub fn all_run(file: &str, text: &str, kinds: &[&str], run: usize) {
+    let there = lines(text).filter(|l| kinds.contains(&l.words[0])).count();
+    assert!(run > 0 && run == there, "{file}: {run} calls run, and there are {there}");
+    println!("{file}: {run} calls run");
+}
