@@ -268,10 +268,29 @@ fn damaged_field(r: &mut Random, field: &[u8]) -> Vec<u8> {
     }
 }
 
+/// A recv more, behind a send by the sender himself, or behind a recv by the same process or that of any record.
+fn add_recv(r: &mut Random, records: &mut Vec<Record>) {
+    let kind = r.pick(&[SEND, RECV]);
+    let word = KINDS[kind as usize].as_bytes();
+    let ends: Vec<usize> = (0..records.len()).filter(|j| records[*j].len() == 6 && records[*j][1] == word).collect();
+    if ends.is_empty() {
+        return;
+    }
+    let behind = r.pick(&ends);
+    let mut more = records[behind].clone();
+    more[1] = KINDS[RECV as usize].as_bytes().to_vec();
+    if kind == RECV && r.once_in(2) {
+        let from = r.place(records.len());
+        more[0] = records[from].first().cloned().unwrap_or_default();
+    }
+    let to = behind + 1 + r.place(records.len() - behind);
+    records.insert(to, more);
+}
+
 /// A record made wrong, dropped, doubled, or put elsewhere (so that messages stand out of order).
 fn damage_record(r: &mut Random, records: &mut Vec<Record>, k: usize) {
     let fields = records[k].len();
-    match r.below(14) {
+    match r.below(16) {
         0 => drop(records[k].remove(r.place(fields))),
         1 => records[k].insert(r.place(fields + 1), b"1".to_vec()),
         2 => {
@@ -301,6 +320,7 @@ fn damage_record(r: &mut Random, records: &mut Vec<Record>, k: usize) {
                 records[to][f] = field;
             }
         }
+        10 | 11 => add_recv(r, records),
         _ => {
             let f = r.place(fields);
             records[k][f] = damaged_field(r, &records[k][f]);
@@ -439,6 +459,8 @@ fn case(r: &mut Random, seed: u64) -> Case {
 #[derive(Default, Debug)]
 struct Seen {
     refused: [u64; 18],
+    /// Traces refused with 12 for one fault alone: a message sent twice, not sent, received by its sender, received twice.
+    faults: [u64; 4],
     accepted: u64,
     free: [u64; 4],
     races: [u64; 4],
@@ -519,6 +541,13 @@ fn compare(r: &mut Random, case: &mut Case, seen: &mut Seen) {
             assert!(case.rows == rows, "rows {:?}\n{told}", case.rows);
             assert!(case.counts == counts, "counts {:?}\n{told}", case.counts);
             seen.refused[number as usize] += 1;
+            if number == 12 {
+                match reading::faults_at(&case.text, case.s, place)[..] {
+                    [fault] => seen.faults[fault as usize] += 1,
+                    [] => panic!("no fault\n{told}"),
+                    _ => {}
+                }
+            }
         }
     }
     assert_eq!(String::from_utf8_lossy(&report(&case.text)), reading::report(&case.text), "report\n{told}");
@@ -591,6 +620,7 @@ fn random_traces() {
     if traces >= 20_000 {
         assert!(seen.accepted * 3 > traces, "a third is accepted: {seen:?}");
         assert!(seen.refused[1..=12].iter().all(|n| *n >= 20), "every refusal is met: {seen:?}");
+        assert!(seen.faults.iter().all(|n| *n * 400 >= traces), "every fault of a message is met alone: {seen:?}");
         assert!(seen.free.iter().all(|n| *n >= 500), "many are free: {seen:?}");
         assert!(seen.races.iter().all(|n| *n >= 500) && seen.late_races >= 500, "many race: {seen:?}");
         assert!(seen.wild.iter().all(|n| *n >= 1000), "many wild rows are judged, and many refused: {seen:?}");

@@ -98,8 +98,8 @@ fn number(field: &[u8], most: u64) -> Option<u32> {
     u32::try_from(value).ok().filter(|v| u64::from(*v) <= most)
 }
 
-/// Questions 7 to 12 to a record behind these rows.
-fn row(fields: &[Vec<u8>], process_limit: u32, rows: &[Row]) -> Result<Row, u32> {
+/// Questions 7 to 11 to a record.
+fn row(fields: &[Vec<u8>], process_limit: u32) -> Result<Row, u32> {
     if fields.len() != 6 {
         return Err(7);
     }
@@ -125,18 +125,40 @@ fn row(fields: &[Vec<u8>], process_limit: u32, rows: &[Row]) -> Result<Row, u32>
     if u64::from(row.offset) + u64::from(row.length) > whole {
         return Err(11);
     }
+    Ok(row)
+}
+
+/// What question 12 finds wrong with a row's message.
+#[derive(Clone, Copy, Debug, PartialEq, Eq)]
+pub enum Fault {
+    SentTwice,
+    NotSent,
+    ReceivedBySender,
+    ReceivedTwice,
+}
+
+/// All faults of a row behind these rows.
+fn faults(row: Row, rows: &[Row]) -> Vec<Fault> {
     let sender = rows.iter().find(|r| r.kind == SEND && r.message == row.message);
     let received = rows.iter().any(|r| r.kind == RECV && r.message == row.message);
-    let right = match kind {
-        SEND => sender.is_none(),
-        RECV => sender.is_some_and(|r| r.process != row.process) && !received,
-        _ => true,
+    let found = [
+        (Fault::SentTwice, row.kind == SEND && sender.is_some()),
+        (Fault::NotSent, row.kind == RECV && sender.is_none()),
+        (Fault::ReceivedBySender, row.kind == RECV && sender.is_some_and(|r| r.process == row.process)),
+        (Fault::ReceivedTwice, row.kind == RECV && received),
+    ];
+    found.into_iter().filter(|(_, holds)| *holds).map(|(fault, _)| fault).collect()
+}
+
+/// All faults of the row at the place that a trace is refused for with 12.
+pub fn faults_at(text: &[u8], s: Settings, place: u32) -> Vec<Fault> {
+    let fields = |record| match record {
+        Record::Fields(fields) => Some(fields),
+        _ => None,
     };
-    if right {
-        Ok(row)
-    } else {
-        Err(12)
-    }
+    let records = records(text, s.byte_limit).into_iter().skip(s.header as usize).map_while(fields);
+    let rows: Vec<Row> = records.map_while(|fields| row(&fields, s.process_limit).ok()).take(place as usize).collect();
+    faults(rows[place as usize - 1], &rows[..place as usize - 1])
 }
 
 /// The rows of a trace, or the number and place of its refusal.
@@ -165,9 +187,10 @@ pub fn check(text: &[u8], s: Settings, rows_len: usize, counts_len: usize) -> Re
             Record::Malformed => return Err((4, place)),
             Record::Unread => return Err((6, place)),
             Record::Fields(_) if place > s.row_limit => return Err((6, place)),
-            Record::Fields(fields) => match row(&fields, s.process_limit, &rows) {
-                Ok(row) => rows.push(row),
+            Record::Fields(fields) => match row(&fields, s.process_limit) {
                 Err(number) => return Err((number, place)),
+                Ok(row) if !faults(row, &rows).is_empty() => return Err((12, place)),
+                Ok(row) => rows.push(row),
             },
         }
     }
