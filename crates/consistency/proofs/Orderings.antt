@@ -1,14 +1,17 @@
 -- Allowed orders of a trace are those that one byte of one file sees, latest row first. Assumes nothing.
-use Prim.Native.Nat.{ℕ}
-use mathlib.Core.Path.{_≡_, refl}
+use Prim.Native.Nat.{ℕ, zero, suc}
+use native.Mathlib.Omega.{arith}
+use mathlib.Core.Path.{_≡_, refl, ap, _∙_}
 use mathlib.Core.Logic.{_⊎_, inl, inr}
 use mathlib.Core.Bool.{true}
-use mathlib.Core.List.{List, [], _∷_, _++_, reverseAux, reverse, reverseAux-append, reverse-reverse}
+use mathlib.Core.List.{List, [], _∷_, _++_, reverseAux, reverse, reverse-cons, reverseAux-append, reverse-reverse}
+use lib.ListN.{length}
 use Rattle.fields.specs.declared.Row.{Row}
 use Rattle.order.specs.Order.{edge, one}
-use Rattle.consistency.specs.Orders.{In, Once, Stands, Allowed}
+use Rattle.consistency.specs.Orders.{In, Once, Stands, Allowed, placesBelow, traceOrder}
 use Rattle.consistency.proofs.Core.{Trace, Ok, none, next}
 use Rattle.consistency.proofs.Freedom.{row-of, closed}
+use Rattle.consistency.proofs.Selections.{select, select-ok}
 use Rattle.consistency.proofs.Meaning.{byteTrace}
 
 -- ---- A list turned, with another one behind it: `reverseAux l r`
@@ -153,3 +156,18 @@ pub first-allowed : (rows : List Row) (first rest : List ℕ) → Allowed rows (
 first-allowed rows first rest a =
     rw (reverse-reverse first) at (ok-allowed rows 0 0 0 (reverse first)
     (ok-rest (byteTrace rows 0 0 0) rest (reverse first) (rw (reverseAux-append first rest []) at (allowed-ok rows 0 0 0 (first ++ rest) a))))
+
+-- ---- The recorded order
+
+-- places below a bound, the largest first, turned
+places-turned : (n : ℕ) → reverse (select (λ k. true) n) ≡ placesBelow n
+unfolding select placesBelow
+places-turned zero = refl
+places-turned (suc n) = reverse-cons n (select (λ k. true) n) ∙ ap (λ (l : List ℕ). l ++ (n ∷ [])) (places-turned n)
+
+-- the order in which a trace was recorded is allowed
+pub trace-order : (rows : List Row) → Allowed rows (traceOrder rows)
+trace-order rows =
+    let n = length rows in
+    rw (places-turned n) at (ok-allowed rows 0 0 0 (select (λ k. true) n)
+    (select-ok (byteTrace rows 0 0 0) (λ k. true) (λ i j e t. refl) n (omega arith)))

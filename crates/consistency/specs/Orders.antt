@@ -1,9 +1,9 @@
 -- Orders of rows, as lists of places with the first row first.
-use Prim.Native.Nat.{ℕ, _<_}
+use Prim.Native.Nat.{ℕ, zero, suc, _<_}
 use mathlib.Core.Path.{_≡_}
 use mathlib.Core.Logic.{_⊎_}
 use mathlib.Core.Bool.{true}
-use mathlib.Core.List.{List, [], _∷_}
+use mathlib.Core.List.{List, [], _∷_, _++_}
 use lib.ListN.{length}
 pub use Rattle.runs.specs.Points.{In}
 use Rattle.fields.specs.declared.Row.{Row}
@@ -26,3 +26,12 @@ pub record Allowed (rows : List Row) (order : List ℕ) : Type 0 where
   pub once : Once order
   pub closed : (i j : ℕ) → HB (edge rows) i j → In j order → In i order
   pub in-order : (i j : ℕ) → edge rows i j ≡ true → In i order → In j order → Stands i j order
+
+-- the places 0 to n - 1 in rising order
+unfoldable pub placesBelow : ℕ → List ℕ
+placesBelow zero = []
+placesBelow (suc n) = placesBelow n ++ (n ∷ [])
+
+-- the recorded order: all rows as they stand in the trace
+abbrev pub traceOrder : List Row → List ℕ
+traceOrder rows = placesBelow (length rows)
