@@ -1,9 +1,8 @@
 -- Bench trace K: what is published and what is plain after its rows in trace order. Assumes nothing.
-use Prim.Native.Nat.{ℕ, _<_}
+use Prim.Native.Nat.{ℕ, _*_, _<_}
 use native.Mathlib.Omega.{arith}
 use native.Mathlib.Decide.{decLt}
 use mathlib.Core.Path.{_≡_, refl, sym, ap, _∙_}
-use mathlib.Core.Logic.{inl, inr}
 use mathlib.Core.List.{map, List, [], _∷_, _++_}
 use Rattle.models.specs.Operations.{WRITE, COMMIT, COMMIT-MODEL}
 use Rattle.models.specs.Table.{publishes, refreshes}
@@ -25,12 +24,13 @@ use Rattle.runs.proofs.Longest.{range-in, range-before, range-behind, runs-uniq
 use Rattle.layers.specs.Layers.{fresh, nothing, afterRow, afterPlain}
 use Rattle.layers.specs.States.{Header}
 use Rattle.layers.proofs.Points.{fresh-pointed, plain-pointed}
-use Rattle.layers.proofs.Slices.{fresh-to, fresh-plain, to-shared, plain-first, layers-held, plain-held}
-use Rattle.consistency.specs.Orders.{In}
-use Rattle.consistency.specs.Files.{Numbered, rowsFor, runFrom, plainRunFrom, headerFor, Lent, freshMachine, freshPlain}
+use Rattle.layers.proofs.Slices.{to-shared, plain-first, layers-held, plain-held}
+use Rattle.consistency.specs.Orders.{placesBelow, traceOrder}
+use Rattle.consistency.specs.Files.{Numbered, rowsFor, runFrom, plainRunFrom, writesIn, headerFor, Lent, freshMachine, freshPlain}
 use Rattle.consistency.proofs.Meaning.{layersRun, plainRun}
-use Rattle.consistency.proofs.Encoding.{Made, AllFit, run-pointed, plain-run-pointed, run-to, plain-run-to}
-use Rattle.consistency.proofs.Theorems.{pointsOf, points-length, order-fits, sound-trace}
+use Rattle.consistency.proofs.Orderings.{trace-order}
+use Rattle.consistency.proofs.Encoding.{Made, AllFit, Enough, made-fresh, plain-made-fresh, run-pointed, plain-run-pointed, run-to, plain-run-to}
+use Rattle.consistency.proofs.Theorems.{pointsOf, points-length, points-enough, order-fits, sound-trace}
 
 -- a row by its six numbers
 abbrev pub row : ℕ → ℕ → ℕ → ℕ → ℕ → ℕ → Row
@@ -50,17 +50,17 @@ kText =
     ++ (48 ∷ 44 ∷ 99 ∷ 111 ∷ 109 ∷ 109 ∷ 105 ∷ 116 ∷ 44 ∷ 49 ∷ 44 ∷ 44 ∷ 44 ∷ 13 ∷ 10 ∷ [])))
 
 abbrev pub kHeader : Header
-kHeader = headerFor COMMIT-MODEL 2 1 kRows
+kHeader = headerFor COMMIT-MODEL 2 (2 * writesIn kRows) 1
 
 -- after the rows in trace order published is (0,10,1) and plain is (0,5,1),(5,5,2)
 pub record K : Type 0 where
   pub taken : checkTrace kText 0 COMMIT-MODEL 4 2 8192 24 8 ≡ accepted kRows
   pub judged : verdictOf kRows COMMIT-MODEL ≡ racing 1 2
-  pub published : (xs ys out : List ℕ) → Lent kHeader xs ys out →
-      mapAt (kHeader .space) 0 (runFrom kHeader out (rowsFor kRows 1 (0 ∷ (1 ∷ (2 ∷ (3 ∷ []))))) (freshMachine kHeader xs))
+  pub published : (xs ys out : List ℕ) → Lent kHeader kRows xs ys out →
+      mapAt (kHeader .space) 0 (runFrom kHeader out (rowsFor kRows 1 (traceOrder kRows)) (freshMachine kHeader xs))
       ≡ mapOf (kHeader .space) (runOf 0 10 (cellOf 1 0) ∷ [])
-  pub plain : (xs ys out : List ℕ) → Lent kHeader xs ys out →
-      mapAt (kHeader .space) 0 (plainRunFrom kHeader out (rowsFor kRows 1 (0 ∷ (1 ∷ (2 ∷ (3 ∷ []))))) (freshPlain kHeader ys))
+  pub plain : (xs ys out : List ℕ) → Lent kHeader kRows xs ys out →
+      mapAt (kHeader .space) 0 (plainRunFrom kHeader out (rowsFor kRows 1 (traceOrder kRows)) (freshPlain kHeader ys))
       ≡ mapOf (kHeader .space) (runOf 0 5 (cellOf 1 0) ∷ (runOf 5 5 (cellOf 2 0) ∷ []))
 
 -- ---- From the text to the verdict
@@ -79,47 +79,41 @@ k-judged = refl
 
 -- ---- No row is refused
 
--- trace order
-abbrev kOrder : List ℕ
-kOrder = 0 ∷ (1 ∷ (2 ∷ (3 ∷ [])))
-
 -- what both files get
 abbrev kRun : List Numbered
-kRun = rowsFor kRows 1 kOrder
-
--- the order has rows of the trace alone
-k-places : (k : ℕ) → In k kOrder → k < 4
-k-places k (inl e) = omega arith
-k-places k (inr (inl e)) = omega arith
-k-places k (inr (inr (inl e))) = omega arith
-k-places k (inr (inr (inr (inl e)))) = omega arith
+kRun = rowsFor kRows 1 (traceOrder kRows)
 
 -- the header passes the questions of making
 k-made : Made kHeader
 k-made = record { is-model = omega arith; some-process = omega arith; few-processes = omega arith; is-file = omega arith }
 
+-- the maps have space
+k-enough : Enough kHeader kRows (pointsOf kRows)
+k-enough = points-enough kHeader kRows (omega arith)
+
 -- the rows pass those before 16
 k-fits : AllFit kHeader (pointsOf kRows) kRun
 k-fits =
     let s = sound-trace kText 0 COMMIT-MODEL 4 2 8192 24 8 kRows k-taken in
-    order-fits kRows 2 (s .0) (s .1) (s .2) (s .3) COMMIT-MODEL 1 (omega arith) (omega arith) kOrder k-places
+    order-fits kRows 2 (s .0) (s .1) (s .2) (s .3) COMMIT-MODEL (2 * writesIn kRows) 1 (omega arith) (omega arith) (traceOrder kRows)
+    (trace-order kRows .of-trace)
 
 -- ---- So the maps are those of the bytes after the rows
 
-module _ (xs ys out : List ℕ) (lent : Lent kHeader xs ys out) where
+module _ (xs ys out : List ℕ) (lent : Lent kHeader kRows xs ys out) where
   -- the published map is that of the published bytes
   k-map : mapAt (kHeader .space) 0 (runFrom kHeader out kRun (freshMachine kHeader xs))
       ≡ mapFor (kHeader .space) (layersRun COMMIT-MODEL kRun fresh .shared)
   k-map =
-      ap (λ (zs : List ℕ). mapAt (kHeader .space) 0 (runFrom kHeader out kRun zs)) (fresh-to kHeader xs)
-      ∙ ap (mapAt (kHeader .space) 0) (run-to k-made (points-length kRows) lent kRun k-fits fresh-pointed)
+      ap (λ (zs : List ℕ). mapAt (kHeader .space) 0 (runFrom kHeader out kRun zs)) (made-fresh k-made lent)
+      ∙ ap (mapAt (kHeader .space) 0) (run-to k-made k-enough lent kRun k-fits fresh-pointed)
       ∙ to-shared kHeader (layers-held kHeader (points-length kRows) (run-pointed kHeader kRun k-fits fresh-pointed)) xs
 
   -- the plain map is that of the plain bytes
   k-plain-map : mapAt (kHeader .space) 0 (plainRunFrom kHeader out kRun (freshPlain kHeader ys)) ≡ mapFor (kHeader .space) (plainRun kRun nothing)
   k-plain-map =
-      ap (λ (zs : List ℕ). mapAt (kHeader .space) 0 (plainRunFrom kHeader out kRun zs)) (fresh-plain kHeader ys)
-      ∙ ap (mapAt (kHeader .space) 0) (plain-run-to k-made (points-length kRows) lent kRun k-fits plain-pointed)
+      ap (λ (zs : List ℕ). mapAt (kHeader .space) 0 (plainRunFrom kHeader out kRun zs)) (plain-made-fresh k-made lent)
+      ∙ ap (mapAt (kHeader .space) 0) (plain-run-to k-made k-enough lent kRun k-fits plain-pointed)
       ∙ plain-first kHeader (plain-held kHeader (points-length kRows) (plain-run-pointed kHeader kRun k-fits plain-pointed)) ys
 
 -- ---- And their runs are those that mean these bytes
@@ -145,7 +139,7 @@ published-lawful =
 
 -- each published byte has what they say
 published-bytes : (b : ℕ) → cellAt kPublished b ≡ layersRun COMMIT-MODEL kRun fresh .shared b
-unfolding cellAt layersRun rowsFor afterRow publishes refreshes
+unfolding cellAt layersRun placesBelow rowsFor afterRow publishes refreshes
 published-bytes b = go (decLt b 10)
   where
     go : Dec (b < 10) → cellAt kPublished b ≡ layersRun COMMIT-MODEL kRun fresh .shared b
@@ -169,7 +163,7 @@ plain-lawful =
 
 -- each plain byte has what they say
 plain-bytes : (b : ℕ) → cellAt kPlain b ≡ plainRun kRun nothing b
-unfolding cellAt plainRun rowsFor afterPlain
+unfolding cellAt plainRun placesBelow rowsFor afterPlain
 plain-bytes b = go (decLt b 5) (decLt b 10)
   where
     go : Dec (b < 5) → Dec (b < 10) → cellAt kPlain b ≡ plainRun kRun nothing b

@@ -20,10 +20,11 @@ use Rattle.layers.specs.States.{Header, layersIn, layersTo, plainIn, plainTo}
 use Rattle.layers.specs.Steps.{makingQuestions, plainMakingQuestions, usesRange, rowAsked, Step, answered, stepOf, plainStepOf}
 use Rattle.layers.proofs.Points.{picked, Pointed, pointed-pieces, LayersPointed, PlainPointed, Writing}
 use Rattle.layers.proofs.Points.{fresh-pointed, plain-pointed, row-pointed, plain-row-pointed}
-use Rattle.layers.proofs.Slices.{held-fit, to-in, layers-held, fresh-to, plain-in, plain-held, fresh-plain}
+use Rattle.layers.proofs.Slices.{held-fit, to-in, layers-held, plain-in, plain-held}
 use Rattle.layers.proofs.Stepping.{AllYes, step-held, plain-step-held}
+use Rattle.layers.proofs.Making.{making-yes, making-fresh, plain-making-yes, plain-making-fresh}
 use Rattle.consistency.specs.Orders.{In}
-use Rattle.consistency.specs.Files.{Numbered, Agree, runFrom, plainRunFrom, Level, Lent, freshMachine, freshPlain}
+use Rattle.consistency.specs.Files.{Numbered, Agree, runFrom, plainRunFrom, Level, writesIn, SpaceFor, Lent, freshMachine, freshPlain}
 use Rattle.consistency.proofs.Meaning.{layersRun, plainRun, ReadsSame}
 use Rattle.consistency.proofs.Answers.{same-iff}
 
@@ -47,25 +48,31 @@ abbrev pub AllFit : Header → List ℕ → List Numbered → Type 0
 AllFit h points [] = Unit {0}
 AllFit h points (x ∷ l) = Fit h points x × AllFit h points l
 
+-- points that are no more than twice the trace's writes, for which the maps have space
+pub record Enough (h : Header) (rows : List Row) (points : List ℕ) : Type 0 where
+  pub few : length points ≤ 2 * writesIn rows
+  pub room : SpaceFor rows (h .space)
+
+-- so the maps have space for as many runs as points
+pub in-space : {h : Header} {rows : List Row} {points : List ℕ} → Enough h rows points → length points ≤ h .space
+in-space enough = omega (arith, enough .few, enough .room)
+
 -- ---- No question says No
 
--- the questions of making, for the machine and for the plain file
-made-yes : {h : Header} {xs ys out : List ℕ} → Made h → Lent h xs ys out → AllYes (makingQuestions h (length xs))
-unfolding makingQuestions
-made-yes made lent = (
-  le-leb _ _ (lent .for-machine),
-  (
-    (λ i. lt-ltb _ _ (made .is-model) i && (le-leb _ _ (made .some-process) i && le-leb _ _ (made .few-processes) i)),
-    (lt-ltb _ _ (made .is-file), tt),
-  ),
-)
+module _ {h : Header} (made : Made h) {rows : List Row} {xs ys out : List ℕ} (lent : Lent h rows xs ys out) where
+  -- the questions of making, for the machine and for the plain file
+  machine-yes : AllYes (makingQuestions h (length xs))
+  machine-yes = making-yes h (made .some-process) (made .few-processes) (made .is-file) (made .is-model) (length xs) (lent .for-machine)
 
-plain-made-yes : {h : Header} {xs ys out : List ℕ} → Made h → Lent h xs ys out → AllYes (plainMakingQuestions h (length ys))
-unfolding plainMakingQuestions
-plain-made-yes made lent = (
-  le-leb _ _ (lent .for-plain),
-  ((λ i. le-leb _ _ (made .some-process) i && le-leb _ _ (made .few-processes) i), (lt-ltb _ _ (made .is-file), tt)),
-)
+  plain-yes : AllYes (plainMakingQuestions h (length ys))
+  plain-yes = plain-making-yes h (made .some-process) (made .few-processes) (made .is-file) (length ys) (lent .for-plain)
+
+  -- so the slices that making leaves hold fresh files
+  pub made-fresh : freshMachine h xs ≡ layersTo h fresh xs
+  made-fresh = making-fresh h (made .some-process) (made .few-processes) (made .is-file) (made .is-model) xs (lent .for-machine)
+
+  pub plain-made-fresh : freshPlain h ys ≡ plainTo h nothing ys
+  plain-made-fresh = plain-making-fresh h (made .some-process) (made .few-processes) (made .is-file) ys (lent .for-plain)
 
 -- a test that is asked of some rows only
 where-asked : (x y : Bool) → (x ≡ true → y ≡ true) → not x || y ≡ true
@@ -116,12 +123,13 @@ module _ (h : Header) {points : List ℕ} where
   plain-run-pointed [] fits k = k
   plain-run-pointed (x ∷ l) (fit, fits) k = plain-run-pointed l fits (plain-row-pointed (row-writing fit) k)
 
-module _ {h : Header} (made : Made h) {points : List ℕ} (enough : length points ≤ h .space) {xs ys out : List ℕ} (lent : Lent h xs ys out) where
+module _ {h : Header} (made : Made h) {rows : List Row} {points : List ℕ} (enough : Enough h rows points)
+    {xs ys out : List ℕ} (lent : Lent h rows xs ys out) where
   -- an answer slice has room for a row's pieces
   pieces-fit : (r : Row) {f : Bytes} → Pointed points f → 3 * length (piecesRead r f) ≤ length out
   pieces-fit r {f} k =
       picked (λ (ps : List Run). 3 * length ps ≤ length out) (eqb (r .kind) READ) (piecesOf f (r .offset) (r .length)) []
-      (λ _. omega (arith, pointed-pieces k (r .offset) (r .length), enough, lent .for-answers)) (omega arith)
+      (λ _. omega (arith, pointed-pieces k (r .offset) (r .length), enough .few, lent .for-answers)) (omega arith)
 
   module _ {x : Numbered} (fit : Fit h points x) where
     -- one step of the machine and one of the plain file
@@ -131,7 +139,8 @@ module _ {h : Header} (made : Made h) {points : List ℕ} (enough : length point
         ≡ answered (x .row) (piecesRead (x .row) (t .view (x .row .process))) (layersTo h t xs) out
     machine-step k =
         let after = row-pointed (row-writing fit) (h .model) k in
-        step-held h (layers-held h enough k) xs (made-yes made lent) (x .row) (x .number) (row-yes fit) out (held-fit h (layers-held h enough after))
+        step-held h (layers-held h (in-space enough) k) xs (machine-yes made lent) (x .row) (x .number) (row-yes fit) out
+        (held-fit h (layers-held h (in-space enough) after))
         (pieces-fit (x .row) (after .view (x .row .process)))
 
     plain-step : {f : Bytes} → PlainPointed points f →
@@ -139,8 +148,8 @@ module _ {h : Header} (made : Made h) {points : List ℕ} (enough : length point
         plainStepOf h (plainTo h f ys) (x .row) (x .number) out ≡ answered (x .row) (piecesRead (x .row) g) (plainTo h g ys) out
     plain-step k =
         let after = plain-row-pointed (row-writing fit) k in
-        plain-step-held h (plain-held h enough k) ys (plain-made-yes made lent) (x .row) (x .number) (row-yes fit) out
-        (le-leb _ _ (plain-held h enough after .bytes .fit)) (pieces-fit (x .row) (after .bytes))
+        plain-step-held h (plain-held h (in-space enough) k) ys (plain-yes made lent) (x .row) (x .number) (row-yes fit) out
+        (le-leb _ _ (plain-held h (in-space enough) after .bytes .fit)) (pieces-fit (x .row) (after .bytes))
 
   -- every row gets the same from both exactly when every read finds the same numbers
   agree-from : (l : List Numbered) → AllFit h points l → {s : Layers} {f : Bytes} → LayersPointed points s → PlainPointed points f →
@@ -166,24 +175,23 @@ module _ {h : Header} (made : Made h) {points : List ℕ} (enough : length point
   plain-run-to (x ∷ l) (fit, fits) k =
       ap (λ (s : Step). plainRunFrom h out l (s .maps)) (plain-step fit k) ∙ plain-run-to l fits (plain-row-pointed (row-writing fit) k)
 
-module _ (h : Header) (made : Made h) (points : List ℕ) (enough : length points ≤ h .space) where
-  module _ (xs ys out : List ℕ) (lent : Lent h xs ys out) (l : List Numbered) (fit : AllFit h points l) where
+  module _ (l : List Numbered) (fit : AllFit h points l) where
     -- every row gets the same from both exactly when every read finds the same numbers
     pub agree-iff : Agree h out l (freshMachine h xs) (freshPlain h ys) ↔ ReadsSame (h .model) l fresh nothing
-    agree-iff = rw (fresh-to h xs, fresh-plain h ys) (agree-from made enough lent l fit fresh-pointed plain-pointed)
+    agree-iff = rw (made-fresh made lent, plain-made-fresh made lent) (agree-from l fit fresh-pointed plain-pointed)
 
     -- the published bytes after all rows, and the plain ones
     run-bytes : layersIn h (runFrom h out l (freshMachine h xs)) .shared ≡ layersRun (h .model) l fresh .shared
     run-bytes =
-        ap (λ (zs : List ℕ). layersIn h (runFrom h out l zs) .shared) (fresh-to h xs)
-        ∙ ap (λ (zs : List ℕ). layersIn h zs .shared) (run-to made enough lent l fit fresh-pointed)
-        ∙ to-in h (layers-held h enough (run-pointed h l fit fresh-pointed)) xs .shared
+        ap (λ (zs : List ℕ). layersIn h (runFrom h out l zs) .shared) (made-fresh made lent)
+        ∙ ap (λ (zs : List ℕ). layersIn h zs .shared) (run-to l fit fresh-pointed)
+        ∙ to-in h (layers-held h (in-space enough) (run-pointed h l fit fresh-pointed)) xs .shared
 
     plain-run-bytes : plainIn h (plainRunFrom h out l (freshPlain h ys)) ≡ plainRun l nothing
     plain-run-bytes =
-        ap (λ (zs : List ℕ). plainIn h (plainRunFrom h out l zs)) (fresh-plain h ys)
-        ∙ ap (plainIn h) (plain-run-to made enough lent l fit plain-pointed)
-        ∙ plain-in h (plain-held h enough (plain-run-pointed h l fit plain-pointed)) ys
+        ap (λ (zs : List ℕ). plainIn h (plainRunFrom h out l zs)) (plain-made-fresh made lent)
+        ∙ ap (plainIn h) (plain-run-to l fit plain-pointed)
+        ∙ plain-in h (plain-held h (in-space enough) (plain-run-pointed h l fit plain-pointed)) ys
 
     -- the published file is the plain one exactly when the bytes are
     pub level-iff : Level h (runFrom h out l (freshMachine h xs)) (plainRunFrom h out l (freshPlain h ys))

@@ -24,7 +24,7 @@ use Rattle.runs.specs.Cells.{numberIn}
 use Rattle.layers.specs.Layers.{Layers, fresh, nothing, ofFile}
 use Rattle.layers.specs.States.{Header}
 use Rattle.consistency.specs.Orders.{In, Allowed}
-use Rattle.consistency.specs.Files.{Numbered, rowsFor, End, endRows, processesOf, ByAll, headerFor, EqualWith}
+use Rattle.consistency.specs.Files.{Numbered, rowsFor, End, endRows, processesOf, ByAll, SpaceFor, headerFor, EqualWith}
 use Rattle.consistency.proofs.Byte.{Byte, stepByte}
 use Rattle.consistency.proofs.Core.{Trace, run, plain, Ok, none, next, publishAll}
 use Rattle.consistency.proofs.Freedom.{row-of, published-plain}
@@ -33,7 +33,7 @@ use Rattle.consistency.proofs.Encoding.{Made, AllFit, agree-iff, level-
 use Rattle.consistency.proofs.Bytewise.{layers-at, plain-at, reads-in, ends-plain, ends-read, ends-at}
 use Rattle.consistency.proofs.Bytewise.{layers-append, plain-append, reads-append}
 use Rattle.consistency.proofs.Bridges.{allowed-ok, free-at}
-use Rattle.consistency.proofs.Theorems.{pointsOf, points-length, order-fits, ends-fit, fit-append, sound-trace}
+use Rattle.consistency.proofs.Theorems.{pointsOf, points-enough, order-fits, ends-fit, fit-append, sound-trace}
 use Rattle.consistency.proofs.Benches.{row}
 
 -- ---- Session: 0 writes, closes, sends; 1 receives, writes the same byte, closes
@@ -57,7 +57,7 @@ sText =
 pub record SessionRace : Type 0 where
   pub taken : checkTrace sText 0 SESSION 6 2 8192 36 12 ≡ accepted sRows
   pub judged : verdictOf sRows SESSION ≡ racing 1 5
-  pub equal : EqualWith CLOSE SESSION 2 sRows
+  pub equal : (space : ℕ) → SpaceFor sRows space → EqualWith CLOSE SESSION 2 space sRows
 
 -- ---- From the text to the verdict
 
@@ -169,10 +169,10 @@ in-middle : (y : ℕ) (l m : List ℕ) → In y (l ++ (y ∷ m))
 in-middle y [] m = inl refl
 in-middle y (x ∷ l) m = inr (in-middle y l m)
 
-module _ (file : ℕ) (f : file < FILES) (order : List ℕ) (allowed : Allowed sRows order) (ends : List End) (all : ByAll 2 ends) where
+module _ (space file : ℕ) (f : file < FILES) (order : List ℕ) (allowed : Allowed sRows order) (ends : List End) (all : ByAll 2 ends) where
   -- the header, the rows in this order, the closes at the end
   abbrev h : Header
-  h = headerFor SESSION 2 file sRows
+  h = headerFor SESSION 2 space file
 
   abbrev l : List Numbered
   l = rowsFor sRows file order
@@ -189,8 +189,8 @@ module _ (file : ℕ) (f : file < FILES) (order : List ℕ) (allowed : Allowed s
   whole-fits =
       let s = sound-trace sText 0 SESSION 6 2 8192 36 12 sRows s-taken in
       fit-append h (pointsOf sRows) l final
-      (order-fits sRows 2 (s .0) (s .1) (s .2) (s .3) SESSION file (omega arith) f order (allowed .of-trace))
-      (ends-fit sRows 2 (s .0) (s .1) (s .2) (s .3) SESSION file (omega arith) f CLOSE (omega arith) refl (λ q. absurd (omega (arith, q))) ends
+      (order-fits sRows 2 (s .0) (s .1) (s .2) (s .3) SESSION space file (omega arith) f order (allowed .of-trace))
+      (ends-fit sRows 2 (s .0) (s .1) (s .2) (s .3) SESSION space file (omega arith) f CLOSE (omega arith) refl (λ q. absurd (omega (arith, q))) ends
       (λ p i. all .every p .1 i) (all .numbered))
 
   -- there are no reads
@@ -215,14 +215,14 @@ module _ (file : ℕ) (f : file < FILES) (order : List ℕ) (allowed : Allowed s
       ∙ ap (λ (g : ℕ → ℕ). numberIn (g b)) (sym (plain-append l final nothing ∙ ends-plain CLOSE file ends n (plainRun l nothing)))
 
 -- the layered file and the plain file are equal
-equal-always : EqualWith CLOSE SESSION 2 sRows
-equal-always file f order allowed ends all xs ys out lent =
-    let h = headerFor SESSION 2 file sRows in
+equal-always : (space : ℕ) → SpaceFor sRows space → EqualWith CLOSE SESSION 2 space sRows
+equal-always space room file f order allowed ends all xs ys out lent =
     let rows = rowsFor sRows file order ++ endRows CLOSE file ends in
-    let m = made file f order allowed ends all in
-    let fit = whole-fits file f order allowed ends all in (
-      agree-iff h m (pointsOf sRows) (points-length sRows) xs ys out lent rows fit .1 (whole-reads file f order allowed ends all),
-      level-iff h m (pointsOf sRows) (points-length sRows) xs ys out lent rows fit .1 (λ b _. whole-level file f order allowed ends all b),
+    let m = made space file f order allowed ends all in
+    let enough = points-enough (headerFor SESSION 2 space file) sRows room in
+    let fit = whole-fits space file f order allowed ends all in (
+      agree-iff m enough lent rows fit .1 (whole-reads space file f order allowed ends all),
+      level-iff m enough lent rows fit .1 (λ b _. whole-level space file f order allowed ends all b),
     )
 
 -- the trace whose race no order shows

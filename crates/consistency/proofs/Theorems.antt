@@ -2,19 +2,19 @@
 use Prim.Native.Nat.{ℕ, zero, suc, _+_, _*_, _≤_, _<_}
 use native.Mathlib.Omega.{arith}
 use mathlib.Core.Path.{_≡_, refl, sym, ap, subst, _∙_}
-use mathlib.Core.Logic.{_↔_, _⊎_, inl, inr}
-use mathlib.Core.Bool.{Bool, true, false, cond, _&&_, false≢true}
+use mathlib.Core.Logic.{_↔_, inl, inr}
+use mathlib.Core.Bool.{Bool, true, false, cond}
 use mathlib.Core.List.{List, [], _∷_, _++_, append-assoc, reverse, reverse-cons, reverse-append, reverse-reverse}
 use lib.ListN.{length, replicate, length-replicate}
 use lib.Dec.{ltb, leb, eqb}
-use borrow.Author.Tests.{eqb-true, eq-eqb, ltb-true, lt-ltb}
+use borrow.Author.Tests.{eq-eqb, ltb-true, lt-ltb}
 use Rattle.models.specs.Limits.{MODELS, PROCESSES, ROWS, FILES, OFFSET-MAX}
-use Rattle.models.specs.Operations.{READ, WRITE, COMMIT, SEND, COMMIT-MODEL}
+use Rattle.models.specs.Operations.{WRITE, COMMIT, SEND, COMMIT-MODEL}
 use Rattle.csv.specs.Reading.{records}
 use Rattle.fields.specs.declared.Row.{Row}
 use Rattle.trace.specs.Questions.{checkTrace, accepted}
 use Rattle.trace.proofs.Laws.{WellFormed, Sound, accepted-passed, accepted-sound}
-use Rattle.order.specs.Order.{rowAt, noRow}
+use Rattle.order.specs.Order.{rowAt}
 use Rattle.order.proofs.Below.{and-out}
 use Rattle.order.proofs.Sounds.{sound-row}
 use Rattle.runs.specs.Cells.{numberIn, inRange}
@@ -24,14 +24,14 @@ use Rattle.layers.specs.Layers.{Layers, fresh, nothing, ofFile}
 use Rattle.layers.specs.States.{Header, mapsLength}
 use Rattle.layers.specs.Steps.{usesRange}
 use Rattle.consistency.specs.Orders.{In, Allowed}
-use Rattle.consistency.specs.Files.{Numbered, rowsFor, End, endRows, processesOf, NumbersIn, ByAll, writesIn, headerFor, Lent, Agree, ReadsPlain, EqualWith, Equal}
-use Rattle.consistency.proofs.Core.{Trace, run, plain, Ok, Shown, by-read, at-end, publishAll}
+use Rattle.consistency.specs.Files.{Numbered, rowsFor, End, endRows, processesOf, NumbersIn, ByAll, writesIn, SpaceFor, headerFor, Lent, ReadsPlain, Equal}
+use Rattle.consistency.proofs.Core.{run, plain, Ok, Shown, by-read, at-end, publishAll}
 use Rattle.consistency.proofs.Freedom.{row-of, reads-plain, published-plain}
 use Rattle.consistency.proofs.Witness.{race-shown}
 use Rattle.consistency.proofs.Meaning.{layersRun, plainRun, ReadsSame, byteTrace}
-use Rattle.consistency.proofs.Encoding.{Made, Fit, AllFit, agree-iff, level-iff}
-use Rattle.consistency.proofs.Bytewise.{At, layers-at, plain-at, reads-in, reads-out, ends-plain, ends-read, commits-at, layers-append, plain-append, reads-append, reads-first}
-use Rattle.consistency.proofs.Bridges.{allowed-ok, first-allowed, ok-allowed, free-at, RaceAt, race-at, commits, all-last}
+use Rattle.consistency.proofs.Encoding.{Made, AllFit, Enough, agree-iff, level-iff}
+use Rattle.consistency.proofs.Bytewise.{layers-at, plain-at, reads-in, reads-out, ends-plain, ends-read, commits-at, layers-append, plain-append, reads-append, reads-first}
+use Rattle.consistency.proofs.Bridges.{allowed-ok, first-allowed, ok-allowed, free-at, race-at, commits, all-last}
 
 -- ---- Points: the ends of the trace's writes
 
@@ -49,6 +49,10 @@ points-length (r ∷ rows) = go (eqb (r .kind) WRITE) (points-length rows)
         length (cond x (r .offset ∷ ((r .offset + r .length) ∷ pointsOf rows)) (pointsOf rows)) ≤ 2 * (cond x 1 0 + writesIn rows)
     go true h = omega arith
     go false h = omega arith
+
+-- so maps that have space for twice the writes have space for a run from each point
+pub points-enough : (h : Header) (rows : List Row) → SpaceFor rows (h .space) → Enough h rows (pointsOf rows)
+points-enough h rows room = record { few = points-length rows; room = room }
 
 -- both ends of a write are among them
 points-in : (rows : List Row) (k : ℕ) → k < length rows → rowAt rows k .kind ≡ WRITE →
@@ -84,9 +88,9 @@ module _ (rows : List Row) (P : ℕ) (sound : Sound P rows) (few : length rows �
   well : (k : ℕ) → k < length rows → WellFormed P (rowAt rows k)
   well k h = sound-row sound k h
 
-  module _ (model file : ℕ) (m : model < MODELS) (f : file < FILES) where
+  module _ (model space file : ℕ) (m : model < MODELS) (f : file < FILES) where
     abbrev h : Header
-    h = headerFor model P file rows
+    h = headerFor model P space file
 
     made : Made h
     made = record { is-model = m; some-process = some; few-processes = most; is-file = f }
@@ -131,20 +135,21 @@ module _ (rows : List Row) (P : ℕ) (sound : Sound P rows) (few : length rows �
       ends-fit kind s u w ends (λ p q. i p (inr q)) (n .2),
     )
 
-    -- where the trace is free every read of every allowed order finds the plain file's numbers
-    reads-free : verdictOf rows model ≡ free → (order : List ℕ) → Allowed rows order → ReadsSame model (rowsFor rows file order) fresh nothing
-    reads-free e order allowed =
-        reads-in rows model file order
-        (λ first y rest q b r.
-        let a = first-allowed rows (first ++ (y ∷ [])) rest (subst (Allowed rows) (q ∙ sym (append-assoc first (y ∷ []) rest)) allowed) in
-        let ok = subst (Ok (byteTrace rows model file b)) (last-first first y) (allowed-ok rows model file b (first ++ (y ∷ [])) a) in
-        reads-plain (byteTrace rows model file b) (free-at rows model m e file b) y (reverse first) ok r)
+  -- where the trace is free every read of every allowed order finds the plain file's numbers
+  reads-free : (model : ℕ) → model < MODELS → verdictOf rows model ≡ free → (file : ℕ) (order : List ℕ) → Allowed rows order →
+      ReadsSame model (rowsFor rows file order) fresh nothing
+  reads-free model m e file order allowed =
+      reads-in rows model file order
+      (λ first y rest q b r.
+      let a = first-allowed rows (first ++ (y ∷ [])) rest (subst (Allowed rows) (q ∙ sym (append-assoc first (y ∷ []) rest)) allowed) in
+      let ok = subst (Ok (byteTrace rows model file b)) (last-first first y) (allowed-ok rows model file b (first ++ (y ∷ [])) a) in
+      reads-plain (byteTrace rows model file b) (free-at rows model m e file b) y (reverse first) ok r)
 
   -- demand 2: a trace that is free under its model
-  pub free-reads : (model : ℕ) → model < MODELS → verdictOf rows model ≡ free → ReadsPlain model P rows
-  free-reads model m e file f order allowed xs ys out lent =
-      agree-iff (h model file m f) (made model file m f) (pointsOf rows) (points-length rows) xs ys out lent (rowsFor rows file order)
-      (order-fits model file m f order (allowed .of-trace)) .1 (reads-free model file m f e order allowed)
+  pub free-reads : (model : ℕ) → model < MODELS → verdictOf rows model ≡ free → (space : ℕ) → SpaceFor rows space → ReadsPlain model P space rows
+  free-reads model m e space room file f order allowed xs ys out lent =
+      agree-iff (made model space file m f) (points-enough (h model space file m f) rows room) lent (rowsFor rows file order)
+      (order-fits model space file m f order (allowed .of-trace)) .1 (reads-free model m e file order allowed)
 
   -- ---- Commit
 
@@ -156,11 +161,12 @@ module _ (rows : List Row) (P : ℕ) (sound : Sound P rows) (few : length rows �
     final = endRows COMMIT file ends
 
     -- the rows of a whole run pass the questions before 16
-    whole-fits : AllFit (h COMMIT-MODEL file (omega arith) f) (pointsOf rows) (l ++ final)
-    whole-fits =
-        fit-append (h COMMIT-MODEL file (omega arith) f) (pointsOf rows) l final
-        (order-fits COMMIT-MODEL file (omega arith) f order (allowed .of-trace))
-        (ends-fit COMMIT-MODEL file (omega arith) f COMMIT (omega arith) refl (λ q. absurd (omega (arith, q))) ends (λ p i. all .every p .1 i) (all .numbered))
+    whole-fits : (space : ℕ) → AllFit (headerFor COMMIT-MODEL P space file) (pointsOf rows) (l ++ final)
+    whole-fits space =
+        fit-append (headerFor COMMIT-MODEL P space file) (pointsOf rows) l final
+        (order-fits COMMIT-MODEL space file (omega arith) f order (allowed .of-trace))
+        (ends-fit COMMIT-MODEL space file (omega arith) f COMMIT (omega arith) refl (λ q. absurd (omega (arith, q))) ends (λ p i. all .every p .1 i)
+        (all .numbered))
 
     -- what the published file and the plain file hold at the end of a run
     published-end : (b : ℕ) → numberIn (layersRun COMMIT-MODEL (l ++ final) fresh .shared b)
@@ -176,15 +182,16 @@ module _ (rows : List Row) (P : ℕ) (sound : Sound P rows) (few : length rows �
         ∙ plain-at rows COMMIT-MODEL file b order
 
   -- a free trace has equal files
-  free-equal : verdictOf rows COMMIT-MODEL ≡ free → Equal P rows
-  free-equal e file f order allowed ends all xs ys out lent =
-      let fit = whole-fits file f order allowed ends all in
-      let made′ = made COMMIT-MODEL file (omega arith) f in
-      let h′ = h COMMIT-MODEL file (omega arith) f in (
-        agree-iff h′ made′ (pointsOf rows) (points-length rows) xs ys out lent (rowsFor rows file order ++ endRows COMMIT file ends) fit .1
-            (reads-append COMMIT-MODEL (rowsFor rows file order) (endRows COMMIT file ends) fresh nothing (reads-free COMMIT-MODEL file (omega arith) f e order allowed)
+  free-equal : verdictOf rows COMMIT-MODEL ≡ free → (space : ℕ) → SpaceFor rows space → Equal P space rows
+  free-equal e space room file f order allowed ends all xs ys out lent =
+      let fit = whole-fits file f order allowed ends all space in
+      let made′ = made COMMIT-MODEL space file (omega arith) f in
+      let enough = points-enough (headerFor COMMIT-MODEL P space file) rows room in (
+        agree-iff made′ enough lent (rowsFor rows file order ++ endRows COMMIT file ends) fit .1
+            (reads-append COMMIT-MODEL (rowsFor rows file order) (endRows COMMIT file ends) fresh nothing
+            (reads-free COMMIT-MODEL (omega arith) e file order allowed)
             (ends-read COMMIT COMMIT-MODEL file ends (λ q. absurd (omega (arith, q))) _ _)),
-        level-iff h′ made′ (pointsOf rows) (points-length rows) xs ys out lent (rowsFor rows file order ++ endRows COMMIT file ends) fit .1
+        level-iff made′ enough lent (rowsFor rows file order ++ endRows COMMIT file ends) fit .1
             (λ b lb. published-end file f order allowed ends all b ∙ same b ∙ sym (plain-end file f order allowed ends all b)),
       )
     where
@@ -197,17 +204,18 @@ module _ (rows : List Row) (P : ℕ) (sound : Sound P rows) (few : length rows �
           (λ k i. all .every (rowAt rows k .process) .0 (well k (row-of t ok k i) .process))
 
   -- slices with room
-  enough : (g : Header) → Lent g (replicate (mapsLength g) 0) (replicate (4 * g .space) 0) (replicate (3 * (g .space + 1)) 0)
-  enough g =
+  zeros : (g : Header) → Lent g rows (replicate (mapsLength g) 0) (replicate (4 * g .space) 0) (replicate (3 * (2 * writesIn rows + 1)) 0)
+  zeros g =
       record {
         for-machine = omega (arith, length-replicate {A = ℕ} (mapsLength g) 0);
         for-plain = omega (arith, length-replicate {A = ℕ} (4 * g .space) 0);
-        for-answers = omega (arith, length-replicate {A = ℕ} (3 * (g .space + 1)) 0);
+        for-answers = omega (arith, length-replicate {A = ℕ} (3 * (2 * writesIn rows + 1)) 0);
       }
 
-  module _ (equal : Equal P rows) (file : ℕ) (f : file < FILES) (order : List ℕ) (allowed : Allowed rows order) (ends : List End) (all : ByAll P ends) where
+  module _ (space : ℕ) (room : SpaceFor rows space) (equal : Equal P space rows) (file : ℕ) (f : file < FILES) (order : List ℕ)
+      (allowed : Allowed rows order) (ends : List End) (all : ByAll P ends) where
     abbrev g : Header
-    g = h COMMIT-MODEL file (omega arith) f
+    g = headerFor COMMIT-MODEL P space file
 
     abbrev whole : List Numbered
     whole = rowsFor rows file order ++ endRows COMMIT file ends
@@ -216,47 +224,47 @@ module _ (rows : List Row) (P : ℕ) (sound : Sound P rows) (few : length rows �
     equal-reads : ReadsSame COMMIT-MODEL (rowsFor rows file order) fresh nothing
     equal-reads =
         reads-first COMMIT-MODEL (rowsFor rows file order) (endRows COMMIT file ends) fresh nothing
-        (agree-iff g (made COMMIT-MODEL file (omega arith) f) (pointsOf rows) (points-length rows) (replicate (mapsLength g) 0) (replicate (4 * g .space) 0)
-        (replicate (3 * (g .space + 1)) 0) (enough g) whole (whole-fits file f order allowed ends all) .0
-        (equal file f order allowed ends all (replicate (mapsLength g) 0) (replicate (4 * g .space) 0) (replicate (3 * (g .space + 1)) 0) (enough g) .0))
+        (agree-iff (made COMMIT-MODEL space file (omega arith) f) (points-enough g rows room) (zeros g) whole
+        (whole-fits file f order allowed ends all space) .0
+        (equal file f order allowed ends all _ _ _ (zeros g) .0))
 
     -- and at the end each published byte is the plain one
     equal-end : (b : ℕ) → b < OFFSET-MAX → publishAll (processesOf ends) (run (byteTrace rows COMMIT-MODEL file b) (reverse order)) .published
         ≡ plain (byteTrace rows COMMIT-MODEL file b) (reverse order)
     equal-end b lb =
         sym (published-end file f order allowed ends all b)
-        ∙ level-iff g (made COMMIT-MODEL file (omega arith) f) (pointsOf rows) (points-length rows) (replicate (mapsLength g) 0) (replicate (4 * g .space) 0)
-        (replicate (3 * (g .space + 1)) 0) (enough g) whole (whole-fits file f order allowed ends all) .0
-        (equal file f order allowed ends all (replicate (mapsLength g) 0) (replicate (4 * g .space) 0) (replicate (3 * (g .space + 1)) 0) (enough g) .1) b lb
+        ∙ level-iff (made COMMIT-MODEL space file (omega arith) f) (points-enough g rows room) (zeros g) whole
+        (whole-fits file f order allowed ends all space) .0
+        (equal file f order allowed ends all _ _ _ (zeros g) .1) b lb
         ∙ plain-end file f order allowed ends all b
 
   -- what an order shows at a byte is no equality
-  not-shown : Equal P rows → (file b : ℕ) → file < FILES → b < OFFSET-MAX → (h : List ℕ) → Ok (byteTrace rows COMMIT-MODEL file b) h →
-      Shown (byteTrace rows COMMIT-MODEL file b) h → ⊥
-  not-shown equal file b f lb h ok (by-read y l q r n) =
+  not-shown : (space : ℕ) → SpaceFor rows space → Equal P space rows → (file b : ℕ) → file < FILES → b < OFFSET-MAX → (h : List ℕ) →
+      Ok (byteTrace rows COMMIT-MODEL file b) h → Shown (byteTrace rows COMMIT-MODEL file b) h → ⊥
+  not-shown space room equal file b f lb h ok (by-read y l q r n) =
       let t = byteTrace rows COMMIT-MODEL file b in
       let p = rowAt rows y .process in
       let e = all-last P p (well y (row-of t ok y (rw q (inl refl))) .process) in
       let allowed = ok-allowed rows COMMIT-MODEL file b h ok in
       let turned : reverse h ≡ reverse l ++ (y ∷ []) = ap reverse q ∙ reverse-cons y l in
-      let reads = equal-reads equal file f (reverse h) allowed (e .1) (e .2) in
+      let reads = equal-reads space room equal file f (reverse h) allowed (e .1) (e .2) in
       let again = reads-out rows COMMIT-MODEL file (reverse l) y
       (subst (λ (o : List ℕ). ReadsSame COMMIT-MODEL (rowsFor rows file o) fresh nothing) turned reads) b r in
       n (ap (λ (z : List ℕ). run t z .view p) q
       ∙ subst (λ (z : List ℕ). run t (y ∷ z) .view p ≡ plain t z) (reverse-reverse l) again)
-  not-shown equal file b f lb h ok (at-end p k i e n) =
+  not-shown space room equal file b f lb h ok (at-end p k i e n) =
       let t = byteTrace rows COMMIT-MODEL file b in
       let below : p < P = subst (λ (z : ℕ). z < P) e (well k (row-of t ok k i) .process) in
       let a = all-last P p below in
       let allowed = ok-allowed rows COMMIT-MODEL file b h ok in
-      let end = equal-end equal file f (reverse h) allowed (a .1) (a .2) b lb in
+      let end = equal-end space room equal file f (reverse h) allowed (a .1) (a .2) b lb in
       n (a .0) (a .4)
       (subst (λ (z : List ℕ). publishAll z (run t h) .published ≡ plain t h) (a .3)
       (subst (λ (z : List ℕ). publishAll (processesOf (a .1)) (run t z) .published ≡ plain t z) (reverse-reverse h) end))
 
   -- equal files are those of a free trace
-  equal-free : Equal P rows → verdictOf rows COMMIT-MODEL ≡ free
-  equal-free equal = free-iff rows COMMIT-MODEL .1 no-race
+  equal-free : (space : ℕ) → SpaceFor rows space → Equal P space rows → verdictOf rows COMMIT-MODEL ≡ free
+  equal-free space room equal = free-iff rows COMMIT-MODEL .1 no-race
     where
       no-race : (x y : ℕ) → race rows COMMIT-MODEL x y ≡ true → ⊥
       no-race x y r =
@@ -269,7 +277,7 @@ module _ (rows : List Row) (P : ℕ) (sound : Sound P rows) (few : length rows �
           let t = byteTrace rows COMMIT-MODEL file b in
           let s = race-shown t (commits rows file b) x y (at .conflicts) (at .unsynchronized) in
           let inside : b < rowAt rows x .offset + rowAt rows x .length = range-end (rowAt rows x .offset) (rowAt rows x .length) b (at .in-earlier) in
-          not-shown equal file b (w .file) (omega (arith, inside, w .end)) (s .0) (s .1) (s .2)
+          not-shown space room equal file b (w .file) (omega (arith, inside, w .end)) (s .0) (s .1) (s .2)
 
   -- ---- Orders alone
 
@@ -313,10 +321,19 @@ module _ (text : List ℕ) (header model R P limit a b : ℕ) (rows : List Row) 
       (s .1, omega (arith, s .0, p .0 .few-rows), p .0 .some-processes, p .0 .few-processes)
 
   -- Demand 2: where an accepted trace is free under a model, every read in every allowed order returns what one plain file would, and no row is
-  -- refused.
-  pub demand-2 : (m : ℕ) → m < MODELS → verdictOf rows m ≡ free → ReadsPlain m P rows
+  -- refused, in maps of every space from twice the trace's writes on.
+  pub demand-2 : (m : ℕ) → m < MODELS → verdictOf rows m ≡ free → (space : ℕ) → SpaceFor rows space → ReadsPlain m P space rows
   demand-2 = let s = sound-trace in free-reads rows P (s .0) (s .1) (s .2) (s .3)
 
-  -- Demand 3: the layered and the plain file of an accepted trace are equal exactly when its verdict under commit is free.
-  pub demand-3 : (verdictOf rows COMMIT-MODEL ≡ free) ↔ Equal P rows
-  demand-3 = let s = sound-trace in (free-equal rows P (s .0) (s .1) (s .2) (s .3), equal-free rows P (s .0) (s .1) (s .2) (s .3))
+  -- Demand 3: the layered and the plain file of an accepted trace are equal exactly when its verdict under commit is free, for every such space.
+  pub demand-3 : (space : ℕ) → SpaceFor rows space → (verdictOf rows COMMIT-MODEL ≡ free) ↔ Equal P space rows
+  demand-3 space room =
+      let s = sound-trace in
+      (λ e. free-equal rows P (s .0) (s .1) (s .2) (s .3) e space room, equal-free rows P (s .0) (s .1) (s .2) (s .3) space room)
+
+  -- both in maps with space for exactly twice the trace's writes
+  pub demand-2-exactly : (m : ℕ) → m < MODELS → verdictOf rows m ≡ free → ReadsPlain m P (2 * writesIn rows) rows
+  demand-2-exactly m h e = demand-2 m h e (2 * writesIn rows) (omega arith)
+
+  pub demand-3-exactly : (verdictOf rows COMMIT-MODEL ≡ free) ↔ Equal P (2 * writesIn rows) rows
+  demand-3-exactly = demand-3 (2 * writesIn rows) (omega arith)

@@ -1,19 +1,20 @@
 -- Whole runs of the layered and the plain file, and what it means that they are equal.
-use Prim.Native.Nat.{ℕ, zero, suc, _+_, _*_, _≤_, _<_}
+use Prim.Native.Nat.{ℕ, suc, _+_, _*_, _≤_, _<_}
 use mathlib.Core.Path.{_≡_}
 use mathlib.Core.Logic.{_↔_}
-use mathlib.Core.Bool.{Bool, true, cond}
+use mathlib.Core.Bool.{cond}
 use mathlib.Core.List.{List, [], _∷_, _++_}
 use lib.ListN.{length}
 use lib.Dec.{eqb}
 use Rattle.models.specs.Limits.{ROWS, FILES, OFFSET-MAX}
 use Rattle.models.specs.Operations.{WRITE, COMMIT, COMMIT-MODEL}
 use Rattle.fields.specs.declared.Row.{Row}
+use Rattle.trace.specs.Questions.{firstNo}
 use Rattle.order.specs.Order.{rowAt}
 use Rattle.runs.specs.Cells.{numberIn}
 use Rattle.layers.specs.Layers.{ofFile}
 use Rattle.layers.specs.States.{Header, mapsLength, layersIn, plainIn}
-use Rattle.layers.specs.Steps.{Answer, refusing, done, listed, Step, stepOf, plainStepOf, madeTo}
+use Rattle.layers.specs.Steps.{refusing, Step, stepOf, plainStepOf, makingQuestions, plainMakingQuestions, madeTo}
 use Rattle.consistency.specs.Orders.{In, Once, Allowed}
 
 -- ---- What is put to both files
@@ -91,39 +92,46 @@ unfoldable pub writesIn : List Row → ℕ
 writesIn [] = 0
 writesIn (r ∷ rows) = cond (eqb (r .kind) WRITE) 1 0 + writesIn rows
 
--- maps have space for twice the trace's writes
-abbrev pub headerFor : ℕ → ℕ → ℕ → List Row → Header
-headerFor model processes file rows = record { model = model; processes = processes; file = file; space = 2 * writesIn rows }
+-- maps of this space have space for twice the trace's writes
+abbrev pub SpaceFor : List Row → ℕ → Type 0
+SpaceFor rows space = 2 * writesIn rows ≤ space
 
--- fresh files in slices that have room, and an answer slice with room for one piece more than twice the writes
-pub record Lent (h : Header) (xs ys out : List ℕ) : Type 0 where
+-- a header by its numbers
+abbrev pub headerFor : ℕ → ℕ → ℕ → ℕ → Header
+headerFor model processes space file = record { model = model; processes = processes; file = file; space = space }
+
+-- slices that hold the maps of both files, and an answer slice with room for one piece more than twice the trace's writes
+pub record Lent (h : Header) (rows : List Row) (xs ys out : List ℕ) : Type 0 where
   pub for-machine : mapsLength h ≤ length xs
   pub for-plain : 4 * h .space ≤ length ys
-  pub for-answers : 3 * (h .space + 1) ≤ length out
+  pub for-answers : 3 * (2 * writesIn rows + 1) ≤ length out
 
+-- What making leaves in the slices that are lent for a machine and for a plain file. A making that refuses leaves the slice as it was lent.
 abbrev pub freshMachine : Header → List ℕ → List ℕ
-freshMachine h xs = madeTo 0 (mapsLength h) xs
+freshMachine h xs = madeTo (firstNo (makingQuestions h (length xs))) (mapsLength h) xs
 
 abbrev pub freshPlain : Header → List ℕ → List ℕ
-freshPlain h ys = madeTo 0 (4 * h .space) ys
+freshPlain h ys = madeTo (firstNo (plainMakingQuestions h (length ys))) (4 * h .space) ys
 
--- Every row of every allowed order of every closed set is accepted by both, and every read returns what one plain file would.
-abbrev pub ReadsPlain : ℕ → ℕ → List Row → Type 0
-ReadsPlain model processes rows =
-    (file : ℕ) → file < FILES → (order : List ℕ) → Allowed rows order → (xs ys out : List ℕ) → Lent (headerFor model processes file rows) xs ys out →
-    let h = headerFor model processes file rows in
+-- In maps of a space, every row of every allowed order of every closed set is accepted by both, and every read returns what one plain file
+-- would.
+abbrev pub ReadsPlain : ℕ → ℕ → ℕ → List Row → Type 0
+ReadsPlain model processes space rows =
+    (file : ℕ) → file < FILES → (order : List ℕ) → Allowed rows order →
+    (xs ys out : List ℕ) → Lent (headerFor model processes space file) rows xs ys out →
+    let h = headerFor model processes space file in
     Agree h out (rowsFor rows file order) (freshMachine h xs) (freshPlain h ys)
 
 -- Layered and plain file are equal under a model whose processes end with rows of a kind: so it is for those rows too, and at the end the
 -- published file has the plain file's row number at every byte.
-abbrev pub EqualWith : ℕ → ℕ → ℕ → List Row → Type 0
-EqualWith kind model processes rows =
+abbrev pub EqualWith : ℕ → ℕ → ℕ → ℕ → List Row → Type 0
+EqualWith kind model processes space rows =
     (file : ℕ) → file < FILES → (order : List ℕ) → Allowed rows order → (ends : List End) → ByAll processes ends →
-    (xs ys out : List ℕ) → Lent (headerFor model processes file rows) xs ys out →
-    let h = headerFor model processes file rows in
+    (xs ys out : List ℕ) → Lent (headerFor model processes space file) rows xs ys out →
+    let h = headerFor model processes space file in
     let l = rowsFor rows file order ++ endRows kind file ends in
     Agree h out l (freshMachine h xs) (freshPlain h ys) × Level h (runFrom h out l (freshMachine h xs)) (plainRunFrom h out l (freshPlain h ys))
 
 -- demand 3: with one commit by each process
-abbrev pub Equal : ℕ → List Row → Type 0
-Equal processes rows = EqualWith COMMIT COMMIT-MODEL processes rows
+abbrev pub Equal : ℕ → ℕ → List Row → Type 0
+Equal processes space rows = EqualWith COMMIT COMMIT-MODEL processes space rows
