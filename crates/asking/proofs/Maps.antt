@@ -1,48 +1,37 @@
 -- A machine's state as two maps at a time: a row changes the published map and one view. Assumes nothing.
 use Prim.Native.Nat.{ℕ, zero, suc, _+_, _*_, _-_, _≤_, _<_}
 use native.Mathlib.Numerals.{add-one}
-use native.Mathlib.Nat.{zero-mul, mul-le-mul-right}
+use native.Mathlib.Nat.{zero-mul}
 use native.Mathlib.Decide.{decLt}
 use native.Mathlib.Omega.{arith}
 use mathlib.Core.Path.{_≡_, refl, sym, ap, _∙_}
 use mathlib.Core.Logic.{inr}
 use mathlib.Core.Bool.{Bool, true, false, cond, not, _&&_, and-true, false≢true}
-use mathlib.Core.List.{List, _++_, append-assoc, append-nil}
-use lib.ListN.{length, take, drop, length-drop, take-append-drop}
-use lib.Seq.{length-take-le, ext-getD, take-add, getD-drop}
+use mathlib.Core.List.{List}
+use lib.ListN.{length, take, drop, length-drop}
+use lib.Seq.{ext-getD, getD-drop}
 use lib.Dec.{leb, ltb, eqb}
-use borrow.Author.Tests.{le-leb, leb-true, eq-eqb, ne-eqb, eqb-true, eqb-false}
-use Rattle.models.specs.Limits.{MODELS, FILES}
+use borrow.Author.Tests.{le-leb, eq-eqb, ne-eqb, eqb-true, eqb-false}
+use Rattle.models.specs.Limits.{FILES}
 use Rattle.models.specs.Operations.{WRITE}
 use Rattle.models.specs.Table.{publishes, refreshes}
 use Rattle.fields.specs.declared.Row.{Row}
 use Rattle.runs.specs.Cells.{Bytes, cellOf, overwrite, published, settled, refreshed}
-use Rattle.runs.specs.Runs.{Run, runsOf}
-use Rattle.runs.specs.Maps.{mapOf, mapFor, runs, spaceIn, bytesOf, lawful, lawfulPublished, mapAt, withMap}
-use Rattle.layers.specs.Layers.{Layers, withView, written, publishing, refreshing, afterRow}
+use Rattle.runs.specs.Runs.{runsOf}
+use Rattle.runs.specs.Maps.{mapFor, lawful, lawfulPublished, mapAt, withMap}
+use Rattle.layers.specs.Layers.{Layers, withView, publishing, refreshing, afterRow}
 use Rattle.layers.specs.States.{Header, mapsLength, allBelow, processLimit, lawfulState, layersIn, layersTo, layersFit}
 use Rattle.layers.specs.States.{lawfulPlain}
 use Rattle.layers.specs.Steps.{makingQuestions, plainMakingQuestions}
 use Rattle.layers.proofs.Stepping.{AllYes}
-use Rattle.layers.proofs.Slices.{all-in, blocks-same}
-use Rattle.runs.proofs.Trips.{both, not-passed, lawful-map, length-map}
-use Rattle.runs.proofs.Longest.{runs-back}
+use Rattle.layers.proofs.Slices.{all-in, all-out}
+use Rattle.layers.proofs.Lawful.{to-is, here-fit, state-told, state-parts, map-below, map-in, shared-again, view-again}
+use Rattle.runs.proofs.Trips.{both, not-passed, length-map}
 use Rattle.runs.proofs.Sides.{with-length, with-other, at-same, at-other}
-use Rattle.order.specs.Counting.{blocks}
 use Rattle.views.specs.Pairs.{twoMaps}
 use Rattle.extents.specs.Entries.{bothMaps}
 
 -- ---- Numbers below a bound
-
--- where all pass, each does
-pub all-out : (n : ℕ) (test : ℕ → Bool) → allBelow n test ≡ true → (p : ℕ) → p < n → test p ≡ true
-unfolding allBelow
-all-out zero test e p l = absurd (omega arith)
-all-out (suc n) test e p l = let b = both (allBelow n test) (test n) e in go (decLt p n) (all-out n test (b .0) p) (b .1)
-  where
-    go : Dec (p < n) → (p < n → test p ≡ true) → test n ≡ true → test p ≡ true
-    go (yes q) ih t = ih q
-    go (no q) ih t = let e : p ≡ n = omega arith in ap test e ∙ t
 
 -- none
 pub all-none : (test : ℕ → Bool) → allBelow 0 test ≡ true
@@ -77,30 +66,6 @@ all-one (suc n) p test l h = go (decLt p n) (all-one n p test)
 pub first-map : (space : ℕ) (xs : List ℕ) → mapAt space 0 xs ≡ take (4 * space) xs
 first-map space xs = λ i. take (4 * space) (drop (zero-mul (4 * space) i) xs)
 
--- the maps of a slice one after the other are its front
-maps-front : (m : ℕ) (xs : List ℕ) (n : ℕ) → take m (drop (0 * m) xs) ++ blocks n (λ q. take m (drop (suc q * m) xs)) ≡ take (suc n * m) xs
-unfolding blocks
-maps-front m xs zero =
-    let e : m ≡ suc zero * m = omega arith in
-    append-nil (take m (drop (0 * m) xs)) ∙ (λ i. take m (drop (zero-mul m i) xs)) ∙ ap (λ (k : ℕ). take k xs) e
-maps-front m xs (suc n) =
-    let g : ℕ → List ℕ = λ q. take m (drop (suc q * m) xs) in
-    let e : suc n * m + m ≡ suc (suc n) * m = omega arith in
-    sym (append-assoc (take m (drop (0 * m) xs)) (blocks n g) (g n)) ∙ ap (λ (l : List ℕ). l ++ g n) (maps-front m xs n)
-    ∙ sym (take-add (suc n * m) m xs) ∙ ap (λ (k : ℕ). take k xs) e
-
--- so a slice that has the maps of a layered file, and the numbers of another one behind them, is that one with the maps put in
-to-is : (h : Header) (s : Layers) (xs ys : List ℕ) → mapAt (h .space) 0 ys ≡ mapFor (h .space) (s .shared) →
-    ((q : ℕ) → q < h .processes → mapAt (h .space) (suc q) ys ≡ mapFor (h .space) (s .view q)) → drop (mapsLength h) ys ≡ drop (mapsLength h) xs →
-    layersTo h s xs ≡ ys
-unfolding layersTo
-to-is h s xs ys first views rest =
-    let e : suc (h .processes) * (4 * h .space) ≡ mapsLength h = omega arith in
-    let b = blocks-same (h .processes) (λ q. mapAt (h .space) (suc q) ys) (λ q. mapFor (h .space) (s .view q)) views in
-    sym (λ i. (first i ++ b i) ++ rest i)
-    ∙ (λ i. (maps-front (4 * h .space) ys (h .processes) ∙ ap (λ (k : ℕ). take k ys) e) i ++ drop (mapsLength h) ys)
-    ∙ take-append-drop (mapsLength h) ys
-
 -- what stands behind a map that is put
 drop-with : (space k : ℕ) (m xs : List ℕ) → length m ≡ 4 * space → (k + 1) * (4 * space) ≤ length xs → (n : ℕ) → (k + 1) * (4 * space) ≤ n →
     drop n (withMap space k m xs) ≡ drop n xs
@@ -110,43 +75,13 @@ drop-with space k m xs size fit n h =
     (length-drop n ys ∙ ap (λ (l : ℕ). l - n) (with-length space k m xs size fit) ∙ sym (length-drop n xs))
     (λ i _. getD-drop n ys i 0 ∙ with-other space k m xs size fit (n + i) (inr (omega (arith, h))) ∙ sym (getD-drop n xs i 0))
 
--- a lawful map of a slice fits its space and is written again as it is
-module _ (space k : ℕ) (xs : List ℕ) (law : lawful (mapAt space k xs) ≡ true) (fit : (k + 1) * (4 * space) ≤ length xs) where
-  -- the map
-  abbrev here : List ℕ
-  here = mapAt space k xs
-
-  -- its space
-  here-space : spaceIn here ≡ space
-  here-space =
-      omega (arith, length-take-le (4 * space) (drop (k * (4 * space)) xs) (omega (arith, fit, length-drop (k * (4 * space)) xs)))
-
-  -- the runs of its bytes are its runs
-  here-runs : runsOf (bytesOf here) ≡ runs here
-  here-runs = runs-back (runs here) (lawful-map here law .lawful-runs)
-
-  -- it fits
-  pub here-fit : length (runsOf (bytesOf here)) ≤ space
-  here-fit = omega (arith, ap (λ (l : List Run). length l) here-runs, lawful-map here law .fit, here-space)
-
-  -- it is written again as it is
-  pub here-again : mapFor space (bytesOf here) ≡ here
-  here-again = (λ i. mapOf (sym here-space i) (here-runs i)) ∙ sym (lawful-map here law .whole)
-
 -- ---- A lawful state
 
 module _ (h : Header) (xs : List ℕ) where
-  -- it is as for making, and its maps are lawful
-  pub state-making : lawfulState h xs ≡ true → AllYes (makingQuestions h (length xs)) × (lawfulPublished (mapAt (h .space) 0 xs) ≡ true)
-      × (allBelow (h .processes) (λ p. lawful (mapAt (h .space) (suc p) xs)) ≡ true)
-  unfolding lawfulState makingQuestions
-  state-making law =
-      let e1 = both (ltb (h .model) MODELS) _ law in
-      let e2 = both (processLimit (h .processes)) _ (e1 .1) in
-      let e3 = both (ltb (h .file) FILES) _ (e2 .1) in
-      let e4 = both (leb (mapsLength h) (length xs)) _ (e3 .1) in
-      let e5 = both (lawfulPublished (mapAt (h .space) 0 xs)) _ (e4 .1) in
-      ((e4 .0, (λ i. e1 .0 i && e2 .0 i, (e3 .0, tt))), e5 .0, e5 .1)
+  -- it is as for making
+  pub state-making : lawfulState h xs ≡ true → AllYes (makingQuestions h (length xs))
+  unfolding makingQuestions
+  state-making law = let k = state-told h xs law in (k .3, (λ i. k .0 i && k .1 i, (k .2, tt)))
 
   -- a plain one is as for making too, and its map is lawful
   pub plain-making : lawfulPlain h xs ≡ true → AllYes (plainMakingQuestions h (length xs)) × (lawfulPublished (mapAt (h .space) 0 xs) ≡ true)
@@ -156,35 +91,6 @@ module _ (h : Header) (xs : List ℕ) where
       let e2 = both (ltb (h .file) FILES) _ (e1 .1) in
       let e3 = both (leb (4 * h .space) (length xs)) _ (e2 .1) in
       ((e3 .0, (e1 .0, (e2 .0, tt))), e3 .1)
-
--- its maps lie in the slice, and each is lawful
-module _ (h : Header) (xs : List ℕ) (law : lawfulState h xs ≡ true) where
-  pub state-parts : (mapsLength h ≤ length xs) × (lawfulPublished (mapAt (h .space) 0 xs) ≡ true)
-      × ((q : ℕ) → q < h .processes → lawful (mapAt (h .space) (suc q) xs) ≡ true)
-  unfolding makingQuestions
-  state-parts =
-      let k = state-making h xs law in
-      (leb-true _ _ (k .0 .0), k .1, all-out (h .processes) (λ p. lawful (mapAt (h .space) (suc p) xs)) (k .2))
-
-  -- room for a map
-  map-below : (k : ℕ) → k ≤ h .processes → (k + 1) * (4 * h .space) ≤ mapsLength h
-  map-below k l = let m : k + 1 ≤ h .processes + 1 = omega arith in omega (arith, mul-le-mul-right (4 * h .space) m)
-
-  -- in the slice too
-  map-in : (k : ℕ) → k ≤ h .processes → (k + 1) * (4 * h .space) ≤ length xs
-  map-in k l = omega (arith, map-below k l, state-parts .0)
-
-  -- the published map is lawful by itself
-  shared-law : lawful (mapAt (h .space) 0 xs) ≡ true
-  shared-law = both (lawful (mapAt (h .space) 0 xs)) _ (state-parts .1) .0
-
-  -- it is written again as it is
-  shared-again : mapFor (h .space) (layersIn h xs .shared) ≡ mapAt (h .space) 0 xs
-  shared-again = here-again (h .space) 0 xs shared-law (map-in 0 (omega arith))
-
-  -- and so is each view
-  view-again : (q : ℕ) → q < h .processes → mapFor (h .space) (layersIn h xs .view q) ≡ mapAt (h .space) (suc q) xs
-  view-again q l = here-again (h .space) (suc q) xs (state-parts .2 q l) (map-in (suc q) l)
 
 module _ (h : Header) (xs : List ℕ) (law : lawfulState h xs ≡ true) (p : ℕ) (below : p < h .processes) where
   -- the view of a process and the published map are two maps of the slice
@@ -271,10 +177,6 @@ module _ (h : Header) (xs : List ℕ) (law : lawfulState h xs ≡ true) (p : ℕ
       ≡ withMap (h .space) (suc p) (mapFor (h .space) v) xs
   to-view-alone v fit =
       to-is h _ xs (viewed v fit) (viewed-shared v fit ∙ sym (shared-again h xs law)) (viewed-view v fit) (viewed-rest v fit)
-
-  -- and so is a state that a row does not change
-  pub to-same : layersTo h (layersIn h xs) xs ≡ xs
-  to-same = to-is h (layersIn h xs) xs xs (sym (shared-again h xs law)) (λ q l. sym (view-again h xs law q l)) refl
 
 -- ---- A row
 

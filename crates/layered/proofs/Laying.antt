@@ -24,6 +24,7 @@ use Rattle.layers.specs.Layers.{Layers, afterRow, piecesRead}
 use Rattle.layers.specs.States.{Header, mapsLength, allBelow, processLimit, lawfulState, layersIn, layersTo, layersFit, plainFits}
 use Rattle.layers.specs.Steps.{Answer, done, listed, rowAsked, roomAsked, answered, decided, stepOf}
 use Rattle.layers.proofs.Slices.{Alike, alike-fit, alike-to}
+use Rattle.layers.proofs.Lawful.{here-fit, to-same}
 use Rattle.layers.proofs.Stepping.{AllYes}
 use Rattle.maps.specs.Pieces.{listedIn}
 use Rattle.extents.specs.declared.Answer as extents
@@ -36,7 +37,7 @@ use Rattle.extents.specs.Entries.{postRefusal, postedMaps, readRefusal}
 use Rattle.views.proofs.Parts.{home}
 use Rattle.views.proofs.Pairing.{two-told, lentMap, map-lent, map-space}
 use Rattle.asking.specs.Answers.{answerOf, Steps, Ready}
-use Rattle.asking.proofs.Maps.{first-map, here-fit, state-two, state-view, state-in, anew, fit-both, to-both, to-view-alone, to-same}
+use Rattle.asking.proofs.Maps.{first-map, state-two, state-view, state-in, anew, fit-both, to-both, to-view-alone}
 use Rattle.asking.proofs.Maps.{shared′, view′, row-both}
 use Rattle.asking.proofs.Questions.{no-none, no-behind, no-before, room-named, asked-yes, asked-process, asked-range}
 use Rattle.asking.proofs.Answering.{same-kept, carried, refused}
@@ -197,7 +198,7 @@ module _ {h : Header} {xs : List ℕ} {r : Row} {number : ℕ} (k : Ready h xs r
   still-to : layersTo h (anew h xs (k .lawful) (r .process) (ready-process k) own (old .shared)) xs ≡ xs
   still-to =
       alike-to h (record { shared = refl; view = λ q l. go q (eqb q (r .process)) refl }) xs
-      ∙ to-same h xs (k .lawful) (r .process) (ready-process k)
+      ∙ to-same h xs (k .lawful)
     where
       go : (q : ℕ) (b : Bool) → eqb q (r .process) ≡ b → cond b own (old .view q) ≡ old .view q
       go q true e = ap (old .view) (sym (eqb-true q (r .process) e))

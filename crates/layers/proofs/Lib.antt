@@ -1,5 +1,6 @@
 pub mod Points
 pub mod Slices
+pub mod Lawful
 pub mod Stepping
 pub mod Making
 pub mod Tables

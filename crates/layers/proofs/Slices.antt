@@ -15,7 +15,7 @@ use Rattle.runs.specs.Cells.{Bytes, unpublished}
 use Rattle.runs.specs.Runs.{Run, runsOf, cellAt, Lawful}
 use Rattle.runs.specs.Maps.{mapOf, runs, bytesOf, lawful, noMarks, lawfulPublished}
 use Rattle.runs.proofs.Longest.{Fine, mean-behind, runs-mean, runs-lawful, runs-unique}
-use Rattle.runs.proofs.Trips.{map-none, length-map, map-back, map-lawful, no-marks-in}
+use Rattle.runs.proofs.Trips.{both, map-none, length-map, map-back, map-lawful, no-marks-in}
 use Rattle.layers.specs.Layers.{Layers, nothing, fresh}
 use Rattle.layers.specs.States.{Header, mapAt, mapsLength, allBelow, layersIn, mapFor, layersTo, layersFit, plainIn, plainTo, plainFits}
 use Rattle.layers.specs.Steps.{madeTo}
@@ -28,6 +28,16 @@ pub all-in : (n : ℕ) (test : ℕ → Bool) → ((p : ℕ) → p < n → test p
 unfolding allBelow
 all-in zero test h = refl
 all-in (suc n) test h = λ i. all-in n test (λ p l. h p (omega arith)) i && h n (omega arith) i
+
+-- where all pass, each does
+pub all-out : (n : ℕ) (test : ℕ → Bool) → allBelow n test ≡ true → (p : ℕ) → p < n → test p ≡ true
+unfolding allBelow
+all-out zero test e p l = absurd (omega arith)
+all-out (suc n) test e p l = let b = both (allBelow n test) (test n) e in go (decLt p n) (all-out n test (b .0) p) (b .1)
+  where
+    go : Dec (p < n) → (p < n → test p ≡ true) → test n ≡ true → test p ≡ true
+    go (yes q) ih t = ih q
+    go (no q) ih t = let e : p ≡ n = omega arith in ap test e ∙ t
 
 -- tests that agree there
 pub all-same : (n : ℕ) (f g : ℕ → Bool) → ((p : ℕ) → p < n → f p ≡ g p) → allBelow n f ≡ allBelow n g

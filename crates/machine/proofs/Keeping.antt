@@ -24,11 +24,12 @@ use Rattle.layers.specs.States.{Header, lawfulState, layersIn, layersTo, layers
 use Rattle.layers.specs.States.{lawfulPlain, plainIn, plainTo, plainFits}
 use Rattle.layers.specs.Steps.{Answer, refusing, done, listed, Step, rowAsked, roomAsked, answered, decided, stepOf, plainStepOf}
 use Rattle.layers.proofs.Points.{picked, prior, Pointed, LayersPointed, PlainPointed, Writing, fresh-pointed, row-pointed, plain-row-pointed}
-use Rattle.layers.proofs.Slices.{LayersHeld, PlainHeld, Alike, alike-fit, alike-to}
+use Rattle.layers.proofs.Slices.{all-out, LayersHeld, PlainHeld, Alike, alike-fit, alike-to}
+use Rattle.layers.proofs.Lawful.{state-parts}
 use Rattle.layers.proofs.Stepping.{AllYes, alike-row, to-lawful, plain-lawful}
 use Rattle.asking.specs.Answers.{putTo}
 use Rattle.machine.specs.Replays.{refusalIn, countIn}
-use Rattle.asking.proofs.Maps.{all-out, state-making, plain-making, state-parts}
+use Rattle.asking.proofs.Maps.{state-making, plain-making}
 use Rattle.asking.proofs.Questions.{Named, no-none, named-append, yes-parts, room-named, row-named, asked-number, asked-process, asked-range}
 
 -- ---- What every step keeps
@@ -177,7 +178,7 @@ module _ (points : List ℕ) (whole : (b : ℕ) → b ≤ OFFSET-MAX → In b po
         let a = alike-row r number (asked-process h r number asked) (h .model) (within-alike h xs) in
         let k = row-pointed (asked-writing asked) (h .model) (within-pointed h xs law) in
         let held = fit-held h (afterRow (h .model) r number (within h xs)) k (sym (alike-fit h a) ∙ fit) in
-        ap (lawfulState h) (alike-to h a xs) ∙ to-lawful h held xs (state-making h xs law .0)
+        ap (lawfulState h) (alike-to h a xs) ∙ to-lawful h held xs (state-making h xs law)
 
     -- and of the plain file
     row-plain : let f = afterPlain r number (plainIn h xs) in

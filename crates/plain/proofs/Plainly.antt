@@ -19,13 +19,14 @@ use Rattle.runs.proofs.Trips.{both}
 use Rattle.layers.specs.Layers.{afterPlain, piecesRead}
 use Rattle.layers.specs.States.{Header, processLimit, lawfulPlain, plainIn, plainTo, plainFits}
 use Rattle.layers.specs.Steps.{Answer, done, listed, plainMakingQuestions, rowAsked, roomAsked, plainStepOf}
+use Rattle.layers.proofs.Lawful.{here-fit, here-again}
 use Rattle.layers.proofs.Stepping.{AllYes}
 use Rattle.maps.specs.Pieces.{listedIn}
 use Rattle.extents.specs.declared.Answer as extents
 use Rattle.extents.specs.declared.Answer.the-variants.{Done, Refused}
 use Rattle.extents.specs.Entries.{orRefused, orKept, countOf, writeRefusal, writtenMap, listRefusal}
 use Rattle.asking.specs.Answers.{answerOf, Steps}
-use Rattle.asking.proofs.Maps.{first-map, here-again, here-fit, plain-making}
+use Rattle.asking.proofs.Maps.{first-map, plain-making}
 use Rattle.asking.proofs.Questions.{no-behind, no-before, asked-yes, asked-number, asked-range}
 use Rattle.asking.proofs.Answering.{same-kept, kept-append, carried, refused}
 
