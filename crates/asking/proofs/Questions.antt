@@ -2,14 +2,14 @@
 use Prim.Native.Nat.{ℕ, zero, suc, _+_, _*_, _/_, _≤_, _<_}
 use native.Mathlib.Omega.{arith}
 use mathlib.Core.Path.{_≡_, refl, sym, _∙_}
-use mathlib.Core.Bool.{Bool, true, false, cond, not, _&&_, _||_, and-false}
+use mathlib.Core.Bool.{Bool, true, false, cond, not, _&&_, _||_, and-true, and-false}
 use mathlib.Core.List.{List, [], _∷_, _++_}
 use lib.ListN.{drop, getD}
 use lib.Seq.{getD-drop}
 use lib.Dec.{leb, ltb, eqb}
 use borrow.Author.Tests.{le-leb, lt-leb, leb-true, lt-ltb, le-ltb, ltb-true, eq-eqb, ne-eqb}
 use Rattle.models.specs.Limits.{ROWS, OFFSET-MAX}
-use Rattle.models.specs.Operations.{READ, WRITE}
+use Rattle.models.specs.Operations.{READ, WRITE, COMMIT, SEND}
 use Rattle.fields.specs.declared.Row.{Row}
 use Rattle.trace.specs.Rows.{rowHere}
 use Rattle.trace.specs.Questions.{Question, firstNo}
@@ -20,6 +20,7 @@ use Rattle.layers.specs.States.{Header, processLimit}
 use Rattle.layers.specs.Steps.{usesRange, rowAsked, roomAsked}
 use Rattle.layers.proofs.Stepping.{AllYes}
 use Rattle.runs.proofs.Trips.{both}
+use Rattle.asking.specs.Answers.{fileAsked, rangeAsked}
 
 -- ---- Limits and slices
 
@@ -61,12 +62,12 @@ row-read xs k =
 
 module _ (file : ℕ) (r : Row) where
   -- a send, a receive or no kind
-  pub kind-past : 5 < r .kind → false ≡ ofFile file r
-  kind-past h = sym (λ i. le-ltb (r .kind) 6 (omega arith) i && eqb (r .file) file)
+  pub kind-past : SEND ≤ r .kind → false ≡ ofFile file r
+  kind-past h = sym (λ i. le-ltb (r .kind) SEND h i && eqb (r .file) file)
 
   -- another kind: the file decides
-  pub kind-in : r .kind ≤ 5 → eqb (r .file) file ≡ ofFile file r
-  kind-in h = sym (λ i. lt-ltb (r .kind) 6 (omega arith) i && eqb (r .file) file)
+  pub kind-in : r .kind < SEND → eqb (r .file) file ≡ ofFile file r
+  kind-in h = sym (λ i. lt-ltb (r .kind) SEND h i && eqb (r .file) file)
 
 -- reads and writes use offset and length
 uses : (r : Row) → r .kind ≤ 1 → usesRange r ≡ true
@@ -80,74 +81,6 @@ uses r h = go (r .kind) h
 -- other rows do not
 uses-not : (r : Row) → 1 < r .kind → usesRange r ≡ false
 uses-not r h = λ i. ne-eqb (r .kind) READ (λ e. omega arith) i || ne-eqb (r .kind) WRITE (λ e. omega arith) i
-
--- ---- 15, 14, 10 and 11
-
-module _ (h : Header) (r : Row) (number : ℕ) where
-  -- the questions one by one
-  asks : firstNo (rowAsked h r number) ≡
-      cond (ofFile (h .file) r)
-      (cond (leb 1 number && leb number ROWS)
-      (cond (ltb (r .process) (h .processes) && (not (usesRange r) || (leb (r .offset) OFFSET-MAX && leb (r .length) OFFSET-MAX)))
-      (cond (not (usesRange r) || leb (r .offset + r .length) OFFSET-MAX) 0 11) 10) 14) 15
-  unfolding rowAsked firstNo
-  asks = refl
-
-  -- 15: the kind
-  pub asks-kind : 5 < r .kind → 15 ≡ firstNo (rowAsked h r number)
-  asks-kind l = sym (asks ∙ rw (sym (kind-past (h .file) r l)))
-
-  module _ (kind : r .kind ≤ 5) where
-    -- 15: the file
-    pub asks-file : (r .file ≡ h .file → ⊥) → 15 ≡ firstNo (rowAsked h r number)
-    asks-file l = sym (asks ∙ rw (sym (kind-in (h .file) r kind), ne-eqb (r .file) (h .file) l))
-
-    module _ (same : r .file ≡ h .file) where
-      -- a row of the file
-      own : ofFile (h .file) r ≡ true
-      own = sym (kind-in (h .file) r kind) ∙ eq-eqb (r .file) (h .file) same
-
-      -- 14: number 0
-      pub asks-low : number < 1 → 14 ≡ firstNo (rowAsked h r number)
-      asks-low l = sym (asks ∙ rw (own, lt-leb 1 number l))
-
-      -- 14: a number past the rows
-      pub asks-high : ROWS < number → 14 ≡ firstNo (rowAsked h r number)
-      asks-high l = sym (asks ∙ rw (own, lt-leb number ROWS l, and-false))
-
-      module _ (low : 1 ≤ number) (high : number ≤ ROWS) where
-        -- 10: the process
-        pub asks-process : h .processes ≤ r .process → 10 ≡ firstNo (rowAsked h r number)
-        asks-process l = sym (asks ∙ rw (own, le-leb 1 number low, le-leb number ROWS high, le-ltb (r .process) (h .processes) l))
-
-        module _ (below : r .process < h .processes) where
-          -- a row without a range passes
-          pub asks-none : 1 < r .kind → 0 ≡ firstNo (rowAsked h r number)
-          asks-none l =
-              sym (asks ∙ rw (own, le-leb 1 number low, le-leb number ROWS high, lt-ltb (r .process) (h .processes) below, uses-not r l))
-
-          module _ (range : r .kind ≤ 1) (o : r .offset ≤ OFFSET-MAX) (l : r .length ≤ OFFSET-MAX) where
-            -- a row with a range: its end decides
-            ranged : firstNo (rowAsked h r number) ≡ cond (leb (r .offset + r .length) OFFSET-MAX) 0 11
-            ranged =
-                asks
-                ∙ rw (
-                  own,
-                  le-leb 1 number low,
-                  le-leb number ROWS high,
-                  lt-ltb (r .process) (h .processes) below,
-                  uses r range,
-                  le-leb (r .offset) OFFSET-MAX o,
-                  le-leb (r .length) OFFSET-MAX l,
-                )
-
-            -- 11: past the end
-            pub asks-past : OFFSET-MAX < r .offset + r .length → 11 ≡ firstNo (rowAsked h r number)
-            asks-past p = sym (ranged ∙ rw (lt-leb (r .offset + r .length) OFFSET-MAX p))
-
-            -- it passes
-            pub asks-all : r .offset + r .length ≤ OFFSET-MAX → 0 ≡ firstNo (rowAsked h r number)
-            asks-all p = sym (ranged ∙ rw (le-leb (r .offset + r .length) OFFSET-MAX p))
 
 -- ---- The first No of questions in sequence
 
@@ -196,6 +129,85 @@ yes-parts (p ∷ ps) qs y = let b = yes-parts ps qs (y .1) in ((y .0, b .0), b .
 -- 16 and 17 have numbers
 pub room-named : (fit : Bool) (pieces : List Run) (room : ℕ) → Named (roomAsked fit pieces room)
 room-named fit pieces room = ((λ e. omega arith), ((λ e. omega arith), tt))
+
+-- ---- 15, 14, 10 and 11, by the fields that a kind uses
+
+module _ (h : Header) (r : Row) (number : ℕ) where
+  -- the questions one by one
+  asks : firstNo (rowAsked h r number) ≡
+      cond (ofFile (h .file) r)
+      (cond (leb 1 number && leb number ROWS)
+      (cond (ltb (r .process) (h .processes) && (not (usesRange r) || (leb (r .offset) OFFSET-MAX && leb (r .length) OFFSET-MAX)))
+      (cond (not (usesRange r) || leb (r .offset + r .length) OFFSET-MAX) 0 11) 10) 14) 15
+  unfolding rowAsked firstNo
+  asks = refl
+
+  -- no file is used: 15
+  pub asks-none : SEND ≤ r .kind → 15 ≡ firstNo (rowAsked h r number)
+  asks-none l = sym (asks ∙ rw (sym (kind-past (h .file) r l)))
+
+  -- process and file are used
+  pub asks-file : COMMIT ≤ r .kind → r .kind < SEND → firstNo (fileAsked h r number) ≡ firstNo (rowAsked h r number)
+  unfolding firstNo
+  asks-file l u = sym (asks ∙ rw (sym (kind-in (h .file) r u), uses-not r l, and-true))
+
+  -- offset and length too, which are numbers of 32 bits
+  pub asks-range : r .kind < COMMIT → r .offset ≤ OFFSET-MAX → r .length ≤ OFFSET-MAX →
+      firstNo (rangeAsked h r number) ≡ firstNo (rowAsked h r number)
+  unfolding firstNo
+  asks-range u o l =
+      let of = sym (kind-in (h .file) r (omega arith)) in
+      sym (asks ∙ rw (of, uses r (omega arith), le-leb (r .offset) OFFSET-MAX o, le-leb (r .length) OFFSET-MAX l, and-true))
+
+  -- 15: another file
+  pub file-other : (r .file ≡ h .file → ⊥) → 15 ≡ firstNo (fileAsked h r number)
+  unfolding firstNo
+  file-other l = sym (rw (ne-eqb (r .file) (h .file) l))
+
+  module _ (same : r .file ≡ h .file) where
+    -- 14: number 0
+    pub number-low : number < 1 → 14 ≡ firstNo (fileAsked h r number)
+    unfolding firstNo
+    number-low l = sym (rw (eq-eqb (r .file) (h .file) same, lt-leb 1 number l))
+
+    -- 14: a number past the rows
+    pub number-high : ROWS < number → 14 ≡ firstNo (fileAsked h r number)
+    unfolding firstNo
+    number-high l = sym (rw (eq-eqb (r .file) (h .file) same, lt-leb number ROWS l, and-false))
+
+    module _ (low : 1 ≤ number) (high : number ≤ ROWS) where
+      -- 10: the process
+      pub process-past : h .processes ≤ r .process → 10 ≡ firstNo (fileAsked h r number)
+      unfolding firstNo
+      process-past l =
+          sym (rw (eq-eqb (r .file) (h .file) same, le-leb 1 number low, le-leb number ROWS high, le-ltb (r .process) (h .processes) l))
+
+      -- every answer is Yes
+      pub file-asked : r .process < h .processes → 0 ≡ firstNo (fileAsked h r number)
+      unfolding firstNo
+      file-asked l =
+          sym (rw (eq-eqb (r .file) (h .file) same, le-leb 1 number low, le-leb number ROWS high, lt-ltb (r .process) (h .processes) l))
+
+  -- a No to 15, 14 or 10 stays the first
+  pub range-before : {k : ℕ} → k ≡ firstNo (fileAsked h r number) → (k ≡ 0 → ⊥) → k ≡ firstNo (rangeAsked h r number)
+  range-before {k} e n = e ∙ sym (no-before (fileAsked h r number) _ (λ z. n (e ∙ z)))
+
+  module _ (yes : firstNo (fileAsked h r number) ≡ 0) where
+    -- else 11 decides
+    range-asks : firstNo (rangeAsked h r number) ≡ cond (leb (r .offset + r .length) OFFSET-MAX) 0 11
+    unfolding firstNo
+    range-asks =
+        let named : Named (fileAsked h r number) = ((λ e. omega arith), ((λ e. omega arith), ((λ e. omega arith), tt))) in
+        no-behind (fileAsked h r number) (record { number = 11; yes = leb (r .offset + r .length) OFFSET-MAX } ∷ [])
+        (no-none (fileAsked h r number) named yes)
+
+    -- 11: an end past the range
+    pub end-past : OFFSET-MAX < r .offset + r .length → 11 ≡ firstNo (rangeAsked h r number)
+    end-past p = sym (range-asks ∙ rw (lt-leb (r .offset + r .length) OFFSET-MAX p))
+
+    -- every answer is Yes
+    pub range-asked : r .offset + r .length ≤ OFFSET-MAX → 0 ≡ firstNo (rangeAsked h r number)
+    range-asked p = sym (range-asks ∙ rw (le-leb (r .offset + r .length) OFFSET-MAX p))
 
 -- ---- A row that passes
 

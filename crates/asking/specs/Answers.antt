@@ -1,10 +1,11 @@
 -- What the code answers, by the numbers of the definitions.
-use Prim.Native.Nat.{ℕ}
+use Prim.Native.Nat.{ℕ, _+_}
 use mathlib.Core.Path.{_≡_}
-use mathlib.Core.Bool.{true, cond}
-use mathlib.Core.List.{List}
-use lib.Dec.{eqb}
-use Rattle.trace.specs.Questions.{firstNo}
+use mathlib.Core.Bool.{true, cond, _&&_}
+use mathlib.Core.List.{List, [], _∷_, _++_}
+use lib.Dec.{leb, ltb, eqb}
+use Rattle.models.specs.Limits.{ROWS, OFFSET-MAX}
+use Rattle.trace.specs.Questions.{Question, firstNo}
 use Rattle.extents.specs.declared.Answer as extents
 use Rattle.extents.specs.declared.Answer.the-variants.{Done, Listed, Refused}
 use Rattle.fields.specs.declared.Row.{Row}
@@ -16,6 +17,21 @@ use Rattle.asking.specs.declared.Machine.{Machine}
 -- the header of a machine
 abbrev pub headerOf : Machine → Header
 headerOf m = record { model = m .model; processes = m .«process_limit»; file = m .file; space = m .«map_space» }
+
+-- ---- Questions by the fields that a kind uses
+
+-- process and file: 15, 14 and 10
+abbrev pub fileAsked : Header → Row → ℕ → List Question
+fileAsked h r number =
+    record { number = 15; yes = eqb (r .file) (h .file) }
+    ∷ (record { number = 14; yes = leb 1 number && leb number ROWS }
+    ∷ (record { number = 10; yes = ltb (r .process) (h .processes) } ∷ []))
+
+-- offset and length too: 11 behind them
+abbrev pub rangeAsked : Header → Row → ℕ → List Question
+rangeAsked h r number = fileAsked h r number ++ (record { number = 11; yes = leb (r .offset + r .length) OFFSET-MAX } ∷ [])
+
+-- ---- Answers
 
 -- what a step answers
 abbrev pub answerOf : Answer → extents.Answer

@@ -10,7 +10,7 @@ ghost use Rattle.order.specs.Clock.{rowIn};
 ghost use Rattle.layers.specs.Layers.{ofFile};
 ghost use Rattle.layers.specs.States.{processLimit};
 ghost use Rattle.layers.specs.Steps.{rowAsked};
-ghost use Rattle.asking.specs.Answers.{headerOf, refusalOf, countOf};
+ghost use Rattle.asking.specs.Answers.{headerOf, fileAsked, rangeAsked, refusalOf, countOf};
 use extents::Answer;
 use fields::Row;
 
@@ -66,13 +66,25 @@ pub fn clear(maps: &mut [u32], n: usize)
     }
 }
 
-// The first No of the questions 15, 14, 10 and 11, and 0 where there is none.
+// The first No of the questions 15, 14, 10 and 11, and 0 where there is none. The kind decides which fields are used.
 pub fn ask_row(machine: Machine, row: Row, number: u32) -> u32
     ensures { λ r. ⌜ r ≡ firstNo (rowAsked (headerOf machine) row number) ⌝ }
 {
-    if 5 < row.kind {
-        return 15;
+    let kind = row.kind;
+    match kind {
+        // read, write: process, file, offset and length
+        0 | 1 => ask_range(machine, row, number),
+        // commit, open, close, sync: process and file
+        2 | 3 | 4 | 5 => ask_file(machine, row, number),
+        // send, recv and numbers that are no kind: no file
+        _ => 15,
     }
+}
+
+// The questions of a row that uses its process and its file: 15, 14 and 10.
+fn ask_file(machine: Machine, row: Row, number: u32) -> u32
+    ensures { λ r. ⌜ r ≡ firstNo (fileAsked (headerOf machine) row number) ⌝ }
+{
     if row.file != machine.file {
         return 15;
     }
@@ -85,8 +97,16 @@ pub fn ask_row(machine: Machine, row: Row, number: u32) -> u32
     if machine.process_limit <= row.process {
         return 10;
     }
-    if 1 < row.kind {
-        return 0;
+    0
+}
+
+// The questions of a row that uses its offset and its length too: 11 behind the others.
+fn ask_range(machine: Machine, row: Row, number: u32) -> u32
+    ensures { λ r. ⌜ r ≡ firstNo (rangeAsked (headerOf machine) row number) ⌝ }
+{
+    let asked = ask_file(machine, row, number);
+    if asked != 0 {
+        return asked;
     }
     let offset = row.offset;
     let length = row.length;
@@ -96,14 +116,17 @@ pub fn ask_row(machine: Machine, row: Row, number: u32) -> u32
     0
 }
 
-// A row of the file: no send or receive, and it names it.
+// A row of the file: its kind uses a file, and the row names this one.
 pub fn is_of(machine: Machine, row: Row) -> bool
     ensures { λ r. ⌜ r ≡ ofFile (headerOf machine .file) row ⌝ }
 {
-    if 5 < row.kind {
-        return false;
+    let kind = row.kind;
+    match kind {
+        // read, write, commit, open, close, sync
+        0 | 1 | 2 | 3 | 4 | 5 => row.file == machine.file,
+        // send, recv and numbers that are no kind
+        _ => false,
     }
-    row.file == machine.file
 }
 
 // Six numbers for each row, and one for its count.

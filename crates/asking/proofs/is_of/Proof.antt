@@ -6,15 +6,13 @@ use Rattle.asking.proofs.is_of.Tie as tie
 returns : tie.Need-returns
 returns c =
     let p2 = c .before .before in
-    let a = p2 .args in
-    kind-past (a .machine .file) (a .row) (c .if1 .taken)
+    let a = p2 .before .args in
+    kind-in (a .machine .file) (a .row) (p2 .if1 .taken)
 
 returns-2 : tie.Need-returns-2
 returns-2 c =
-    let p2 = c .before .before in
-    let p4 = p2 .before .before in
-    let a = p4 .args in
-    kind-in (a .machine .file) (a .row) (p2 .if1 .left)
+    let a = c .before .args in
+    kind-past (a .machine .file) (a .row) (c .if1 .left)
 
 pub is-of-spec : {M : Type 1} → statement M
 is-of-spec = tie.close (tie.spec returns returns-2)
