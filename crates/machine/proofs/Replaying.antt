@@ -131,8 +131,8 @@ module _ {law : List ℕ → Bool} {step : List ℕ → Row → ℕ → List ℕ
       }
 
   module _ {maps counts out : List ℕ} {k pieces : ℕ} (g : Going sound file rows first n maps₀ counts₀ out₀ maps counts out k pieces) (less : k < n)
-      {at : ℕ} (e : at ≡ pieces * 3) {row : Row} (here : row ≡ rowIn rows k) {a : extents.Answer} {ys zs : List ℕ}
-      (put : Steps (putTo step file maps row (k + 1) (take (length out - at) (drop at out))) a ys zs) where
+      {row : Row} (here : row ≡ rowIn rows k) {at : ℕ} {a : extents.Answer} {ys zs : List ℕ}
+      (put : Steps (putTo step file maps row (k + 1) (take (length out - at) (drop at out))) a ys zs) (e : at ≡ pieces * 3) where
     -- how far it is before the row
     abbrev s : Replay
     s = so-far maps counts out k pieces

@@ -94,14 +94,14 @@ same-length-4 c =
     let p6 = c .before .before .before .before .before .before in
     let p9 = p6 .before .before .before in
     let p10 = p9 .before in
-    turn-size (p10 .before .loop .inv) (p10 .loop-test .taken) refl (p9 .row-at .ensures) (p6 .put .ensures)
+    turn-size (p10 .before .loop .inv) (p10 .loop-test .taken) (p9 .row-at .ensures) (p6 .put .ensures) refl
 
 returns-3 : tie.Need-returns-3 Inv-loop μ-loop
 returns-3 c =
     let p6 = c .before .before .before .before .before .before in
     let p9 = p6 .before .before .before in
     let p10 = p9 .before in
-    refused-turn (p10 .before .loop .inv) (p10 .loop-test .taken) refl (p9 .row-at .ensures) (p6 .put .ensures)
+    refused-turn (p10 .before .loop .inv) (p10 .loop-test .taken) (p9 .row-at .ensures) (p6 .put .ensures) refl
     (c .before .refusal-in .ensures) (c .if3 .taken)
 
 count-in-requires : tie.Need-count-in-requires Inv-loop μ-loop
@@ -131,7 +131,7 @@ add-pieces c =
     let p12 = p11 .before in
     let p22 = p12 .before .before .before .before .before .before .before .before .before .before in
     let g = p12 .loop .inv in
-    let room = turn-room g (p11 .loop-test .taken) refl (p10 .row-at .ensures) (p7 .put .ensures) (c .count-in .ensures) in
+    let room = turn-room g (p11 .loop-test .taken) (p10 .row-at .ensures) (p7 .put .ensures) refl (c .count-in .ensures) in
     record { fits = omega (arith, room, g .out-size, p22 .good) }
 
 add-k : tie.Need-add-k Inv-loop μ-loop
@@ -147,7 +147,7 @@ loop-again c =
     let p7 = c .before .before .before .before .before .before .before in
     let p10 = p7 .before .before .before in
     let p11 = p10 .before in
-    turn (p11 .before .loop .inv) (p11 .loop-test .taken) refl (p10 .row-at .ensures) (p7 .put .ensures)
+    turn (p11 .before .loop .inv) (p11 .loop-test .taken) (p10 .row-at .ensures) (p7 .put .ensures) refl
     (sym (c .before .before .refusal-in .ensures) ∙ c .before .if3 .left) (c .count-in .ensures) (p7 .put .kept .1 .0)
 
 same-length-5 : tie.Need-same-length-5 Inv-loop μ-loop
