@@ -55,13 +55,13 @@ limit-fits space n h e =
     let m : n + 1 ≤ 65 = omega (arith, leb-true n PROCESSES (b .1)) in
     omega (arith, mul-le-mul-left space m)
 
--- a map as it is lent
-pub lent-at : (size p : ℕ) (xs : List ℕ) → let at = (p + 1) * size in
-    take (at + size - at) (drop at xs) ≡ take size (drop (suc p * size) xs)
-lent-at size p xs =
-    let e : (p + 1) * size + size - (p + 1) * size ≡ size = omega arith in
-    let q : (p + 1) * size ≡ suc p * size = omega arith in
-    λ i. take (e i) (drop (q i) xs)
+-- what is asked of a map as it is lent is asked of the map
+pub lent-lawful : (size p : ℕ) (xs : List ℕ) (b : Bool) → let at = (p + 1) * size in
+    b ≡ lawful (take (at + size - at) (drop at xs)) → lawful (take size (drop (suc p * size) xs)) ≡ b
+lent-lawful size p xs b h =
+    let e : size ≡ (p + 1) * size + size - (p + 1) * size = omega arith in
+    let q : suc p * size ≡ (p + 1) * size = omega arith in
+    (λ i. lawful (take (e i) (drop (q i) xs))) ∙ sym h
 
 module _ (h : Header) (xs : List ℕ) where
   -- what is asked of the maps

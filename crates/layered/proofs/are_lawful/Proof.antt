@@ -1,7 +1,7 @@
 -- `layered::are_lawful` meets its contract. Assumes nothing.
 use borrow.Author.Needs.{needs}
 use Rattle.asking.proofs.Maps.{all-none, all-more, all-not}
-use Rattle.layered.proofs.Laying.{lent-at, next-in}
+use Rattle.layered.proofs.Laying.{lent-lawful, next-in}
 use denote.Ref.{now}
 use native.Mathlib.Omega.{arith}
 use mathlib.Core.Path.{_≡_, sym, ap, _∙_}
@@ -63,7 +63,7 @@ returns c =
     let a = p6 .args in
     let l = c .before .is-lawful in
     sym (all-not (a .n) (λ q. lawful (take (a .size) (drop (suc q * a .size) (now (a .maps))))) (p4 .loop .p) (p3 .loop-test .taken)
-    (ap lawful (sym (lent-at (a .size) (p4 .loop .p) (now (a .maps)))) ∙ sym (l .ensures) ∙ not-true (l .result) (c .if1 .taken)))
+    (lent-lawful (a .size) (p4 .loop .p) (now (a .maps)) (l .result) (l .ensures) ∙ not-true (l .result) (c .if1 .taken)))
 
 add-p : tie.Need-add-p Inv-loop μ-loop
 add-p c = search needs
@@ -80,7 +80,7 @@ loop-again c =
     let l = c .before .is-lawful in (
       omega (arith, p3 .loop-test .taken),
       all-more (p4 .loop .p) (λ q. lawful (take (a .size) (drop (suc q * a .size) (now (a .maps))))) (p4 .loop .inv .1)
-          (ap lawful (sym (lent-at (a .size) (p4 .loop .p) (now (a .maps)))) ∙ sym (l .ensures) ∙ not-false (l .result) (c .if1 .left)),
+          (lent-lawful (a .size) (p4 .loop .p) (now (a .maps)) (l .result) (l .ensures) ∙ not-false (l .result) (c .if1 .left)),
     )
 
 returns-2 : tie.Need-returns-2 Inv-loop μ-loop
