@@ -6,7 +6,7 @@ use mathlib.Core.Bool.{Bool, true, false, cond, not, _&&_, and-false, and-eq-tru
 use mathlib.Core.List.{List, [], _∷_}
 use lib.ListN.{getD, List·getD-map}
 use lib.Dec.{leb, ltb}
-use borrow.Author.Tests.{lt-ltb, le-ltb, le-leb, lt-leb, leb-true, not-true, not-false}
+use borrow.Author.Tests.{lt-ltb, le-ltb, le-leb, lt-leb, ltb-true, not-true, not-false}
 use Rattle.csv.specs.Reading.{contentOf, noSpan}
 use Rattle.csv.specs.declared.Span.{Span}
 use Rattle.models.specs.Limits.{FILES, MESSAGES, OFFSET-MAX}
@@ -16,8 +16,8 @@ use Rattle.fields.specs.declared.Number.the-variants.{Plain, Bad}
 use Rattle.fields.specs.declared.Used.{Used}
 use Rattle.fields.specs.declared.Judged.{Judged}
 use Rattle.fields.specs.declared.Judged.the-variants.{Kept, No}
-use Rattle.fields.specs.Rows.{KINDS, kindOf, usedBy, isPlain, isNumber, value, valueFrom, numberUpTo, field, rowOf}
-use Rattle.fields.specs.Questions.{firstNo, fieldQuestions, kindKnown, asUsed, filledAsUsed, numberIf, numbersInRange, endInRange}
+use Rattle.fields.specs.Rows.{KINDS, kindOf, usedBy, isPlain, isNumber, value, valueFrom, numberBelow, field, rowOf}
+use Rattle.fields.specs.Questions.{firstNo, fieldQuestions, kindKnown, asUsed, filledAsUsed, numberIf, OFFSETS, numbersInRange, endInRange}
 use Rattle.fields.specs.Reads.{fieldsOf, fillsAs, numberWhere, judgedBy, judgedFields}
 
 -- a test that `!` turned round
@@ -91,34 +91,34 @@ plain-same : {m n : ℕ} → Plain m ≡ Plain n → m ≡ n
 plain-same e = cc
 
 -- a used field without a number
-bad-number : (used : Bool) (most : ℕ) (content : List ℕ) → numberWhere used most content ≡ Bad → numberIf used most content ≡ false
-unfolding numberUpTo
-bad-number false most content e = absurd (plain-bad e)
-bad-number true most content e = go (isNumber most content) e
+bad-number : (used : Bool) (below : ℕ) (content : List ℕ) → numberWhere used below content ≡ Bad → numberIf used below content ≡ false
+unfolding numberBelow
+bad-number false below content e = absurd (plain-bad e)
+bad-number true below content e = go (isNumber below content) e
   where
     go : (x : Bool) → cond x (Plain (value content)) Bad ≡ Bad → x ≡ false
     go true q = absurd (plain-bad q)
     go false q = refl
 
 -- a field's number: it is in range, and 0 where the field is not used
-pub record Told (used : Bool) (most : ℕ) (content : List ℕ) (n : ℕ) : Type 0 where
-  pub number : numberIf used most content ≡ true
+pub record Told (used : Bool) (below : ℕ) (content : List ℕ) (n : ℕ) : Type 0 where
+  pub number : numberIf used below content ≡ true
   pub is : value content ≡ n
-  pub fits : n ≤ most
+  pub fits : 0 < below → n < below
 
-told : (used : Bool) (most : ℕ) (content : List ℕ) {n : ℕ} → asUsed used content ≡ true → numberWhere used most content ≡ Plain n →
-    Told used most content n
-unfolding numberUpTo valueFrom
-told false most [] {n} f e = let z = plain-same e in record { number = refl; is = z; fits = omega arith }
-told false most (b ∷ t) f e = absurd (false≢true f)
-told true most content {n} f e = go (isNumber most content) refl e
+told : (used : Bool) (below : ℕ) (content : List ℕ) {n : ℕ} → asUsed used content ≡ true → numberWhere used below content ≡ Plain n →
+    Told used below content n
+unfolding numberBelow valueFrom
+told false below [] {n} f e = let z = plain-same e in record { number = refl; is = z; fits = λ h. omega arith }
+told false below (b ∷ t) f e = absurd (false≢true f)
+told true below content {n} f e = go (isNumber below content) refl e
   where
-    go : (x : Bool) → isNumber most content ≡ x → cond x (Plain (value content)) Bad ≡ Plain n → Told true most content n
+    go : (x : Bool) → isNumber below content ≡ x → cond x (Plain (value content)) Bad ≡ Plain n → Told true below content n
     go false q r = absurd (plain-bad (sym r))
     go true q r =
         let z = plain-same r in
-        let l = leb-true (value content) most (and-eq-true-iff (isPlain content) (leb (value content) most) .0 q .1) in
-        record { number = q; is = z; fits = omega arith }
+        let l = ltb-true (value content) below (and-eq-true-iff (isPlain content) (ltb (value content) below) .0 q .1) in
+        record { number = q; is = z; fits = λ h. omega arith }
 
 -- ---- The questions in turn
 
@@ -194,10 +194,10 @@ at f k = contentAt (f .of .text) (f .of .spans) k
 -- question 10 for given used fields and contents
 abbrev ranged : ℕ → Used → (ℕ → List ℕ) → Bool
 ranged limit u content =
-    isNumber (limit - 1) (content 0)
-    && (numberIf (u .file) (FILES - 1) (content 2)
-    && (numberIf (u .range) OFFSET-MAX (content 3)
-    && (numberIf (u .range) OFFSET-MAX (content 4) && numberIf (u .message) (MESSAGES - 1) (content 5))))
+    isNumber limit (content 0)
+    && (numberIf (u .file) FILES (content 2)
+    && (numberIf (u .range) OFFSETS (content 3)
+    && (numberIf (u .range) OFFSETS (content 4) && numberIf (u .message) MESSAGES (content 5))))
 
 module _ (f : Filled) where
   -- its question 10
@@ -222,20 +222,20 @@ module _ (f : Filled) where
       let fs = fieldsIn (f .of) in
       sym (judged-filled ∙ ap (λ (b : Bool). outcome true true b (endInRange (rowOf fs)) fs) e)
 
-  pub no-process : {r : Number} → r ≡ numberWhere true (f .of .limit - 1) (at f 0) → r ≡ Bad → No 10 ≡ answer (f .of)
-  no-process e b = no-number (rw (bad-number true (f .of .limit - 1) (at f 0) (sym e ∙ b)))
+  pub no-process : {r : Number} → r ≡ numberWhere true (f .of .limit) (at f 0) → r ≡ Bad → No 10 ≡ answer (f .of)
+  no-process e b = no-number (rw (bad-number true (f .of .limit) (at f 0) (sym e ∙ b)))
 
-  pub no-file : {r : Number} → r ≡ numberWhere (f .of .used .file) (FILES - 1) (at f 2) → r ≡ Bad → No 10 ≡ answer (f .of)
-  no-file e b = no-number (simp (bad-number (f .of .used .file) (FILES - 1) (at f 2) (sym e ∙ b), and-false))
+  pub no-file : {r : Number} → r ≡ numberWhere (f .of .used .file) FILES (at f 2) → r ≡ Bad → No 10 ≡ answer (f .of)
+  no-file e b = no-number (simp (bad-number (f .of .used .file) FILES (at f 2) (sym e ∙ b), and-false))
 
-  pub no-offset : {r : Number} → r ≡ numberWhere (f .of .used .range) OFFSET-MAX (at f 3) → r ≡ Bad → No 10 ≡ answer (f .of)
-  no-offset e b = no-number (simp (bad-number (f .of .used .range) OFFSET-MAX (at f 3) (sym e ∙ b), and-false))
+  pub no-offset : {r : Number} → r ≡ numberWhere (f .of .used .range) OFFSETS (at f 3) → r ≡ Bad → No 10 ≡ answer (f .of)
+  no-offset e b = no-number (simp (bad-number (f .of .used .range) OFFSETS (at f 3) (sym e ∙ b), and-false))
 
-  pub no-length : {r : Number} → r ≡ numberWhere (f .of .used .range) OFFSET-MAX (at f 4) → r ≡ Bad → No 10 ≡ answer (f .of)
-  no-length e b = no-number (simp (bad-number (f .of .used .range) OFFSET-MAX (at f 4) (sym e ∙ b), and-false))
+  pub no-length : {r : Number} → r ≡ numberWhere (f .of .used .range) OFFSETS (at f 4) → r ≡ Bad → No 10 ≡ answer (f .of)
+  no-length e b = no-number (simp (bad-number (f .of .used .range) OFFSETS (at f 4) (sym e ∙ b), and-false))
 
-  pub no-message : {r : Number} → r ≡ numberWhere (f .of .used .message) (MESSAGES - 1) (at f 5) → r ≡ Bad → No 10 ≡ answer (f .of)
-  no-message e b = no-number (simp (bad-number (f .of .used .message) (MESSAGES - 1) (at f 5) (sym e ∙ b), and-false))
+  pub no-message : {r : Number} → r ≡ numberWhere (f .of .used .message) MESSAGES (at f 5) → r ≡ Bad → No 10 ≡ answer (f .of)
+  no-message e b = no-number (simp (bad-number (f .of .used .message) MESSAGES (at f 5) (sym e ∙ b), and-false))
 
 -- a record whose numbers were read, too
 pub record Numbered : Type 0 where
@@ -245,11 +245,11 @@ pub record Numbered : Type 0 where
   pub offset : ℕ
   pub length : ℕ
   pub message : ℕ
-  pub process-read : numberWhere true (of .of .limit - 1) (at of 0) ≡ Plain process
-  pub file-read : numberWhere (of .of .used .file) (FILES - 1) (at of 2) ≡ Plain file
-  pub offset-read : numberWhere (of .of .used .range) OFFSET-MAX (at of 3) ≡ Plain offset
-  pub length-read : numberWhere (of .of .used .range) OFFSET-MAX (at of 4) ≡ Plain length
-  pub message-read : numberWhere (of .of .used .message) (MESSAGES - 1) (at of 5) ≡ Plain message
+  pub process-read : numberWhere true (of .of .limit) (at of 0) ≡ Plain process
+  pub file-read : numberWhere (of .of .used .file) FILES (at of 2) ≡ Plain file
+  pub offset-read : numberWhere (of .of .used .range) OFFSETS (at of 3) ≡ Plain offset
+  pub length-read : numberWhere (of .of .used .range) OFFSETS (at of 4) ≡ Plain length
+  pub message-read : numberWhere (of .of .used .message) MESSAGES (at of 5) ≡ Plain message
 
 -- the row of those numbers
 abbrev pub rowIn : Numbered → Row
@@ -269,11 +269,11 @@ module _ (n : Numbered) where
   known-of = n .of .of
 
   -- each number is its field's
-  told-each : Told true (known-of .limit - 1) (at (n .of) 0) (n .process)
-      × Told (known-of .used .file) (FILES - 1) (at (n .of) 2) (n .file)
-      × Told (known-of .used .range) OFFSET-MAX (at (n .of) 3) (n .offset)
-      × Told (known-of .used .range) OFFSET-MAX (at (n .of) 4) (n .length)
-      × Told (known-of .used .message) (MESSAGES - 1) (at (n .of) 5) (n .message)
+  told-each : Told true (known-of .limit) (at (n .of) 0) (n .process)
+      × Told (known-of .used .file) FILES (at (n .of) 2) (n .file)
+      × Told (known-of .used .range) OFFSETS (at (n .of) 3) (n .offset)
+      × Told (known-of .used .range) OFFSETS (at (n .of) 4) (n .length)
+      × Told (known-of .used .message) MESSAGES (at (n .of) 5) (n .message)
   told-each =
       let u = fills-each (known-of .text) (known-of .spans) (known-of .used) (n .of .filled) in (
         told _ _ _ (u .0) (n .process-read),
@@ -313,6 +313,6 @@ module _ (n : Numbered) where
 
   pub kept : n .length ≤ OFFSET-MAX - n .offset → Kept (rowIn n) ≡ answer known-of
   kept h =
-      let l = told-each .2 .fits in
+      let l = told-each .2 .fits (omega arith) in
       let e : endInRange (rowIn n) ≡ true = le-leb (n .offset + n .length) OFFSET-MAX (omega arith) in
       sym (judged-numbered ∙ ap (λ (b : Bool). outcome true true true b (fieldsIn known-of)) e ∙ ap Kept row-is)

@@ -1,6 +1,6 @@
 -- A question and its answer, and the questions 8 to 11, which are put to the fields of one record, each one definition, in document 01's
 -- order; the first No decides.
-use Prim.Native.Nat.{ℕ, _+_, _-_}
+use Prim.Native.Nat.{ℕ, _+_}
 use mathlib.Core.Bool.{Bool, true, false, cond, not, _&&_}
 use mathlib.Core.List.{List, [], _∷_}
 use lib.Dec.{leb, ltb}
@@ -38,17 +38,21 @@ filledAsUsed fields =
 
 -- a field that is not used has no number to judge
 abbrev pub numberIf : Bool → ℕ → List ℕ → Bool
-numberIf true most content = isNumber most content
-numberIf false most content = true
+numberIf true below content = isNumber below content
+numberIf false below content = true
+
+-- offsets and lengths are numbered from 0
+abbrev pub OFFSETS : ℕ
+OFFSETS = OFFSET-MAX + 1
 
 -- 10. Is each number plain and within its range?
 unfoldable pub numbersInRange : ℕ → List (List ℕ) → Bool
 numbersInRange processLimit fields =
     let u = usedBy (kindOf (field fields 1)) in
-    isNumber (processLimit - 1) (field fields 0)
-    && (numberIf (u .file) (FILES - 1) (field fields 2)
-    && (numberIf (u .range) OFFSET-MAX (field fields 3)
-    && (numberIf (u .range) OFFSET-MAX (field fields 4) && numberIf (u .message) (MESSAGES - 1) (field fields 5))))
+    isNumber processLimit (field fields 0)
+    && (numberIf (u .file) FILES (field fields 2)
+    && (numberIf (u .range) OFFSETS (field fields 3)
+    && (numberIf (u .range) OFFSETS (field fields 4) && numberIf (u .message) MESSAGES (field fields 5))))
 
 -- 11. Is offset + length at most 4,294,967,295?
 abbrev pub endInRange : Row → Bool

@@ -11,7 +11,7 @@ use Rattle.fields.specs.declared.Number.the-variants.{Plain}
 use Rattle.fields.specs.declared.Used.{Used}
 use Rattle.fields.specs.declared.Judged.{Judged}
 use Rattle.fields.specs.declared.Judged.the-variants.{Kept, No}
-use Rattle.fields.specs.Rows.{numberUpTo, field, rowOf}
+use Rattle.fields.specs.Rows.{numberBelow, field, rowOf}
 use Rattle.fields.specs.Questions.{firstNo, fieldQuestions, asUsed}
 
 -- the contents of spans
@@ -27,7 +27,7 @@ fillsAs u fields =
 
 -- the number of a used field, 0 of any other
 abbrev pub numberWhere : Bool → ℕ → List ℕ → Number
-numberWhere used most content = cond used (numberUpTo most content) (Plain 0)
+numberWhere used below content = cond used (numberBelow below content) (Plain 0)
 
 -- the row of a record, or the first No
 abbrev pub judgedBy : ℕ → List (List ℕ) → Judged

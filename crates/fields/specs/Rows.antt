@@ -3,7 +3,7 @@ use Prim.Native.Nat.{ℕ, zero, suc, _+_, _*_, _-_}
 use mathlib.Core.Bool.{Bool, true, false, cond, not, _&&_, _||_}
 use mathlib.Core.List.{List, [], _∷_, _++_}
 use lib.ListN.{getD, drop}
-use lib.Dec.{leb, eqb}
+use lib.Dec.{ltb, eqb}
 use Rattle.csv.specs.Reading.{sameBytes, isNil, within}
 pub use Rattle.models.specs.Operations.{READ, WRITE, COMMIT, OPEN, CLOSE, SYNC, SEND, RECV, KINDS}
 use Rattle.fields.specs.declared.Row.{Row}
@@ -107,13 +107,13 @@ valueFrom v (b ∷ t) = valueFrom (v * 10 + (b - 0x30)) t
 abbrev pub value : List ℕ → ℕ
 value content = valueFrom 0 content
 
--- a plain number up to a largest one
-unfoldable pub numberUpTo : ℕ → List ℕ → Number
-numberUpTo most content = cond (isPlain content && leb (value content) most) (Plain (value content)) Bad
-
--- it is one
+-- a plain number below a bound
 abbrev pub isNumber : ℕ → List ℕ → Bool
-isNumber most content = isPlain content && leb (value content) most
+isNumber below content = isPlain content && ltb (value content) below
+
+-- that number, or what is none
+unfoldable pub numberBelow : ℕ → List ℕ → Number
+numberBelow below content = cond (isNumber below content) (Plain (value content)) Bad
 
 -- ---- Rows
 

@@ -1,12 +1,21 @@
 // The fields of one record: its kind, which fields that kind uses, their numbers, and the row that they make.
 ghost use mathlib.Core.Path.{_≡_};
 ghost use mathlib.Core.Bool.{cond};
-ghost use Prim.Native.Nat.{_<_};
+ghost use Prim.Native.Nat.{_≤_};
 ghost use Rattle.csv.specs.Reading.{contentOf};
-ghost use Rattle.fields.specs.Rows.{kindOf, usedBy, startsPlain, numberUpTo};
-ghost use Rattle.fields.specs.Questions.{asUsed};
+ghost use Rattle.fields.specs.Rows.{kindOf, usedBy, startsPlain, numberBelow};
+ghost use Rattle.fields.specs.Questions.{asUsed, OFFSETS};
 ghost use Rattle.fields.specs.Reads.{fieldsOf, fillsAs, numberWhere, judgedFields};
 use csv::Span;
+
+// The bound of a file's number.
+const FILES: u64 = models::FILES as u64;
+
+// The bound of an offset and of a length, one more than the largest.
+const OFFSETS: u64 = models::OFFSET_MAX as u64 + 1;
+
+// The bound of a message.
+const MESSAGES: u64 = models::MESSAGES as u64;
 
 // A row: six numbers in field order. Fields that the kind does not use are 0.
 pub struct Row {
@@ -142,9 +151,10 @@ fn starts_plain(s: &[u8]) -> bool
     s[0] != b'0'
 }
 
-// A plain number up to the largest one.
-fn digits(s: &[u8], most: u32) -> Number
-    ensures { λ r. ⌜ r ≡ numberUpTo most (now (s .entry)) ⌝ }
+// A plain number below a bound.
+fn digits(s: &[u8], below: u64) -> Number
+    requires { ⌜ below ≤ OFFSETS ⌝ }
+    ensures { λ r. ⌜ r ≡ numberBelow below (now (s .entry)) ⌝ }
 {
     if !starts_plain(s) {
         return Number::Bad;
@@ -160,7 +170,7 @@ fn digits(s: &[u8], most: u32) -> Number
             return Number::Bad;
         }
         v = v * 10 + (b - b'0') as u64;
-        if (most as u64) < v {
+        if below <= v {
             return Number::Bad;
         }
         i += 1;
@@ -169,18 +179,18 @@ fn digits(s: &[u8], most: u32) -> Number
 }
 
 // The number of a field that is used; 0 of one that is not.
-fn number_in(text: &[u8], span: Span, most: u32, used: bool) -> Number
-    ensures { λ r. ⌜ r ≡ numberWhere used most (contentOf (now (text .entry)) span) ⌝ }
+fn number_in(text: &[u8], span: Span, below: u64, used: bool) -> Number
+    requires { ⌜ below ≤ OFFSETS ⌝ }
+    ensures { λ r. ⌜ r ≡ numberWhere used below (contentOf (now (text .entry)) span) ⌝ }
 {
     if !used {
         return Number::Plain(0);
     }
-    digits(csv::content::raw(text, span), most)
+    digits(csv::content::raw(text, span), below)
 }
 
 // The questions 8 to 11, put to a record of six fields.
 pub fn judge_fields(text: &[u8], spans: [Span; 6], process_limit: u32) -> Judged
-    requires { ⌜ 0 < «process_limit» ⌝ }
     ensures { λ r. ⌜ r ≡ judgedFields «process_limit» (fieldsOf (now (text .entry)) spans) ⌝ }
 {
     let kind = kind_of(text, spans[1]);
@@ -191,20 +201,19 @@ pub fn judge_fields(text: &[u8], spans: [Span; 6], process_limit: u32) -> Judged
     if !filled_as_used(text, spans, used) {
         return Judged::No(9);
     }
-    let Number::Plain(process) = number_in(text, spans[0], process_limit - 1, true) else {
+    let Number::Plain(process) = number_in(text, spans[0], process_limit as u64, true) else {
         return Judged::No(10);
     };
-    let Number::Plain(file) = number_in(text, spans[2], models::FILES - 1, used.file) else {
+    let Number::Plain(file) = number_in(text, spans[2], FILES, used.file) else {
         return Judged::No(10);
     };
-    let Number::Plain(offset) = number_in(text, spans[3], models::OFFSET_MAX, used.range) else {
+    let Number::Plain(offset) = number_in(text, spans[3], OFFSETS, used.range) else {
         return Judged::No(10);
     };
-    let Number::Plain(length) = number_in(text, spans[4], models::OFFSET_MAX, used.range) else {
+    let Number::Plain(length) = number_in(text, spans[4], OFFSETS, used.range) else {
         return Judged::No(10);
     };
-    let Number::Plain(message) = number_in(text, spans[5], models::MESSAGES - 1, used.message)
-    else {
+    let Number::Plain(message) = number_in(text, spans[5], MESSAGES, used.message) else {
         return Judged::No(10);
     };
     if models::OFFSET_MAX - offset < length {

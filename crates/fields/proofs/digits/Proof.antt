@@ -1,9 +1,9 @@
 -- `fields::digits` meets its contract. Assumes nothing.
 use borrow.Author.Needs.{needs}
-use Rattle.fields.specs.Rows.{numberUpTo}
+use Rattle.fields.specs.Rows.{numberBelow}
 use Rattle.fields.proofs.Judging.{refused, passed}
-use Rattle.fields.proofs.Numbers.{numberFrom, number-start, number-none, digit-low, digit-high, digit-on, digit-past, digits-end}
-use Prim.Native.Nat.{_-_, _≤_}
+use Rattle.fields.proofs.Numbers.{numberFrom, plain-some, number-start, number-none, digit-low, digit-high, digit-on, digit-past, digits-end}
+use Prim.Native.Nat.{_-_, _≤_, _<_}
 use native.Mathlib.Omega.{arith}
 use mathlib.Core.Path.{_≡_, sym, _∙_}
 use lib.ListN.{length, drop}
@@ -12,10 +12,10 @@ use Rattle.fields.proofs.digits.Statement.{statement}
 use Rattle.fields.proofs.digits.Tie as tie
 
 abbrev Inv-loop : tie.InvT-loop
-Inv-loop s most v₀ i₀ v i = (v ≤ most) × (numberUpTo most s ≡ numberFrom most v (drop i s))
+Inv-loop s below v₀ i₀ v i = (v ≤ below) × (0 < i → v < below) × (numberBelow below s ≡ numberFrom below v (drop i s))
 
 abbrev μ-loop : tie.MeasureT-loop
-μ-loop s most v₀ i₀ v i = length s - i
+μ-loop s below v₀ i₀ v i = length s - i
 
 starts-plain-requires : tie.Need-starts-plain-requires Inv-loop μ-loop
 starts-plain-requires c κs = search needs
@@ -23,12 +23,12 @@ starts-plain-requires c κs = search needs
 returns : tie.Need-returns Inv-loop μ-loop
 returns c =
     let a = c .before .before .before .args in
-    sym (number-none (a .most) (now (a .s)) (refused (c .before .starts-plain .ensures) (c .if1 .taken)))
+    sym (number-none (a .below) (now (a .s)) (refused (c .before .starts-plain .ensures) (c .if1 .taken)))
 
 loop-holds : tie.Need-loop-holds Inv-loop μ-loop
 loop-holds c =
     let a = c .before .before .before .args in
-    (omega arith, number-start (a .most) (now (a .s)) (passed (c .before .starts-plain .ensures) (c .if1 .left)))
+    (omega arith, λ h. absurd (omega arith), number-start (a .below) (now (a .s)) (passed (c .before .starts-plain .ensures) (c .if1 .left)))
 
 shared-slice-read-b : tie.Need-shared-slice-read-b Inv-loop μ-loop
 shared-slice-read-b c = search needs
@@ -37,13 +37,13 @@ returns-2 : tie.Need-returns-2 Inv-loop μ-loop
 returns-2 c =
     let a = c .before .before .before .before .before .before .before .args in
     let l = c .before .before .before .loop in
-    sym (l .inv .1 ∙ digit-low (a .most) (l .v) (now (a .s)) (l .i) (c .before .before .loop-test .taken) (c .if2 .taken))
+    sym (l .inv .2 ∙ digit-low (a .below) (l .v) (now (a .s)) (l .i) (c .before .before .loop-test .taken) (c .if2 .taken))
 
 returns-3 : tie.Need-returns-3 Inv-loop μ-loop
 returns-3 c =
     let a = c .before .before .before .before .before .before .before .before .args in
     let l = c .before .before .before .before .loop in
-    sym (l .inv .1 ∙ digit-high (a .most) (l .v) (now (a .s)) (l .i) (c .before .before .before .loop-test .taken) (c .if3 .taken))
+    sym (l .inv .2 ∙ digit-high (a .below) (l .v) (now (a .s)) (l .i) (c .before .before .before .loop-test .taken) (c .if3 .taken))
 
 mul-v : tie.Need-mul-v Inv-loop μ-loop
 mul-v c = omega arith
@@ -60,7 +60,7 @@ returns-4 c =
     let t = d .before .before in
     let a = t .before .before .before .before .before .args in
     let l = t .before .loop in
-    sym (l .inv .1 ∙ digit-past (a .most) (l .v) (now (a .s)) (l .i) (t .loop-test .taken) (d .if2 .left) (c .before .if3 .left) (c .if4 .taken))
+    sym (l .inv .2 ∙ digit-past (a .below) (l .v) (now (a .s)) (l .i) (t .loop-test .taken) (d .if2 .left) (c .before .if3 .left) (c .if4 .taken))
 
 add-i : tie.Need-add-i Inv-loop μ-loop
 add-i c = search needs
@@ -74,16 +74,23 @@ loop-again c =
     let t = d .before .before in
     let a = t .before .before .before .before .before .args in
     let l = t .before .loop in
-    (c .if4 .left, l .inv .1 ∙ digit-on (a .most) (l .v) (now (a .s)) (l .i) (t .loop-test .taken) (d .if2 .left) (c .before .if3 .left))
+    (omega arith, λ h. c .if4 .left, l .inv .2 ∙ digit-on (a .below) (l .v) (now (a .s)) (l .i) (t .loop-test .taken) (d .if2 .left) (c .before .if3 .left))
+
+-- there was a byte, so the value that it left is below the bound
+last-below : (c : tie.After-loop Inv-loop μ-loop) → c .before .loop .v < c .before .before .before .before .before .args .below
+last-below c =
+    let s = now (c .before .before .before .before .before .args .s) in
+    let some = plain-some s (passed (c .before .before .before .starts-plain .ensures) (c .before .before .if1 .left)) in
+    c .before .loop .inv .1 (omega arith)
 
 cast-t14 : tie.Need-cast-t14 Inv-loop μ-loop
-cast-t14 c = omega arith
+cast-t14 c = omega (arith, last-below c)
 
 returns-5 : tie.Need-returns-5 Inv-loop μ-loop
 returns-5 c =
     let a = c .before .before .before .before .before .args in
     let l = c .before .loop in
-    sym (l .inv .1 ∙ digits-end (a .most) (l .v) (now (a .s)) (l .i) (c .loop-test .left) (l .inv .0))
+    sym (l .inv .2 ∙ digits-end (a .below) (l .v) (now (a .s)) (l .i) (c .loop-test .left) (last-below c))
 
 pub digits-spec : {M : Type 1} → statement M
 digits-spec =

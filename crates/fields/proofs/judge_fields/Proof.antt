@@ -84,9 +84,6 @@ returns-2 c = no-filled (known (c .before .before)) (refused (c .before .filled-
 array-copy-out-number-in : tie.Need-array-copy-out-number-in
 array-copy-out-number-in c = search needs
 
-sub-number-in : tie.Need-sub-number-in
-sub-number-in c = search needs
-
 number-in-requires : tie.Need-number-in-requires
 number-in-requires c κs = search needs
 
@@ -101,9 +98,6 @@ returns-3 c = no-process (filled (c .before .before .before .before)) (c .before
 
 array-copy-out-number-in-2 : tie.Need-array-copy-out-number-in-2
 array-copy-out-number-in-2 c = search needs
-
-sub-number-in-2 : tie.Need-sub-number-in-2
-sub-number-in-2 c = search needs
 
 number-in-requires-2 : tie.Need-number-in-requires-2
 number-in-requires-2 c κs = search needs
@@ -150,9 +144,6 @@ returns-6 c = no-length (filled3 (c .before .before .before .before)) (c .before
 array-copy-out-number-in-5 : tie.Need-array-copy-out-number-in-5
 array-copy-out-number-in-5 c = search needs
 
-sub-number-in-3 : tie.Need-sub-number-in-3
-sub-number-in-3 c = search needs
-
 number-in-requires-5 : tie.Need-number-in-requires-5
 number-in-requires-5 c κs = search needs
 
@@ -185,13 +176,11 @@ judge-fields-spec =
     filled-as-used-requires
     returns-2
     array-copy-out-number-in
-    sub-number-in
     number-in-requires
     enum-known-process
     enum-told
     returns-3
     array-copy-out-number-in-2
-    sub-number-in-2
     number-in-requires-2
     enum-known-file
     enum-told-2
@@ -207,7 +196,6 @@ judge-fields-spec =
     enum-told-4
     returns-6
     array-copy-out-number-in-5
-    sub-number-in-3
     number-in-requires-5
     enum-known-message
     enum-told-5

@@ -11,7 +11,7 @@ use Rattle.fields.proofs.number_in.Tie as tie
 returns : tie.Need-returns
 returns c =
     let a = c .before .before .args in
-    number-unused (a .most) (contentOf (now (a .text)) (a .span)) (not-true (a .used) (c .if1 .taken))
+    number-unused (a .below) (contentOf (now (a .text)) (a .span)) (not-true (a .used) (c .if1 .taken))
 
 raw-requires : tie.Need-raw-requires
 raw-requires c κs = search needs
@@ -24,7 +24,7 @@ returns-2 c =
     let a = c .before .before .before .before .args in
     let r = c .before .raw in
     let u = not-false (a .used) (c .before .before .if1 .left) in
-    c .digits .ensures ∙ number-used (a .most) (now (a .text)) (a .span) (now (r .result)) (r .ensures) u
+    c .digits .ensures ∙ number-used (a .below) (now (a .text)) (a .span) (now (r .result)) (r .ensures) u
 
 pub number-in-spec : {M : Type 1} → statement M
 number-in-spec = tie.close (tie.spec returns raw-requires digits-requires returns-2)
