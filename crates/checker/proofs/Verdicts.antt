@@ -102,8 +102,7 @@ module _ (text : List ℕ) (header model R P limit : ℕ) (xs us : List ℕ) whe
         let size : n ≡ length rows = told .2 in
         let z : List ℕ = replicate (length xs - 6 * length rows) 0 in
         let p = accepted-passed text header model R P limit (length xs) (length us) rows (told .1) in
-        let some : 0 < P = p .0 .some-processes in
-        let s = accepted-sound header R P (records text limit) rows some (p .1) in
+        let s = accepted-sound header R P (records text limit) rows (p .1) in
         let few : n ≤ R = omega (arith, s .0) in
         judgeable-of n P model ys (length us) (omega (arith, p .0 .few-rows)) (p .0 .few-processes)
         (omega (arith, ap length rows-there, length-append (numbers rows) z, length-numbers rows))

@@ -317,7 +317,7 @@ module _ (text : List ℕ) (header model R P limit a b : ℕ) (rows : List Row) 
   pub sound-trace : Sound P rows × (length rows ≤ ROWS) × (1 ≤ P) × (P ≤ PROCESSES)
   sound-trace =
       let p = accepted-passed text header model R P limit a b rows taken in
-      let s = accepted-sound header R P (records text limit) rows (p .0 .some-processes) (p .1) in
+      let s = accepted-sound header R P (records text limit) rows (p .1) in
       (s .1, omega (arith, s .0, p .0 .few-rows), p .0 .some-processes, p .0 .few-processes)
 
   -- Demand 2: where an accepted trace is free under a model, every read in every allowed order returns what one plain file would, and no row is

@@ -6,13 +6,13 @@ use mathlib.Core.Bool.{Bool, true, false, cond, _&&_, false≢true}
 use mathlib.Core.List.{List, [], _∷_, _++_, map, append-nil}
 use lib.ListN.{length, take, drop, replicate, length-append, length-drop}
 use lib.Seq.{take-add, append-snoc}
-use lib.Dec.{leb, eqb}
+use lib.Dec.{ltb, eqb}
 use borrow.Author.Tests.{leb-true, ltb-true, eqb-true, eqb-false}
 use Rattle.csv.specs.Reading.{Records, records, Ending, all-read, at-malformed, at-limit}
 use Rattle.models.specs.Limits.{PROCESSES, ROWS, FILES, MESSAGES, OFFSET-MAX}
 use Rattle.fields.specs.declared.Row.{Row}
 use Rattle.trace.specs.Rows.{KINDS, kindOf, usedBy, isPlain, value, valueFrom, isNumber, field, rowOf, numbers, six, rowHere, rowsIn}
-use Rattle.trace.specs.Questions.{Question, firstNo, callQuestions, isHeader, kindKnown, asUsed, filledAsUsed, numberIf, numbersInRange, endInRange, messageInOrder, fieldQuestions, rowQuestions, Outcome, refused, accepted, judgeRows, judgeHeader, readTrace, checkTrace, rowsLeft}
+use Rattle.trace.specs.Questions.{Question, firstNo, callQuestions, isHeader, kindKnown, asUsed, filledAsUsed, numberIf, OFFSETS, numbersInRange, endInRange, messageInOrder, fieldQuestions, rowQuestions, Outcome, refused, accepted, judgeRows, judgeHeader, readTrace, checkTrace, rowsLeft}
 
 -- a field that is not used is 0
 abbrev pub Unless : Bool → ℕ → Type 0
@@ -76,24 +76,27 @@ both false y e = absurd (false≢true e)
 
 -- ---- A row that passes its questions is well formed
 
--- a number that passes is at most the largest one
-number-most : (most : ℕ) (content : List ℕ) → isNumber most content ≡ true → value content ≤ most
-number-most most content e = leb-true (value content) most (both (isPlain content) (leb (value content) most) e .1)
+-- a number that passes is below its bound
+number-below : (below : ℕ) (content : List ℕ) → isNumber below content ≡ true → value content < below
+number-below below content e = ltb-true (value content) below (both (isPlain content) (ltb (value content) below) e .1)
 
 -- a field that passes the questions 9 and 10 is in its range, and 0 where it is not used
-field-in : (used : Bool) (most : ℕ) (content : List ℕ) → asUsed used content ≡ true → numberIf used most content ≡ true →
-    (value content ≤ most) × Unless used (value content)
+field-in : (used : Bool) (below : ℕ) (content : List ℕ) → 0 < below → asUsed used content ≡ true → numberIf used below content ≡ true →
+    (value content < below) × Unless used (value content)
 unfolding valueFrom
-field-in true most content f n = (number-most most content n, tt)
-field-in false most [] f n = (omega arith, refl)
-field-in false most (b ∷ t) f n = absurd (false≢true f)
+field-in true below content h f n = (number-below below content n, tt)
+field-in false below [] h f n = (h, refl)
+field-in false below (b ∷ t) h f n = absurd (false≢true f)
 
 -- the questions 8 to 11
-well-formed : (processLimit : ℕ) (fields : List (List ℕ)) → 0 < processLimit → kindKnown fields ≡ true → filledAsUsed fields ≡ true →
+well-formed : (processLimit : ℕ) (fields : List (List ℕ)) → kindKnown fields ≡ true → filledAsUsed fields ≡ true →
     numbersInRange processLimit fields ≡ true → endInRange (rowOf fields) ≡ true → WellFormed processLimit (rowOf fields)
 unfolding rowOf filledAsUsed numbersInRange
-well-formed processLimit fields p k f n e =
+well-formed processLimit fields k f n e =
     let u = usedBy (kindOf (field fields 1)) in
+    let files : 0 < FILES = omega arith in
+    let offsets : 0 < OFFSETS = omega arith in
+    let messages : 0 < MESSAGES = omega arith in
     let f1 = both _ _ (both (asUsed true (field fields 0)) _ f .1) in
     let f2 = both _ _ (f1 .1) in
     let f3 = both _ _ (f2 .1) in
@@ -101,17 +104,16 @@ well-formed processLimit fields p k f n e =
     let n1 = both _ _ (n0 .1) in
     let n2 = both _ _ (n1 .1) in
     let n3 = both _ _ (n2 .1) in
-    let process = number-most (processLimit - 1) (field fields 0) (n0 .0) in
-    let file = field-in (u .file) (FILES - 1) (field fields 2) (f1 .0) (n1 .0) in
-    let offset = field-in (u .range) OFFSET-MAX (field fields 3) (f2 .0) (n2 .0) in
-    let size = field-in (u .range) OFFSET-MAX (field fields 4) (f3 .0) (n3 .0) in
-    let message = field-in (u .message) (MESSAGES - 1) (field fields 5) (f3 .1) (n3 .1) in
+    let file = field-in (u .file) FILES (field fields 2) files (f1 .0) (n1 .0) in
+    let offset = field-in (u .range) OFFSETS (field fields 3) offsets (f2 .0) (n2 .0) in
+    let size = field-in (u .range) OFFSETS (field fields 4) offsets (f3 .0) (n3 .0) in
+    let message = field-in (u .message) MESSAGES (field fields 5) messages (f3 .1) (n3 .1) in
     record {
-      process = omega arith;
+      process = number-below processLimit (field fields 0) (n0 .0);
       kind = ltb-true _ _ k;
-      file = omega arith;
+      file = file .0;
       end = leb-true _ _ e;
-      message = omega arith;
+      message = message .0;
       no-file = file .1;
       no-offset = offset .1;
       no-length = size .1;
@@ -136,7 +138,7 @@ module _ (rowLimit processLimit : ℕ) where
     all : rows ≡ before ++ map rowOf recs
     end : ending ≡ all-read
     few : length before ≤ rowLimit → length rows ≤ rowLimit
-    sound : 0 < processLimit → Sound processLimit before → Sound processLimit rows
+    sound : Sound processLimit before → Sound processLimit rows
 
   -- the same behind a header, from no rows
   abbrev Behind : List (List (List ℕ)) → Ending → List Row → Type 0
@@ -144,11 +146,11 @@ module _ (rowLimit processLimit : ℕ) where
 
   -- at most as many rows as the limit, and sound ones
   abbrev Fair : List Row → Type 0
-  Fair rows = (length rows ≤ rowLimit) × (0 < processLimit → Sound processLimit rows)
+  Fair rows = (length rows ≤ rowLimit) × Sound processLimit rows
 
   -- rows that came of records from no rows are fair
   fair : {recs : List (List (List ℕ))} {ending : Ending} {rows : List Row} → Came [] recs ending rows → Fair rows
-  fair c = (c .few (omega arith), λ p. c .sound p none)
+  fair c = (c .few (omega arith), c .sound none)
 
   -- one more record that passes
   came-next : (before : List Row) (fields : List (List ℕ)) (rest : List (List (List ℕ))) (ending : Ending) →
@@ -164,14 +166,14 @@ module _ (rowLimit processLimit : ℕ) where
         end = c .end;
         few = λ h. c .few (simp length-append (omega arith));
         sound =
-            λ p s. c .sound p (next s (well-formed processLimit fields p (q .0) (q .1 .0) (q .1 .1 .0) (q .1 .1 .1 .0)) (q .1 .1 .1 .1 .0));
+            λ s. c .sound (next s (well-formed processLimit fields (q .0) (q .1 .0) (q .1 .1 .0) (q .1 .1 .1 .0)) (q .1 .1 .1 .1 .0));
       }
 
   -- records behind rows
   judged-rows : (before : List Row) (recs : List (List (List ℕ))) (ending : Ending) →
       Where (Came before recs ending) (judgeRows rowLimit processLimit before recs ending)
   unfolding judgeRows rowQuestions fieldQuestions
-  judged-rows before [] all-read = record { all = sym (append-nil before); end = refl; few = λ h. h; sound = λ p s. s }
+  judged-rows before [] all-read = record { all = sym (append-nil before); end = refl; few = λ h. h; sound = λ s. s }
   judged-rows before [] at-malformed = omega arith
   judged-rows before [] at-limit = omega arith
   judged-rows before (fields ∷ rest) ending = go (judged-rows (before ++ (rowOf fields ∷ [])) rest ending) (eqb first 0) refl
@@ -243,11 +245,10 @@ rows-behind-header rowLimit processLimit r rows e =
     (b .0, b .1, b .2, b .3, b .4 .all, b .4 .end)
 
 -- the rows of an accepted trace: at most as many as the limit, each well formed, its message in order
-pub accepted-sound : (header rowLimit processLimit : ℕ) (r : Records) (rows : List Row) → 0 < processLimit →
+pub accepted-sound : (header rowLimit processLimit : ℕ) (r : Records) (rows : List Row) →
     readTrace header rowLimit processLimit r ≡ accepted rows → (length rows ≤ rowLimit) × (Sound processLimit rows)
-accepted-sound header rowLimit processLimit r rows p e =
-    let f = subst (Where (Fair rowLimit processLimit)) e (judged rowLimit processLimit header r) in
-    (f .0, f .1 p)
+accepted-sound header rowLimit processLimit r rows e =
+    subst (Where (Fair rowLimit processLimit)) e (judged rowLimit processLimit header r)
 
 -- Reading depends on nothing but the text, the header word and the limits: slices that are long enough, and models, make no difference.
 pub slices-no-matter : (text : List ℕ) (header model model′ rowLimit processLimit byteLimit rowsLength countsLength rowsLength′ countsLength′ : ℕ) →

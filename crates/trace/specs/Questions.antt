@@ -12,7 +12,7 @@ use Rattle.fields.specs.declared.Row.{Row}
 use Rattle.trace.specs.declared.Checked.{Checked}
 use Rattle.trace.specs.declared.Checked.the-variants.{Accepted, Refused}
 use Rattle.trace.specs.Rows.{SEND, RECV, headerNames, sameFields, rowOf, numbers}
-pub use Rattle.fields.specs.Questions.{Question, kindKnown, asUsed, numberIf, endInRange}
+pub use Rattle.fields.specs.Questions.{Question, kindKnown, asUsed, numberIf, OFFSETS, endInRange}
 unfoldable pub use Rattle.fields.specs.Questions.{firstNo, filledAsUsed, numbersInRange, fieldQuestions}
 
 -- ---- First, of the caller's numbers and slices

@@ -2,4 +2,4 @@
 -- defines them.
 pub use Rattle.models.specs.Operations.{READ, WRITE, COMMIT, OPEN, CLOSE, SYNC, SEND, RECV, KINDS}
 pub use Rattle.fields.specs.Rows.{kindWords, kindOf, headerNames, ofRange, ofFile, ofMessage, ofNothing, usedTable, isPlain, value, isNumber, field}
-unfoldable pub use Rattle.fields.specs.Rows.{wordOf, sameFields, usedBy, allDigits, startsPlain, valueFrom, numberUpTo, rowOf, six, numbers, rowHere, rowsIn}
+unfoldable pub use Rattle.fields.specs.Rows.{wordOf, sameFields, usedBy, allDigits, startsPlain, valueFrom, numberBelow, rowOf, six, numbers, rowHere, rowsIn}

@@ -2,7 +2,7 @@
 mod rows;
 
 ghost use mathlib.Core.Path.{_≡_};
-ghost use Prim.Native.Nat.{_≤_, _<_, _*_};
+ghost use Prim.Native.Nat.{_≤_, _*_};
 ghost use lib.ListN.{length, replicate};
 ghost use Rattle.csv.specs.Reading.{records};
 ghost use Rattle.trace.specs.Questions.{firstNo, callQuestions, readTrace, checkTrace, checkedOf, Holds, Leaves};
@@ -125,7 +125,7 @@ fn read_trace(
     byte_limit: usize,
     rows: &mut [u32],
 ) -> Checked
-    requires { ⌜ («row_limit» ≤ 4096) × (6 * «row_limit» ≤ length (now rows)) × (0 < «process_limit») ⌝ }
+    requires { ⌜ («row_limit» ≤ 4096) × (6 * «row_limit» ≤ length (now rows)) ⌝ }
     ensures answer { λ r. ⌜ r ≡ checkedOf (readTrace header «row_limit» «process_limit» (records (now (text .entry)) «byte_limit»)) ⌝ }
     ensures held { λ r. ⌜ Holds (readTrace header «row_limit» «process_limit» (records (now (text .entry)) «byte_limit»)) (now (rows .entry)) (now (rows .exit)) ⌝ }
 {

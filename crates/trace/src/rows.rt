@@ -1,7 +1,7 @@
 // Row after row, in a slice of six numbers each.
 ghost use mathlib.Core.Path.{_≡_};
 ghost use mathlib.Core.List.{[], _++_};
-ghost use Prim.Native.Nat.{suc, _+_, _*_, _<_, _≤_};
+ghost use Prim.Native.Nat.{suc, _+_, _*_, _≤_};
 ghost use lib.ListN.{length, take, drop};
 ghost use Rattle.csv.specs.Reading.{contentOf, recordsFrom};
 ghost use Rattle.trace.specs.Rows.{six, rowHere, rowsIn};
@@ -88,7 +88,7 @@ fn judge_row(
     row_limit: u32,
     process_limit: u32,
 ) -> Judged
-    requires { ⌜ (0 < «process_limit») × (n * 6 ≤ length (now rows)) ⌝ }
+    requires { ⌜ n * 6 ≤ length (now rows) ⌝ }
     ensures { λ r. ⌜ r ≡ judgedRow «row_limit» «process_limit» n (rowsIn n (now (rows .entry))) count (fieldsOf (now (text .entry)) spans) ⌝ }
 {
     if row_limit as usize <= n {
@@ -117,7 +117,7 @@ pub(crate) fn read_rows(
     byte_limit: usize,
     rows: &mut [u32],
 ) -> Checked
-    requires { ⌜ («row_limit» ≤ 4096) × (6 * «row_limit» ≤ length (now rows)) × (0 < «process_limit») ⌝ }
+    requires { ⌜ («row_limit» ≤ 4096) × (6 * «row_limit» ≤ length (now rows)) ⌝ }
     ensures answer { λ r. ⌜ r ≡ checkedOf (judgeFrom «row_limit» «process_limit» (now (text .entry)) «byte_limit» start) ⌝ }
     ensures held { λ r. ⌜ Holds (judgeFrom «row_limit» «process_limit» (now (text .entry)) «byte_limit» start) (now (rows .entry)) (now (rows .exit)) ⌝ }
 {

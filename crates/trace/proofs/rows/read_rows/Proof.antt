@@ -87,11 +87,8 @@ enum-told-4 c = search needs
 
 judge-row-requires : tie.Need-judge-row-requires Inv-loop μ-loop
 judge-row-requires c κs =
-    let l = c .before .before .before .before .before .loop in (
-      c .before .before .before .before .before .before .before .before .pre .2,
-      omega
-          (arith, l .inv .0 .few, l .inv .1, c .before .before .before .before .before .before .before .before .pre .1),
-    )
+    let l = c .before .before .before .before .before .loop in
+    omega (arith, l .inv .0 .few, l .inv .1, c .before .before .before .before .before .before .before .before .pre .1)
 
 enum-known-k : tie.Need-enum-known-k Inv-loop μ-loop
 enum-known-k c = search needs
