@@ -25,6 +25,8 @@ int main(void) {
         uint64_t found = kiqsaryn_verdict(rows, 6 * ROWS, n, PROCESSES, model, counts, ROWS * PROCESSES);
         if (found == 0)
             printf("%s free\n", names[model]);
+        else if ((uint32_t)found == 0)
+            return 2;
         else
             printf("%s race %u %u\n", names[model], (unsigned)(found >> 32), (unsigned)found);
     }

@@ -34,12 +34,13 @@ uint64_t kiqsaryn_check_trace(const uint8_t *text, size_t text_len, uint32_t hea
                               size_t byte_limit, uint32_t *rows, size_t rows_len, uint16_t *counts, size_t counts_len);
 
 /* Fills the happens-before counts of the first n rows, process_limit each: how many rows of each process happen before the row or are it.
- * The answer is 1, or 0 where a limit is too large or a slice too short, and then nothing changes. */
+ * The answer is 0, or the number of a refusal, which changes nothing: 1 where `rows` has fewer than 6 * n numbers or `counts` fewer than
+ * n * process_limit, 2 for more than 4,096 rows or a process limit that is not 1 to 64, 10 for a row whose process is not below the limit. */
 uint32_t kiqsaryn_fill_counts(const uint32_t *rows, size_t rows_len, uint32_t n, uint32_t process_limit, uint16_t *counts, size_t counts_len);
 
-/* The verdict on the first n rows under a model, with the counts filled on the way. The answer is 0 for free, the earlier row's number times
- * 2^32 plus the later row's for the first race, and 2^64 - 1 where it cannot judge (a model, limit or process too large, a slice too short),
- * and then nothing changes. */
+/* The verdict on the first n rows under a model, with the counts filled on the way. The answer is 0 for free; for the first race the earlier
+ * row's number times 2^32 plus the later row's, which is at least 2; and for a refusal its number times 2^32, with nothing changed: 1, 2 and 10
+ * as for the counts, and 2 also for a model that is not 0 to 3. */
 uint64_t kiqsaryn_verdict(const uint32_t *rows, size_t rows_len, uint32_t n, uint32_t process_limit, uint32_t model, uint16_t *counts,
                           size_t counts_len);
 

@@ -130,12 +130,20 @@ pub fn check_trace(text: &[u8], s: Settings, rows: &mut [u32], counts: &mut [u16
     }
 }
 
-/// Fills the happens-before counts of the first `n` rows, `process_limit` each, and clears what lies behind them. `false` is a refusal: a
-/// limit past its largest value or a slice too short; the counts are then as they were.
-pub fn fill_counts(rows: &[u32], n: u32, process_limit: u32, counts: &mut [u16]) -> bool {
+/// Nothing for 0, and the refusal of any other number.
+fn done(number: u32) -> Result<(), Refusal> {
+    match number {
+        0 => Ok(()),
+        _ => Err(refused(number)),
+    }
+}
+
+/// Fills the happens-before counts of the first `n` rows, `process_limit` each, and clears what lies behind them. A refusal keeps the counts:
+/// 1 for a slice that is too short, 2 for more than 4,096 rows or a process limit that is not 1 to 64, 10 for a row whose process is not below
+/// the limit.
+pub fn fill_counts(rows: &[u32], n: u32, process_limit: u32, counts: &mut [u16]) -> Result<(), Refusal> {
     // Both slices are live for the call, and the one lent for writing is borrowed by it alone.
-    let answer = unsafe { ffi::kiqsaryn_fill_counts(rows.as_ptr(), rows.len(), n, process_limit, counts.as_mut_ptr(), counts.len()) };
-    answer == 1
+    done(unsafe { ffi::kiqsaryn_fill_counts(rows.as_ptr(), rows.len(), n, process_limit, counts.as_mut_ptr(), counts.len()) })
 }
 
 /// A verdict on rows.
@@ -147,18 +155,18 @@ pub enum Verdict {
         earlier: u32,
         later: u32,
     },
-    /// A limit or the model past its largest value, a slice too short, or a process not below the limit.
-    Refused,
+    /// As `fill_counts` refuses, and 2 also for a model that is not 0 to 3.
+    Refused(Refusal),
 }
 
 /// The verdict on the first `n` rows under a model; the counts are filled on the way, and kept where the call refuses.
 pub fn verdict(rows: &[u32], n: u32, process_limit: u32, model: u32, counts: &mut [u16]) -> Verdict {
     // Both slices are live for the call, and the one lent for writing is borrowed by it alone.
     let answer = unsafe { ffi::kiqsaryn_verdict(rows.as_ptr(), rows.len(), n, process_limit, model, counts.as_mut_ptr(), counts.len()) };
-    match answer {
-        0 => Verdict::Free,
-        u64::MAX => Verdict::Refused,
-        _ => Verdict::Race { earlier: (answer >> 32) as u32, later: answer as u32 },
+    match ((answer >> 32) as u32, answer as u32) {
+        (0, 0) => Verdict::Free,
+        (number, 0) => Verdict::Refused(refused(number)),
+        (earlier, later) => Verdict::Race { earlier, later },
     }
 }
 
@@ -195,13 +203,6 @@ impl Header {
     }
 }
 
-fn made(number: u32) -> Result<(), Refusal> {
-    match number {
-        0 => Ok(()),
-        _ => Err(refused(number)),
-    }
-}
-
 fn stepped(answer: u64) -> Result<u32, Refusal> {
     match (answer >> 32) as u32 {
         0 => Ok(answer as u32),
@@ -212,13 +213,13 @@ fn stepped(answer: u64) -> Result<u32, Refusal> {
 /// Makes a machine over a slice: 0 everywhere in its maps, and nothing behind them is touched.
 pub fn make(model: u32, h: Header, maps: &mut [u32]) -> Result<(), Refusal> {
     // The slice is live for the call and borrowed by it alone.
-    made(unsafe { ffi::kiqsaryn_make(model, h.process_limit, h.file, h.map_space, maps.as_mut_ptr(), maps.len()) })
+    done(unsafe { ffi::kiqsaryn_make(model, h.process_limit, h.file, h.map_space, maps.as_mut_ptr(), maps.len()) })
 }
 
 /// Makes a plain file over a slice.
 pub fn make_plain(h: Header, map: &mut [u32]) -> Result<(), Refusal> {
     // The slice is live for the call and borrowed by it alone.
-    made(unsafe { ffi::kiqsaryn_make_plain(h.process_limit, h.file, h.map_space, map.as_mut_ptr(), map.len()) })
+    done(unsafe { ffi::kiqsaryn_make_plain(h.process_limit, h.file, h.map_space, map.as_mut_ptr(), map.len()) })
 }
 
 /// Puts a row to a machine under a row number. A read's pieces (start, length, row number) go to the front of the answer slice, and their

@@ -629,7 +629,7 @@ fn read_rows(text: &str, processes: u32) -> (Vec<u32>, u32, Vec<u16>) {
     let Checked::Accepted(n) = check_trace(text.as_bytes(), settings, &mut rows, &mut counts) else {
         panic!("an accepted trace: {text}");
     };
-    assert!(fill_counts(&rows, n, processes, &mut counts));
+    assert!(fill_counts(&rows, n, processes, &mut counts).is_ok());
     (rows, n, counts)
 }
 

@@ -480,29 +480,44 @@ fn numbers(rows: &[Row]) -> Vec<u32> {
     rows.iter().flat_map(|r| [r.process, r.kind, r.file, r.offset, r.length, r.message]).collect()
 }
 
+/// The refusal of the counts, or of a verdict whose model is one or not: 1, 2, then 10.
+fn refusal_of(rows: &[Row], lent: usize, n: u32, process_limit: u32, model: bool, counts_len: usize) -> Option<Refusal> {
+    let (n, limit) = (u64::from(n), u64::from(process_limit));
+    if 6 * n > lent as u64 || n * limit > counts_len as u64 {
+        return Refusal::from_number(1);
+    }
+    if !model || n > 4096 || !(1..=64).contains(&limit) {
+        return Refusal::from_number(2);
+    }
+    let low = rows.iter().take(n as usize).all(|row| row.process < process_limit);
+    if low {
+        None
+    } else {
+        Refusal::from_number(10)
+    }
+}
+
 /// Counts and verdicts of rows as they are, by the definitions where the arguments are right.
 fn judge(r: &mut Random, told: &dyn Fn() -> String, rows: &[Row], lent: &[u32], process_limit: u32, counts_len: usize, seen: &mut Seen) {
     let n = rows.len() as u32;
     let order = Order::of(rows);
     let fill: Vec<u16> = (0..counts_len).map(|_| r.bits() as u16).collect();
-    let fits = n <= 4096 && process_limit <= 64 && 6 * n as usize <= lent.len() && (n * process_limit) as usize <= counts_len;
-    let want = if fits { padded(counts(rows, &order, process_limit), counts_len) } else { fill.clone() };
+    let refusal = refusal_of(rows, lent.len(), n, process_limit, true, counts_len);
+    let want = if refusal.is_none() { padded(counts(rows, &order, process_limit), counts_len) } else { fill.clone() };
     let mut got = fill.clone();
-    assert_eq!(fill_counts(lent, n, process_limit, &mut got), fits, "counts filled?\n{}", told());
+    assert_eq!(fill_counts(lent, n, process_limit, &mut got).err(), refusal, "counts filled?\n{}", told());
     assert!(got == want, "counts {got:?} and not {want:?}\n{}", told());
-    let judgeable = fits && rows.iter().all(|row| row.process < process_limit);
     let mut races = Vec::new();
     for model in Model::ALL.map(Model::number) {
         let race = first_race(rows, &order, model);
-        let answer = match race {
-            _ if !judgeable => Verdict::Refused,
-            None => Verdict::Free,
-            Some((earlier, later)) => Verdict::Race { earlier, later },
+        let answer = match (refusal, race) {
+            (Some(refusal), _) => Verdict::Refused(refusal),
+            (None, None) => Verdict::Free,
+            (None, Some((earlier, later))) => Verdict::Race { earlier, later },
         };
         let mut got = fill.clone();
         assert_eq!(verdict(lent, n, process_limit, model, &mut got), answer, "verdict under model {model}\n{}", told());
-        let left = if judgeable { &want } else { &fill };
-        assert!(got == *left, "counts of the verdict {got:?} and not {left:?}\n{}", told());
+        assert!(got == want, "counts of the verdict {got:?} and not {want:?}\n{}", told());
         match race {
             None => seen.free[model as usize] += 1,
             Some((_, later)) => {
@@ -515,7 +530,8 @@ fn judge(r: &mut Random, told: &dyn Fn() -> String, rows: &[Row], lent: &[u32], 
     seen.split += u64::from(races.iter().any(|race| *race != races[0]));
     let model = r.pick(&[4, 5, u32::MAX]);
     let mut got = fill.clone();
-    assert_eq!(verdict(lent, n, process_limit, model, &mut got), Verdict::Refused, "verdict under model {model}\n{}", told());
+    let refusal = refusal_of(rows, lent.len(), n, process_limit, false, counts_len).expect("no model is past 3");
+    assert_eq!(verdict(lent, n, process_limit, model, &mut got), Verdict::Refused(refusal), "verdict under model {model}\n{}", told());
     assert!(got == fill, "counts of a refused verdict\n{}", told());
 }
 
@@ -599,8 +615,15 @@ fn compare_wild(r: &mut Random, seed: u64, seen: &mut Seen) {
     judge(r, &told, &rows, &lent, process_limit, counts_len, ignored);
     for (n, limit, model) in [(u32::MAX, process_limit, 0), (n, u32::MAX, 1), (u32::MAX, u32::MAX, u32::MAX), (n.max(4097), 64, 2)] {
         let mut got = vec![9u16; counts_len];
-        assert!(!fill_counts(&lent, n, limit, &mut got), "counts of {n} rows under limit {limit}\n{}", told());
-        assert_eq!(verdict(&lent, n, limit, model, &mut got), Verdict::Refused, "verdict on {n} rows under limit {limit}\n{}", told());
+        let refusal = refusal_of(&rows, lent.len(), n, limit, true, counts_len).expect("these are past every limit");
+        assert_eq!(fill_counts(&lent, n, limit, &mut got), Err(refusal), "counts of {n} rows under limit {limit}\n{}", told());
+        let refusal = refusal_of(&rows, lent.len(), n, limit, model < 4, counts_len).expect("these are past every limit");
+        assert_eq!(
+            verdict(&lent, n, limit, model, &mut got),
+            Verdict::Refused(refusal),
+            "verdict on {n} rows under limit {limit}\n{}",
+            told()
+        );
         assert!(got.iter().all(|c| *c == 9), "counts are kept\n{}", told());
     }
 }

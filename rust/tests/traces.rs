@@ -59,7 +59,7 @@ fn every_vector(file: &str) {
             assert_eq!(got, Checked::Accepted(v(2)), "vector {}", w[1]);
             assert_eq!(rows, padded(&lines.next().expect("the rows").numbers("R"), rows_len), "rows of vector {}", w[1]);
             assert!(counts.iter().all(|x| *x == 0), "counts of vector {} are cleared", w[1]);
-            assert!(fill_counts(&rows, v(2), settings.process_limit, &mut counts), "counts of vector {}", w[1]);
+            assert!(fill_counts(&rows, v(2), settings.process_limit, &mut counts).is_ok(), "counts of vector {}", w[1]);
             let want = if a[3] == "free" { Verdict::Free } else { Verdict::Race { earlier: v(4), later: v(5) } };
             let judged = verdict(&rows, v(2), settings.process_limit, settings.model, &mut counts);
             assert_eq!(judged, want, "verdict of vector {}", w[1]);
@@ -73,23 +73,62 @@ fn every_vector(file: &str) {
 
 #[test]
 fn counts_of_wild_arguments_are_refused() {
-    let rows = [0u32; 12];
-    for (n, processes, len) in [(3, 1, 9), (2, 65, 200), (4097, 1, 9), (2, 5, 9), (u32::MAX, u32::MAX, 9)] {
+    let mut rows = vec![0u32; 6 * 4097];
+    rows[6] = 3;
+    let wild = [
+        // 1: a slice is too short, whatever else is wrong
+        (4098, 1, 5000, 1),
+        (2, 5, 9, 1),
+        (u32::MAX, u32::MAX, 9, 1),
+        (u32::MAX, 0, 9, 1),
+        (2, u32::MAX, 9, 1),
+        // 2: too many rows, or a process limit that is not 1 to 64
+        (4097, 1, 4097, 2),
+        (2, 0, 9, 2),
+        (0, 0, 0, 2),
+        (2, 65, 130, 2),
+        (0, u32::MAX, 0, 2),
+        // 10: the process of row 2 is 3
+        (2, 1, 2, 10),
+        (2, 3, 9, 10),
+    ];
+    for (n, processes, len, number) in wild {
         let mut counts = vec![7u16; len];
-        assert!(!fill_counts(&rows, n, processes, &mut counts));
+        let got = fill_counts(&rows, n, processes, &mut counts);
+        assert_eq!(got.map_err(Refusal::number), Err(number), "{n} rows, {processes} processes, {len} counts");
         assert!(counts.iter().all(|x| *x == 7));
     }
     let mut counts = [7u16; 9];
-    assert!(fill_counts(&rows, 2, 4, &mut counts));
-    assert_eq!(counts, [1, 0, 0, 0, 2, 0, 0, 0, 0]);
+    assert_eq!(fill_counts(&rows, 2, 4, &mut counts), Ok(()));
+    assert_eq!(counts, [1, 0, 0, 0, 0, 0, 0, 1, 0]);
+    assert_eq!(fill_counts(&rows, 0, 1, &mut counts), Ok(()));
+    assert_eq!(counts, [0; 9]);
 }
 
 #[test]
 fn verdicts_on_wild_arguments_are_refused() {
     let rows = [0u32, 1, 0, 0, 1, 0, 5, 1, 0, 0, 1, 0];
-    for (n, processes, model, len) in [(3, 6, 0, 18), (2, 65, 0, 200), (4097, 1, 0, 9), (2, 5, 0, 10), (2, 6, 4, 12), (2, 6, 0, 11)] {
+    let wild = [
+        // 1: a slice is too short, whatever else is wrong
+        (3, 6, 0, 18, 1),
+        (2, 6, 0, 11, 1),
+        (4097, 1, 4, 9, 1),
+        (2, 65, u32::MAX, 129, 1),
+        // 2: the model or a limit is out of its range
+        (2, 6, 4, 12, 2),
+        (2, 5, 4, 10, 2),
+        (2, 65, 0, 200, 2),
+        (2, 0, 0, 12, 2),
+        (0, 0, 0, 0, 2),
+        // 10: the process of row 2 is 5
+        (2, 5, 0, 10, 10),
+        (2, 1, 3, 2, 10),
+    ];
+    for (n, processes, model, len, number) in wild {
         let mut counts = vec![7u16; len];
-        assert_eq!(verdict(&rows, n, processes, model, &mut counts), Verdict::Refused);
+        let want = Verdict::Refused(Refusal::from_number(number).expect("a refusal"));
+        let got = verdict(&rows, n, processes, model, &mut counts);
+        assert_eq!(got, want, "{n} rows, {processes} processes, model {model}, {len} counts");
         assert!(counts.iter().all(|x| *x == 7));
     }
     let mut counts = [7u16; 12];

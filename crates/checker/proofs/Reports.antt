@@ -3,7 +3,6 @@ use Prim.Native.Nat.{ℕ, _+_, _≤_, _<_}
 use native.Mathlib.Omega.{arith}
 use native.Mathlib.Nat.{zero-add}
 use mathlib.Core.Path.{_≡_, refl, sym, ap, _∙_}
-use mathlib.Core.Bool.{Bool, true}
 use mathlib.Core.List.{List, _++_, append-assoc}
 use lib.ListN.{length, take, drop, length-append}
 use lib.Seq.{length-take-le}
@@ -13,16 +12,16 @@ use Rattle.print.proofs.Laying.{lay-length}
 use Rattle.trace.specs.Rows.{rowsIn}
 use Rattle.trace.specs.declared.Checked.{Checked}
 use Rattle.trace.specs.declared.Checked.the-variants as checked
-use Rattle.trace.specs.Questions.{Outcome, refused, accepted, Leaves}
+use Rattle.trace.specs.Questions.{firstNo, Outcome, refused, accepted, Leaves}
 use Rattle.trace.proofs.Whole.{refused-told}
 use Rattle.races.specs.declared.Found.{Found}
 use Rattle.races.specs.declared.Found.the-variants.{Free, Race, Refused}
 use Rattle.races.specs.Races.{Verdict, free, racing, verdictOf}
-use Rattle.races.specs.Scan.{judgeable, foundOf, answerOf}
+use Rattle.races.specs.Scan.{judgeQuestions, foundOf, answerOf}
 use Rattle.checker.specs.Report.{lineEnd, heading, posix, commit, session, mpiio, freeWords, raceWord, refusedWord}
 use Rattle.checker.specs.Report.{pair, verdictWords, modelLine, reportOf, readByProgram, reportLength, reportIn}
 use Rattle.checker.proofs.Lines.{pair-most, line-most, Laid, put-laid, laid-length, then}
-use Rattle.checker.proofs.Verdicts.{judgeable-other, outcome, told, rows-again}
+use Rattle.checker.proofs.Verdicts.{passes-other, outcome, told, rows-again}
 
 -- ---- A model's line
 
@@ -37,20 +36,20 @@ race-told free e = let z : _≡_ {A = ℕ} 0 1 = cc in absurd (omega arith)
 race-told (racing earlier later) e = cc
 
 -- no verdict's answer is a refusal
-never-refused : (v : Verdict) → Refused ≡ foundOf v → ⊥
+never-refused : (v : Verdict) {k : ℕ} → Refused k ≡ foundOf v → ⊥
 never-refused free e = let z : _≡_ {A = ℕ} 0 1 = cc in omega arith
 never-refused (racing earlier later) e = let z : _≡_ {A = ℕ} 0 1 = cc in omega arith
 
 module _ (xs : List ℕ) (at : ℕ) (name rows : List ℕ) (n model L : ℕ)
-    (pre : ((at + 40 ≤ length xs) × (length name ≤ 8)) × (judgeable n 8 model rows L ≡ true)) {mid : ℕ} {ys : List ℕ}
+    (pre : ((at + 40 ≤ length xs) × (length name ≤ 8)) × (firstNo (judgeQuestions n 8 model rows L) ≡ 0)) {mid : ℕ} {ys : List ℕ}
     (put : (mid ≡ putEnd xs at name) × (ys ≡ putIn xs at name)) where
   -- the verdict that is printed
   abbrev verdict : Verdict
   verdict = verdictOf (rowsIn n rows) model
 
   -- the answer, whatever it is called, is its answer
-  answer-told : {f g : Found} → f ≡ answerOf (judgeable n 8 model rows L) rows n model → f ≡ g → g ≡ foundOf verdict
-  answer-told e h = sym h ∙ e ∙ ap (λ (b : Bool). answerOf b rows n model) (pre .1)
+  answer-told : {f g : Found} → f ≡ answerOf (firstNo (judgeQuestions n 8 model rows L)) rows n model → f ≡ g → g ≡ foundOf verdict
+  answer-told e h = sym h ∙ e ∙ ap (λ (first : ℕ). answerOf first rows n model) (pre .1)
 
   -- the name is laid
   named : Laid xs at name mid ys
@@ -62,7 +61,7 @@ module _ (xs : List ℕ) (at : ℕ) (name rows : List ℕ) (n model L : ℕ)
   line e l = let all = then named l in rw e (all .behind, all .whole)
 
   -- free
-  pub free-line : {f : Found} → f ≡ answerOf (judgeable n 8 model rows L) rows n model → f ≡ Free → {end : ℕ} {zs : List ℕ} →
+  pub free-line : {f : Found} → f ≡ answerOf (firstNo (judgeQuestions n 8 model rows L)) rows n model → f ≡ Free → {end : ℕ} {zs : List ℕ} →
       (end ≡ putEnd ys mid (freeWords ++ lineEnd)) × (zs ≡ putIn ys mid (freeWords ++ lineEnd)) →
       (end ≡ at + length (modelLine name verdict)) × (zs ≡ lay xs at (modelLine name verdict))
   free-line e h p =
@@ -79,7 +78,7 @@ module _ (xs : List ℕ) (at : ℕ) (name rows : List ℕ) (n model L : ℕ)
     race-room = omega (arith, named .behind, laid-length named, raced .behind, laid-length raced)
 
     -- a race
-    pub race-line : {f : Found} → f ≡ answerOf (judgeable n 8 model rows L) rows n model → {earlier later : ℕ} → f ≡ Race earlier later →
+    pub race-line : {f : Found} → f ≡ answerOf (firstNo (judgeQuestions n 8 model rows L)) rows n model → {earlier later : ℕ} → f ≡ Race earlier later →
         {end : ℕ} {ws : List ℕ} → (end ≡ word + length (pair earlier later)) × (ws ≡ lay zs word (pair earlier later)) →
         (end ≡ at + length (modelLine name verdict)) × (ws ≡ lay xs at (modelLine name verdict))
     race-line e {earlier} {later} h q =
@@ -88,7 +87,7 @@ module _ (xs : List ℕ) (at : ℕ) (name rows : List ℕ) (n model L : ℕ)
         (record { fit = omega (arith, race-room, pair-most earlier later); behind = q .0; whole = q .1 }))
 
   -- rows to judge are not refused
-  pub no-refusal : {f : Found} → f ≡ answerOf (judgeable n 8 model rows L) rows n model → f ≡ Refused → ⊥
+  pub no-refusal : {f : Found} → f ≡ answerOf (firstNo (judgeQuestions n 8 model rows L)) rows n model → {k : ℕ} → f ≡ Refused k → ⊥
   no-refusal e h = never-refused verdict (answer-told e h)
 
 -- ---- The four lines
@@ -118,7 +117,7 @@ next s h = omega (arith, s .most, s .laid .behind, laid-length (s .laid))
 regroup : (a b c d e : List ℕ) → (((a ++ b) ++ c) ++ d) ++ e ≡ a ++ (b ++ (c ++ (d ++ e)))
 regroup a b c d e = simp append-assoc
 
-module _ (xs rows : List ℕ) (n L : ℕ) (pre : (256 ≤ length xs) × (judgeable n 8 0 rows L ≡ true)) where
+module _ (xs rows : List ℕ) (n L : ℕ) (pre : (256 ≤ length xs) × (firstNo (judgeQuestions n 8 0 rows L) ≡ 0)) where
   -- a model's verdict
   abbrev of : ℕ → Verdict
   of model = verdictOf (rowsIn n rows) model
@@ -133,7 +132,7 @@ module _ (xs rows : List ℕ) (n L : ℕ) (pre : (256 ≤ length xs) × (judgeab
     head = record { laid = put-laid xs 0 heading h (omega arith); most = omega arith }
 
     -- what the first model's line asks for
-    pub first-asks : ((a + 40 ≤ length ys) × (length posix ≤ 8)) × (judgeable n 8 0 rows L ≡ true)
+    pub first-asks : ((a + 40 ≤ length ys) × (length posix ≤ 8)) × (firstNo (judgeQuestions n 8 0 rows L) ≡ 0)
     first-asks = ((next head (omega arith), omega arith), pre .1)
 
     module _ {b : ℕ} {zs : List ℕ} {M : ℕ} (p : Adds posix 0 ys a b zs) (l : M ≡ L) where
@@ -142,8 +141,8 @@ module _ (xs rows : List ℕ) (n L : ℕ) (pre : (256 ≤ length xs) × (judgeab
       one = more head posix (of 0) (omega arith) p
 
       -- what the second asks for
-      pub second-asks : ((b + 40 ≤ length zs) × (length commit ≤ 8)) × (judgeable n 8 1 rows M ≡ true)
-      second-asks = ((next one (omega arith), omega arith), judgeable-other n 8 0 1 rows L M (pre .1) (omega arith) l)
+      pub second-asks : ((b + 40 ≤ length zs) × (length commit ≤ 8)) × (firstNo (judgeQuestions n 8 1 rows M) ≡ 0)
+      second-asks = ((next one (omega arith), omega arith), passes-other n 8 0 1 rows (omega arith) (omega arith) (pre .1) l)
 
       module _ {c : ℕ} {us : List ℕ} {N : ℕ} (q : Adds commit 1 zs b c us) (m : N ≡ M) where
         -- two lines are laid
@@ -151,8 +150,8 @@ module _ (xs rows : List ℕ) (n L : ℕ) (pre : (256 ≤ length xs) × (judgeab
         two = more one commit (of 1) (omega arith) q
 
         -- what the third asks for
-        pub third-asks : ((c + 40 ≤ length us) × (length session ≤ 8)) × (judgeable n 8 2 rows N ≡ true)
-        third-asks = ((next two (omega arith), omega arith), judgeable-other n 8 0 2 rows L N (pre .1) (omega arith) (m ∙ l))
+        pub third-asks : ((c + 40 ≤ length us) × (length session ≤ 8)) × (firstNo (judgeQuestions n 8 2 rows N) ≡ 0)
+        third-asks = ((next two (omega arith), omega arith), passes-other n 8 0 2 rows (omega arith) (omega arith) (pre .1) (m ∙ l))
 
         module _ {d : ℕ} {vs : List ℕ} {O : ℕ} (r : Adds session 2 us c d vs) (o : O ≡ N) where
           -- three lines are laid
@@ -160,8 +159,8 @@ module _ (xs rows : List ℕ) (n L : ℕ) (pre : (256 ≤ length xs) × (judgeab
           three = more two session (of 2) (omega arith) r
 
           -- what the fourth asks for
-          pub fourth-asks : ((d + 40 ≤ length vs) × (length mpiio ≤ 8)) × (judgeable n 8 3 rows O ≡ true)
-          fourth-asks = ((next three (omega arith), omega arith), judgeable-other n 8 0 3 rows L O (pre .1) (omega arith) (o ∙ m ∙ l))
+          pub fourth-asks : ((d + 40 ≤ length vs) × (length mpiio ≤ 8)) × (firstNo (judgeQuestions n 8 3 rows O) ≡ 0)
+          fourth-asks = ((next three (omega arith), omega arith), passes-other n 8 0 3 rows (omega arith) (omega arith) (pre .1) (o ∙ m ∙ l))
 
           -- all of them are the report
           pub lines-laid : {e : ℕ} {ws : List ℕ} → Adds mpiio 3 vs d e ws →

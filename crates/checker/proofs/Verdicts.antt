@@ -1,56 +1,40 @@
--- An accepted trace is one to judge, and what the whole call decides. Assumes nothing.
-use Prim.Native.Nat.{ℕ, zero, suc, _*_, _-_, _≤_, _<_}
+-- An accepted trace passes the questions of the verdict, and what the whole call decides. Assumes nothing.
+use Prim.Native.Nat.{ℕ, _*_, _-_, _≤_, _<_}
 use native.Mathlib.Omega.{arith}
 use native.Mathlib.Nat.{mul-le-mul-right}
 use mathlib.Core.Path.{_≡_, refl, sym, ap, _∙_}
-use mathlib.Core.Bool.{Bool, true, false, cond, _&&_}
-use mathlib.Core.List.{List, [], _∷_, _++_}
+use mathlib.Core.List.{List, _++_}
 use lib.ListN.{length, replicate, length-append, length-replicate}
-use lib.Dec.{ltb, eqb}
-use borrow.Author.Tests.{le-leb, lt-ltb, eqb-true}
 use Rattle.models.specs.Limits.{MODELS}
 use Rattle.csv.specs.Reading.{records}
 use Rattle.fields.specs.declared.Row.{Row}
 use Rattle.trace.specs.declared.Checked.{Checked}
 use Rattle.trace.specs.declared.Checked.the-variants as checked
 use Rattle.trace.specs.Rows.{numbers, rowsIn}
-use Rattle.trace.specs.Questions.{Outcome, refused, accepted, firstNo, callQuestions, readTrace, checkTrace, rowsLeft, countsLeft, Leaves}
+use Rattle.trace.specs.Questions.{firstNo, Outcome, accepted, checkTrace, rowsLeft, countsLeft, Leaves}
 use Rattle.trace.proofs.Laws.{accepted-passed, accepted-sound, length-numbers, rows-left-back}
 use Rattle.trace.proofs.Whole.{accepted-told, refused-told}
-use Rattle.order.specs.Order.{rowAt, countsOf, fits}
-use Rattle.order.specs.Clock.{rowIn}
-use Rattle.order.proofs.Below.{and-out}
+use Rattle.order.specs.Order.{rowAt, countsOf}
+use Rattle.order.specs.Filling.{fillQuestions, filledLeft}
+use Rattle.order.proofs.Asking.{all-asked}
 use Rattle.order.proofs.Filling.{row-in}
 use Rattle.order.proofs.Sounds.{sound-row}
 use Rattle.races.specs.declared.Found.{Found}
 use Rattle.races.specs.declared.Found.the-variants as found
 use Rattle.races.specs.Races.{Verdict, free, racing, verdictOf}
-use Rattle.races.specs.Scan.{processesIn, judgeable, foundOf, answerOf, countsAfter}
+use Rattle.races.specs.Scan.{judgeQuestions, foundOf, answerOf}
+use Rattle.races.proofs.Whole.{same-first}
 use Rattle.checker.specs.declared.Judged.{Judged}
 use Rattle.checker.specs.declared.Judged.the-variants.{Free, Race, Refused}
 use Rattle.checker.specs.Judging.{judgedRows, Decides}
 
--- ---- An accepted trace is one to judge
+-- ---- The questions of the verdict
 
--- rows whose processes are all below the limit pass the test
-processes-pass : (n P : ℕ) (xs : List ℕ) → ((k : ℕ) → k < n → rowIn xs k .process < P) → processesIn n P xs ≡ true
-unfolding processesIn
-processes-pass zero P xs h = refl
-processes-pass (suc n) P xs h = rw (processes-pass n P xs (λ k l. h k (omega arith)), lt-ltb (rowIn xs n .process) P (h n (omega arith)))
-
--- what the test asks for is enough for it
-judgeable-of : (n P model : ℕ) (xs : List ℕ) (L : ℕ) → n ≤ 4096 → P ≤ 64 → 6 * n ≤ length xs → n * P ≤ L → model < 4 → processesIn n P xs ≡ true →
-    judgeable n P model xs L ≡ true
-judgeable-of n P model xs L a b c d m p =
-    rw (le-leb n 4096 a, le-leb P 64 b, le-leb (6 * n) (length xs) c, le-leb (n * P) L d, lt-ltb model 4 m, p)
-
--- judged under one model, judged under every other
-pub judgeable-other : (n P model model′ : ℕ) (xs : List ℕ) (L L′ : ℕ) → judgeable n P model xs L ≡ true → model′ < 4 → L′ ≡ L →
-    judgeable n P model′ xs L′ ≡ true
-judgeable-other n P model model′ xs L L′ e m q =
-    let f = and-out (fits n P (length xs) L) (ltb model MODELS && processesIn n P xs) e in
-    let p = and-out (ltb model MODELS) (processesIn n P xs) (f .1) in
-    rw (q, f .0, lt-ltb model′ 4 m, p .1)
+-- what passes the questions under one model passes them under every other
+pub passes-other : (n P model model′ : ℕ) (xs : List ℕ) {L L′ : ℕ} → model < MODELS → model′ < MODELS →
+    firstNo (judgeQuestions n P model xs L) ≡ 0 → L′ ≡ L → firstNo (judgeQuestions n P model′ xs L′) ≡ 0
+passes-other n P model model′ xs {L} {L′} m m′ e q =
+    sym (same-first n P model′ xs L′ m′) ∙ ap (λ (l : ℕ). firstNo (fillQuestions n P xs l)) q ∙ same-first n P model xs L m ∙ e
 
 -- ---- What the whole call decides
 
@@ -58,7 +42,7 @@ judgeable-other n P model model′ xs L L′ e m q =
 abbrev pub judgedAs : ℕ → Found → Judged
 judgedAs n found.Free = Free n
 judgedAs n (found.Race earlier later) = Race n earlier later
-judgedAs n found.Refused = Refused 0 0
+judgedAs n (found.Refused k) = Refused k 0
 
 -- so a verdict's answer becomes what the whole call is to answer
 judged-found : (n : ℕ) (v : Verdict) → judgedAs n (foundOf v) ≡ judgedRows n v
@@ -95,41 +79,50 @@ module _ (text : List ℕ) (header model R P limit : ℕ) (xs us : List ℕ) whe
     pub rows-again : rowsIn n ys ≡ told .0
     rows-again = (λ i. rowsIn (told .2 i) (rows-there i)) ∙ rows-left-back (told .0) xs
 
-    -- they are rows to judge
-    judgeable-left : judgeable n P model ys (length us) ≡ true
-    judgeable-left =
+    -- they pass the questions of the verdict
+    passes-left : firstNo (judgeQuestions n P model ys (length us)) ≡ 0
+    passes-left =
         let rows = told .0 in
         let size : n ≡ length rows = told .2 in
         let z : List ℕ = replicate (length xs - 6 * length rows) 0 in
         let p = accepted-passed text header model R P limit (length xs) (length us) rows (told .1) in
         let s = accepted-sound header R P (records text limit) rows (p .1) in
         let few : n ≤ R = omega (arith, s .0) in
-        judgeable-of n P model ys (length us) (omega (arith, p .0 .few-rows)) (p .0 .few-processes)
-        (omega (arith, ap length rows-there, length-append (numbers rows) z, length-numbers rows))
-        (omega (arith, mul-le-mul-right P few, p .0 .counts-fit)) (p .0 .known-model)
-        (processes-pass n P ys (λ k h. rw (sym (row-in n k ys h) ∙ ap (λ (x : List Row). rowAt x k) rows-again) (sound-row (s .1) k (omega arith) .process)))
+        sym (same-first n P model ys (length us) (p .0 .known-model))
+        ∙ all-asked
+        (record {
+          rows-fit = omega (arith, ap length rows-there, length-append (numbers rows) z, length-numbers rows);
+          counts-fit = omega (arith, mul-le-mul-right P few, p .0 .counts-fit);
+          few-rows = omega (arith, p .0 .few-rows);
+          some-processes = p .0 .some-processes;
+          few-processes = p .0 .few-processes;
+          below =
+              λ k h. rw (sym (row-in n k ys h) ∙ ap (λ (x : List Row). rowAt x k) rows-again) (sound-row (s .1) k (omega arith) .process);
+        })
 
     -- the counts are as many as before
     counts-length : length vs ≡ length us
     counts-length = ap length (l .counts-left ∙ ap (λ (o : Outcome). countsLeft o us) (told .1)) ∙ length-replicate (length us) 0
 
-    -- so they are to judge with the counts that are left
-    pub judgeable-again : judgeable n P model ys (length vs) ≡ true
-    judgeable-again = rw counts-length judgeable-left
+    -- so they pass them with the counts that are left
+    pub passes-again : firstNo (judgeQuestions n P model ys (length vs)) ≡ 0
+    passes-again = rw counts-length passes-left
 
     -- with the verdict's answer, whatever it is called, and its counts the whole call decides
     pub decides : {f g : Found} {ws : List ℕ} →
-        (f ≡ answerOf (judgeable n P model ys (length vs)) ys n model) × (ws ≡ countsAfter (judgeable n P model ys (length vs)) n P ys vs) → f ≡ g →
+        (f ≡ answerOf (firstNo (judgeQuestions n P model ys (length vs))) ys n model)
+        × (ws ≡ filledLeft (firstNo (judgeQuestions n P model ys (length vs))) n P ys vs) →
+        f ≡ g →
         Decides model P outcome (judgedAs n g) xs ys us ws
     decides {f} {g} {ws} e h =
         let rows = told .0 in
         let answer : g ≡ foundOf (verdictOf rows model) =
-        sym h ∙ e .0 ∙ ap (λ (b : Bool). answerOf b ys n model) judgeable-again ∙ ap (λ (x : List Row). foundOf (verdictOf x model)) rows-again in
+        sym h ∙ e .0 ∙ ap (λ (first : ℕ). answerOf first ys n model) passes-again ∙ ap (λ (x : List Row). foundOf (verdictOf x model)) rows-again in
         rw (told .1)
         (record {
           answered = (λ i. judgedAs (told .2 i) (answer i)) ∙ judged-found (length rows) (verdictOf rows model);
           rows-left = rows-there;
           counts-left =
-              e .1 ∙ ap (λ (b : Bool). countsAfter b n P ys vs) judgeable-again
+              e .1 ∙ ap (λ (first : ℕ). filledLeft first n P ys vs) passes-again
               ∙ (λ i. countsOf P (rows-again i) ++ replicate (counts-length i - told .2 i * P) 0);
         })

@@ -1,16 +1,14 @@
 // The whole call on the text of a trace, and the report that a program prints of it.
-ghost use Prim.Native.Nat.{ℕ, _+_, _*_, _≤_, _<_};
+ghost use Prim.Native.Nat.{_+_, _≤_, _<_};
 ghost use mathlib.Core.Path.{_≡_};
-ghost use mathlib.Core.Bool.{true};
-ghost use mathlib.Core.List.{_++_};
 ghost use lib.ListN.{length, take};
 ghost use Rattle.trace.specs.Rows.{rowsIn};
-ghost use Rattle.trace.specs.Questions.{checkTrace, accepted};
+ghost use Rattle.trace.specs.Questions.{firstNo, checkTrace, accepted};
 ghost use Rattle.print.specs.Puts.{lay};
 ghost use Rattle.races.specs.Races.{verdictOf};
-ghost use Rattle.races.specs.Scan.{judgeable};
+ghost use Rattle.races.specs.Scan.{judgeQuestions};
 ghost use Rattle.checker.specs.Judging.{Decides};
-ghost use Rattle.checker.specs.Report.{heading, pair, verdictWords, modelLine, reportOf, reportLength, reportIn};
+ghost use Rattle.checker.specs.Report.{pair, modelLine, reportOf, reportLength, reportIn};
 use races::Found;
 use trace::Checked;
 
@@ -51,7 +49,7 @@ pub fn judge(
         Checked::Accepted(n) => match races::verdict(rows, n, process_limit, model, counts) {
             Found::Free => Judged::Free(n),
             Found::Race(earlier, later) => Judged::Race(n, earlier, later),
-            Found::Refused => Judged::Refused(0, 0),
+            Found::Refused(number) => Judged::Refused(number, 0),
         },
     }
 }
@@ -98,7 +96,7 @@ pub fn report_input(input: &[u8; INPUT], n: usize, out: &mut [u8]) -> usize
 // The heading and the four models' lines.
 fn put_models(out: &mut [u8], rows: &[u32], n: u32, counts: &mut [u16]) -> usize
     requires { ⌜ 256 ≤ length (now out) ⌝ }
-    requires { ⌜ judgeable n 8 0 (now rows) (length (now counts)) ≡ true ⌝ }
+    requires { ⌜ firstNo (judgeQuestions n 8 0 (now rows) (length (now counts))) ≡ 0 ⌝ }
     ensures { λ r. ⌜ r ≡ length (reportOf (accepted (rowsIn n (now (rows .entry))))) ⌝ }
     ensures { λ r. ⌜ now (out .exit) ≡ lay (now (out .entry)) 0 (reportOf (accepted (rowsIn n (now (rows .entry))))) ⌝ }
 {
@@ -120,7 +118,7 @@ fn put_model(
     counts: &mut [u16],
 ) -> usize
     requires { ⌜ (at + 40 ≤ length (now out)) × (length (now name) ≤ 8) ⌝ }
-    requires { ⌜ judgeable n 8 model (now rows) (length (now counts)) ≡ true ⌝ }
+    requires { ⌜ firstNo (judgeQuestions n 8 model (now rows) (length (now counts))) ≡ 0 ⌝ }
     ensures { λ r. ⌜ r ≡ at + length (modelLine (now (name .entry)) (verdictOf (rowsIn n (now (rows .entry))) model)) ⌝ }
     ensures { λ r. ⌜ now (out .exit) ≡ lay (now (out .entry)) at (modelLine (now (name .entry)) (verdictOf (rowsIn n (now (rows .entry))) model)) ⌝ }
 {
@@ -131,7 +129,7 @@ fn put_model(
             let word = print::put(out, behind, b",race,");
             put_pair(out, word, earlier, later)
         }
-        Found::Refused => behind,
+        Found::Refused(_) => behind,
     }
 }
 

@@ -1,6 +1,5 @@
 // The fields of one record: its kind, which fields that kind uses, their numbers, and the row that they make.
 ghost use mathlib.Core.Path.{_≡_};
-ghost use mathlib.Core.Bool.{cond};
 ghost use Prim.Native.Nat.{_≤_};
 ghost use Rattle.csv.specs.Reading.{contentOf};
 ghost use Rattle.fields.specs.Rows.{kindOf, usedBy, startsPlain, numberBelow};

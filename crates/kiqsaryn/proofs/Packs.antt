@@ -3,12 +3,14 @@ use Prim.Native.Nat.{ℕ, _+_, _*_}
 use mathlib.Core.Path.{_≡_, refl, sym, ap, subst, _∙_}
 use mathlib.Core.Bool.{Bool, true, false, cond}
 use mathlib.Core.List.{List}
+use lib.ListN.{length}
 use lib.Dec.{eqb}
 use borrow.Author.Tests.{eqb-true}
 use Rattle.order.specs.declared.Filled.{Filled}
-use Rattle.order.specs.Order.{filledOf, filledLeft}
+use Rattle.order.specs.declared.Filled.the-variants as filled
+use Rattle.order.specs.Filling.{fillQuestions, filledOf, filledLeft}
 use Rattle.races.specs.declared.Found.{Found}
-use Rattle.races.specs.Scan.{answerOf, countsAfter}
+use Rattle.races.specs.Scan.{judgeQuestions, answerOf}
 use Rattle.trace.specs.declared.Checked.{Checked}
 use Rattle.trace.specs.Questions.{Outcome, Leaves}
 use Rattle.trace.specs.Questions.{Question, firstNo}
@@ -24,19 +26,36 @@ use Rattle.machine.specs.declared.Replayed.{Replayed}
 use Rattle.asking.specs.Answers.{headerOf, answerOf as answeredOf, Steps}
 use Rattle.machine.specs.Makes.{madeOf}
 use Rattle.machine.specs.Replays.{Replay, Replays}
-use Rattle.kiqsaryn.specs.Packing.{packed, Gives, packedFilled, Fills, packedFound, Judges, Makes, packedStep, StepGives, ReplayGives}
+use Rattle.kiqsaryn.specs.Packing.{packed, Gives, Fills, packedFound, Judges, Makes, packedStep, StepGives, ReplayGives}
 
 pub packs : {o : Outcome} {a b : Checked} {rows rows′ counts counts′ : List ℕ} → Leaves o a rows rows′ counts counts′ → a ≡ b →
     Gives o (packed b) rows rows′ counts counts′
 packs l e = record { answered = ap packed (sym e ∙ l .answered); rows-left = l .rows-left; counts-left = l .counts-left }
 
-pub packs-filled : {fit : Bool} {n processLimit : ℕ} {a b : Filled} {rows counts counts′ : List ℕ} → a ≡ filledOf fit →
-    counts′ ≡ filledLeft fit n processLimit rows counts → a ≡ b → Fills fit n processLimit (packedFilled b) rows counts counts′
-packs-filled e l q = record { answered = ap packedFilled (sym q ∙ e); counts-left = l }
+-- the number of a refusal, 0 for none
+abbrev pub packedFilled : Filled → ℕ
+packedFilled filled.Done = 0
+packedFilled (filled.Refused number) = number
 
-pub packs-found : {asked : Bool} {n processLimit model : ℕ} {a b : Found} {rows counts counts′ : List ℕ} → a ≡ answerOf asked rows n model →
-    counts′ ≡ countsAfter asked n processLimit rows counts → a ≡ b → Judges asked n processLimit model (packedFound b) rows counts counts′
-packs-found e l q = record { answered = ap packedFound (sym q ∙ e); counts-left = l }
+filled-told : (first : ℕ) → packedFilled (filledOf first) ≡ first
+filled-told first = go (eqb first 0) refl
+  where
+    go : (b : Bool) → eqb first 0 ≡ b → packedFilled (cond b filled.Done (filled.Refused first)) ≡ first
+    go true e = sym (eqb-true first 0 e)
+    go false e = refl
+
+pub packs-filled : (n P : ℕ) (rows counts : List ℕ) {counts′ : List ℕ} {a b : Filled} →
+    a ≡ filledOf (firstNo (fillQuestions n P rows (length counts))) →
+    counts′ ≡ filledLeft (firstNo (fillQuestions n P rows (length counts))) n P rows counts → a ≡ b →
+    Fills (fillQuestions n P rows (length counts)) n P (packedFilled b) rows counts counts′
+packs-filled n P rows counts e l q =
+    record { answered = ap packedFilled (sym q ∙ e) ∙ filled-told (firstNo (fillQuestions n P rows (length counts))); counts-left = l }
+
+pub packs-found : (n P model : ℕ) (rows counts : List ℕ) {counts′ : List ℕ} {a b : Found} →
+    a ≡ answerOf (firstNo (judgeQuestions n P model rows (length counts))) rows n model →
+    counts′ ≡ filledLeft (firstNo (judgeQuestions n P model rows (length counts))) n P rows counts → a ≡ b →
+    Judges (judgeQuestions n P model rows (length counts)) n P model (packedFound b) rows counts counts′
+packs-found n P model rows counts e l q = record { answered = ap packedFound (sym q ∙ e); counts-left = l }
 
 -- ---- The machine and the plain file, under the header that was made
 

@@ -1,14 +1,11 @@
 -- How answers are packed into one number for C.
 use Prim.Native.Nat.{ℕ, _+_, _*_}
 use mathlib.Core.Path.{_≡_}
-use mathlib.Core.Bool.{Bool}
 use mathlib.Core.List.{List}
-use Rattle.order.specs.declared.Filled.{Filled}
-use Rattle.order.specs.declared.Filled.the-variants.{Done, Refused}
-use Rattle.order.specs.Order.{filledOf, filledLeft}
+use Rattle.order.specs.Filling.{filledLeft}
 use Rattle.races.specs.declared.Found.{Found}
-use Rattle.races.specs.declared.Found.the-variants.{Free, Race, Refused as RefusedToJudge}
-use Rattle.races.specs.Scan.{answerOf, countsAfter}
+use Rattle.races.specs.declared.Found.the-variants.{Free, Race, Refused}
+use Rattle.races.specs.Scan.{answerOf}
 use Rattle.trace.specs.declared.Checked.{Checked}
 use Rattle.trace.specs.declared.Checked.the-variants.{Accepted, Refused as RefusedAt}
 use Rattle.fields.specs.declared.Row.{Row}
@@ -29,26 +26,21 @@ pub record Gives (o : Outcome) (answer : ℕ) (rows rows′ counts counts′ : L
   pub rows-left : rows′ ≡ rowsLeft o rows
   pub counts-left : counts′ ≡ countsLeft o counts
 
--- 1 where the counts were filled, 0 where not
-abbrev pub packedFilled : Filled → ℕ
-packedFilled Done = 1
-packedFilled Refused = 0
+-- what filling the counts answers and leaves: the first No, 0 for none, and the counts
+pub record Fills (questions : List Question) (n processLimit answer : ℕ) (rows counts counts′ : List ℕ) : Type 0 where
+  pub answered : answer ≡ firstNo questions
+  pub counts-left : counts′ ≡ filledLeft (firstNo questions) n processLimit rows counts
 
--- what filling the counts answers and leaves
-pub record Fills (fit : Bool) (n processLimit answer : ℕ) (rows counts counts′ : List ℕ) : Type 0 where
-  pub answered : answer ≡ packedFilled (filledOf fit)
-  pub counts-left : counts′ ≡ filledLeft fit n processLimit rows counts
-
--- 0 for free, the earlier row's number times 2^32 plus the later row's for a race, 2^64 - 1 for a refusal
+-- 0 for free, the earlier row's number times 2^32 plus the later row's for a race, a refusal's number times 2^32
 abbrev pub packedFound : Found → ℕ
 packedFound Free = 0
 packedFound (Race earlier later) = earlier * 4294967296 + later
-packedFound RefusedToJudge = 18446744073709551615
+packedFound (Refused number) = number * 4294967296
 
 -- what a verdict answers and leaves
-pub record Judges (asked : Bool) (n processLimit model answer : ℕ) (rows counts counts′ : List ℕ) : Type 0 where
-  pub answered : answer ≡ packedFound (answerOf asked rows n model)
-  pub counts-left : counts′ ≡ countsAfter asked n processLimit rows counts
+pub record Judges (questions : List Question) (n processLimit model answer : ℕ) (rows counts counts′ : List ℕ) : Type 0 where
+  pub answered : answer ≡ packedFound (answerOf (firstNo questions) rows n model)
+  pub counts-left : counts′ ≡ filledLeft (firstNo questions) n processLimit rows counts
 
 -- ---- The machine and the plain file
 

@@ -3,8 +3,8 @@ ghost use mathlib.Core.Path.{_≡_};
 ghost use Prim.Native.Nat.{_+_, _*_};
 ghost use lib.ListN.{length};
 ghost use Rattle.trace.specs.Questions.{checkTrace};
-ghost use Rattle.order.specs.Order.{fits};
-ghost use Rattle.races.specs.Scan.{judgeable};
+ghost use Rattle.order.specs.Filling.{fillQuestions};
+ghost use Rattle.races.specs.Scan.{judgeQuestions};
 ghost use Rattle.checker.specs.Report.{reportLength, reportIn};
 ghost use Rattle.layers.specs.Steps.{makingQuestions, plainMakingQuestions, stepOf, plainStepOf};
 ghost use Rattle.machine.specs.Replays.{replayOf, plainReplayOf};
@@ -49,7 +49,7 @@ pub extern "C" fn kiqsaryn_check_trace(
     }
 }
 
-// Fills the happens-before counts of the first n rows, as order::fill_counts does. The answer is 1, or 0 for a refusal.
+// Fills the happens-before counts of the first n rows, as order::fill_counts does. The answer is 0, and the number of a refusal.
 #[no_mangle]
 pub extern "C" fn kiqsaryn_fill_counts(
     rows: &[u32],
@@ -57,17 +57,17 @@ pub extern "C" fn kiqsaryn_fill_counts(
     process_limit: u32,
     counts: &mut [u16],
 ) -> u32
-    ensures { λ r. ⌜ Fills (fits n «process_limit» (length (now (rows .entry))) (length (now (counts .entry)))) n «process_limit» r
+    ensures { λ r. ⌜ Fills (fillQuestions n «process_limit» (now (rows .entry)) (length (now (counts .entry)))) n «process_limit» r
         (now (rows .entry)) (now (counts .entry)) (now (counts .exit)) ⌝ }
 {
     match order::fill_counts(rows, n, process_limit, counts) {
-        Filled::Done => 1,
-        Filled::Refused => 0,
+        Filled::Done => 0,
+        Filled::Refused(number) => number,
     }
 }
 
-// The verdict on the first n rows under a model, as races::verdict gives it. The answer is 0 for a free trace, the earlier row's number
-// times 2^32 plus the later row's for a race, and 2^64 - 1 for a refusal.
+// The verdict on the first n rows under a model, as races::verdict gives it. The answer is 0 for a free trace, the earlier row's number times
+// 2^32 plus the later row's for a race, whose low 32 bits are at least 2, and of a refusal its number times 2^32.
 #[no_mangle]
 pub extern "C" fn kiqsaryn_verdict(
     rows: &[u32],
@@ -76,13 +76,13 @@ pub extern "C" fn kiqsaryn_verdict(
     model: u32,
     counts: &mut [u16],
 ) -> u64
-    ensures { λ r. ⌜ Judges (judgeable n «process_limit» model (now (rows .entry)) (length (now (counts .entry)))) n «process_limit» model r
+    ensures { λ r. ⌜ Judges (judgeQuestions n «process_limit» model (now (rows .entry)) (length (now (counts .entry)))) n «process_limit» model r
         (now (rows .entry)) (now (counts .entry)) (now (counts .exit)) ⌝ }
 {
     match races::verdict(rows, n, process_limit, model, counts) {
         Found::Free => 0,
         Found::Race(earlier, later) => earlier as u64 * 4294967296 + later as u64,
-        Found::Refused => 18446744073709551615,
+        Found::Refused(number) => number as u64 * 4294967296,
     }
 }
 

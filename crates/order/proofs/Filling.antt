@@ -1,22 +1,20 @@
 -- Filling the counts row after row: what the slice holds after some rows, and one row more. Assumes nothing.
-use Prim.Native.Nat.{ℕ, zero, suc, _+_, _*_, _-_, max, _≤_, _<_}
+use Prim.Native.Nat.{ℕ, zero, suc, _+_, _*_, _-_, _≤_, _<_}
 use native.Mathlib.Nat.{zero-mul, suc-mul}
 use native.Mathlib.Decide.{decLt}
 use native.Mathlib.Omega.{arith}
 use mathlib.Core.Path.{_≡_, refl, sym, ap, _∙_}
-use mathlib.Core.Bool.{Bool, true, false, cond, _&&_, false≢true}
-use mathlib.Core.List.{List, [], _∷_, _++_, append-assoc}
+use mathlib.Core.Bool.{cond}
+use mathlib.Core.List.{List, _++_, append-assoc}
 use lib.ListN.{length, getD, take, drop, replicate, length-append, length-replicate, replicate-append-replicate, List·getD-append}
 use lib.Seq.{take-at, drop-at, getD-append-add, drop-drop, drop-append-add}
-use lib.Dec.{leb, eqb}
-use borrow.Author.Tests.{leb-true}
+use lib.Dec.{eqb}
 use Rattle.fields.specs.declared.Row.{Row}
 use Rattle.trace.specs.Rows.{rowsIn, rowHere}
 use Rattle.order.specs.Counting.{values, blocks}
-use Rattle.order.specs.Order.{noRow, rowAt, delivers, count, countsOf, fits, filledOf, filledLeft}
-use Rattle.order.specs.declared.Filled.the-variants.{Done, Refused}
-use Rattle.order.specs.Clock.{lastBelow, fromLast, joinedTo, clock, rowIn, cellIn, withRow, withOwn, filledRow}
-use Rattle.order.proofs.Cells.{values-length, values-at, values-same, row-before}
+use Rattle.order.specs.Order.{rowAt, delivers, count, countsOf}
+use Rattle.order.specs.Clock.{lastBelow, fromLast, joinedTo, clock, rowIn, cellIn, withRow, filledRow}
+use Rattle.order.proofs.Cells.{values-length, values-at, values-same}
 use Rattle.order.proofs.Joins.{last-low, joined-same}
 use Rattle.order.proofs.Clocks.{count-most, vector-clock}
 
@@ -172,23 +170,3 @@ module _ (n P L : ℕ) (xs : List ℕ) where
   pub all-filled : filledTo n ≡ countsOf P (rowsIn n xs) ++ replicate (L - n * P) 0
   unfolding countsOf
   all-filled = ap (λ (k : ℕ). rowsOf P counted k ++ replicate (L - n * P) 0) (sym (length-rows n xs))
-
--- slices that fit
-pub fits-told : (n P a b : ℕ) → fits n P a b ≡ true → (n ≤ 4096) × (P ≤ 64) × (6 * n ≤ a) × (n * P ≤ b)
-fits-told n P a b e = go (leb n 4096) (leb P 64) (leb (6 * n) a) (leb (n * P) b) refl refl refl refl e
-  where
-    go : (w x y z : Bool) → leb n 4096 ≡ w → leb P 64 ≡ x → leb (6 * n) a ≡ y → leb (n * P) b ≡ z → w && (x && (y && z)) ≡ true →
-        (n ≤ 4096) × (P ≤ 64) × (6 * n ≤ a) × (n * P ≤ b)
-    go true true true true f g h i q = (leb-true n 4096 f, leb-true P 64 g, leb-true (6 * n) a h, leb-true (n * P) b i)
-    go true true true false f g h i q = absurd (false≢true q)
-    go true true false z f g h i q = absurd (false≢true q)
-    go true false y z f g h i q = absurd (false≢true q)
-    go false x y z f g h i q = absurd (false≢true q)
-
--- what is left where the slices fit, and where not
-pub left-filled : (n P : ℕ) (xs counts : List ℕ) {ys : List ℕ} {b : Bool} → b ≡ true → ys ≡ countsOf P (rowsIn n xs) ++ replicate (length counts - n * P) 0 →
-    (Done ≡ filledOf b) × (ys ≡ filledLeft b n P xs counts)
-left-filled n P xs counts b e = rw b (refl, e)
-
-pub left-kept : (n P : ℕ) (xs counts : List ℕ) {b : Bool} → b ≡ false → (Refused ≡ filledOf b) × (counts ≡ filledLeft b n P xs counts)
-left-kept n P xs counts b = rw b (refl, refl)

@@ -21,7 +21,7 @@ use Rattle.order.proofs.Cells.{put, values-same, put-same, put-at, put-
 
 module _ (xs : List ℕ) (k : ℕ) where
   -- the numbers of a row
-  process-in : rowIn xs k .process ≡ getD xs (k * 6) 0
+  pub process-in : rowIn xs k .process ≡ getD xs (k * 6) 0
   unfolding rowHere
   process-in = getD-drop (k * 6) xs 0 0 ∙ ap (λ (i : ℕ). getD xs i 0) (add-zero (k * 6))
 
@@ -146,7 +146,7 @@ module _ (P : ℕ) (l : List ℕ) (j : ℕ) (fits : j * P + P ≤ length l) wher
   pub last-none : {last : ℕ} → last ≤ 0 → l ≡ withRow P l j (joinedLast P l j last)
   last-none {last} h = let e : last ≡ 0 = omega arith in put-same (j * P) P l fits (λ p g. rw e (sym (max-zero (cellIn P l j p))))
 
-  -- row j itself counted, or a process past the limit
+  -- row j itself counted
   pub own-in : {q : ℕ} → q < P → set l (j * P + q) (cellIn P l j q + 1) ≡ withRow P l j (withOwn q (λ p. cellIn P l j p))
   own-in {q} h =
       let v = cellIn P l j q + 1 in
@@ -160,10 +160,6 @@ module _ (P : ℕ) (l : List ℕ) (j : ℕ) (fits : j * P + P ≤ length l) wher
       go p (no n) =
           getD-set-other l (j * P + q) (j * P + p) (cellIn P l j q + 1) 0 (λ e. n (omega arith))
           ∙ sym (rw (ne-eqb q p (λ e. n (sym e))) (add-zero (cellIn P l j p)))
-
-  pub own-out : {q : ℕ} → P ≤ q → l ≡ withRow P l j (withOwn q (λ p. cellIn P l j p))
-  own-out {q} h =
-      put-same (j * P) P l fits (λ p g. sym (rw (ne-eqb q p (λ e. omega arith)) (add-zero (cellIn P l j p))))
 
 -- ---- The sends joined
 

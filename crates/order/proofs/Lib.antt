@@ -3,5 +3,6 @@ pub mod Clocks
 pub mod Cells
 pub mod Joins
 pub mod Filling
+pub mod Asking
 pub mod Sounds
 pub mod Messages

@@ -1,16 +1,13 @@
 -- Happens-before, and the counts of every row by their meaning. Rows are named by their places, from 0; row numbers are one more.
-use Prim.Native.Nat.{ℕ, zero, suc, _-_, _*_}
+use Prim.Native.Nat.{ℕ, zero, suc}
 use mathlib.Core.Path.{_≡_}
-use mathlib.Core.Bool.{Bool, true, false, cond, _&&_, _||_}
-use mathlib.Core.List.{List, [], _∷_, _++_}
-use lib.ListN.{length, getD, replicate}
-use lib.Dec.{leb, ltb, eqb}
-use Rattle.models.specs.Limits.{ROWS, PROCESSES}
+use mathlib.Core.Bool.{Bool, true, false, _&&_, _||_}
+use mathlib.Core.List.{List}
+use lib.ListN.{length, getD}
+use lib.Dec.{ltb, eqb}
 use Rattle.fields.specs.declared.Row.{Row}
-use Rattle.trace.specs.Rows.{SEND, RECV, rowsIn}
+use Rattle.trace.specs.Rows.{SEND, RECV}
 use Rattle.order.specs.Counting.{anyBelow, countBelow, values, blocks}
-use Rattle.order.specs.declared.Filled.{Filled}
-use Rattle.order.specs.declared.Filled.the-variants.{Done, Refused}
 
 -- the row at a place
 abbrev pub noRow : Row
@@ -56,20 +53,3 @@ count rows p j = countBelow (length rows) (λ i. eqb (rowAt rows i .process) p &
 -- row after row, and in each row process after process up to the limit
 unfoldable pub countsOf : ℕ → List Row → List ℕ
 countsOf processLimit rows = blocks (length rows) (λ j. values processLimit (λ p. count rows p j))
-
--- ---- What filling the counts answers and leaves
-
--- the limits hold, and both slices are long enough
-abbrev pub fits : ℕ → ℕ → ℕ → ℕ → Bool
-fits n processLimit rowsLength countsLength =
-    leb n ROWS && (leb processLimit PROCESSES && (leb (6 * n) rowsLength && leb (n * processLimit) countsLength))
-
-abbrev pub filledOf : Bool → Filled
-filledOf true = Done
-filledOf false = Refused
-
--- the counts of the first n rows, then 0 to the end; the slice as it was where it does not fit
-abbrev pub filledLeft : Bool → ℕ → ℕ → List ℕ → List ℕ → List ℕ
-filledLeft true n processLimit xs counts =
-    countsOf processLimit (rowsIn n xs) ++ replicate (length counts - n * processLimit) 0
-filledLeft false n processLimit xs counts = counts

@@ -1,26 +1,27 @@
 // The happens-before counts of every row of a trace: how many rows of each process happen before the row or are the row.
 ghost use mathlib.Core.Path.{_≡_};
-ghost use mathlib.Core.Bool.{cond};
 ghost use Prim.Native.Nat.{ℕ, max, _+_, _*_, _-_, _<_, _≤_};
 ghost use lib.ListN.{length};
-ghost use lib.Dec.{eqb};
-ghost use Rattle.order.specs.Order.{delivers, fits, filledOf, filledLeft};
+ghost use Rattle.trace.specs.Questions.{firstNo, longEnough};
+ghost use Rattle.order.specs.Order.{delivers};
 ghost use Rattle.order.specs.Clock.{lastBelow, rowIn, cellIn, withRow, joinedRow, joinedLast, joinedSends, withOwn, filledRow};
+ghost use Rattle.order.specs.Filling.{processesIn, fillQuestions, filledOf, filledLeft};
 
-// Whether the counts were filled.
+// The counts were filled, or the number of the question that was answered No.
 pub enum Filled {
     Done,
-    Refused,
+    Refused(u32),
 }
 
-// Fills the counts of the first n rows, each for the processes below the limit, and clears what lies behind them. It refuses, and changes
-// nothing, where a limit is past its largest value or a slice is too short.
+// Fills the counts of the first n rows, each for the processes below the limit, and clears what lies behind them. A refusal changes nothing:
+// 1 for a slice that is too short, 2 for a limit out of its range, 10 for a row whose process is not below the process limit.
 pub fn fill_counts(rows: &[u32], n: u32, process_limit: u32, counts: &mut [u16]) -> Filled
-    ensures answer { λ r. ⌜ r ≡ filledOf (fits n «process_limit» (length (now (rows .entry))) (length (now (counts .entry)))) ⌝ }
-    ensures left { λ r. ⌜ now (counts .exit) ≡ filledLeft (fits n «process_limit» (length (now (rows .entry))) (length (now (counts .entry)))) n «process_limit» (now (rows .entry)) (now (counts .entry)) ⌝ }
+    ensures answer { λ r. ⌜ r ≡ filledOf (firstNo (fillQuestions n «process_limit» (now (rows .entry)) (length (now (counts .entry))))) ⌝ }
+    ensures left { λ r. ⌜ now (counts .exit) ≡ filledLeft (firstNo (fillQuestions n «process_limit» (now (rows .entry)) (length (now (counts .entry))))) n «process_limit» (now (rows .entry)) (now (counts .entry)) ⌝ }
 {
-    if !slices_fit(n, process_limit, rows.len(), counts.len()) {
-        return Filled::Refused;
+    let no = ask_rows(rows, n, process_limit, counts.len());
+    if no != 0 {
+        return Filled::Refused(no);
     }
     trace::clear_counts(counts);
     let total = n as usize;
@@ -33,25 +34,57 @@ pub fn fill_counts(rows: &[u32], n: u32, process_limit: u32, counts: &mut [u16])
     Filled::Done
 }
 
-// The limits hold, and both slices are long enough.
-pub fn slices_fit(n: u32, process_limit: u32, rows_len: usize, counts_len: usize) -> bool
-    ensures { λ r. ⌜ r ≡ fits n «process_limit» «rows_len» «counts_len» ⌝ }
+// The questions 1, 2 and 10.
+fn ask_rows(rows: &[u32], n: u32, process_limit: u32, counts_len: usize) -> u32
+    ensures { λ r. ⌜ r ≡ firstNo (fillQuestions n «process_limit» (now (rows .entry)) «counts_len») ⌝ }
 {
+    if !slices_fit(n, process_limit, rows.len(), counts_len) {
+        return 1;
+    }
     if models::ROWS < n {
-        return false;
+        return 2;
+    }
+    if process_limit < 1 {
+        return 2;
     }
     if models::PROCESSES < process_limit {
+        return 2;
+    }
+    if !processes_in(rows, n as usize, process_limit) {
+        return 10;
+    }
+    0
+}
+
+// Question 1: both slices are long enough for n rows.
+pub fn slices_fit(n: u32, process_limit: u32, rows_len: usize, counts_len: usize) -> bool
+    ensures { λ r. ⌜ r ≡ longEnough n «process_limit» «rows_len» «counts_len» ⌝ }
+{
+    if (rows_len as u64) < n as u64 * 6 {
         return false;
     }
-    if rows_len < n as usize * 6 {
-        return false;
+    n as u64 * process_limit as u64 <= counts_len as u64
+}
+
+// Question 10: every process of the first n rows is below the limit.
+fn processes_in(rows: &[u32], n: usize, process_limit: u32) -> bool
+    requires { ⌜ n * 6 ≤ length (now rows) ⌝ }
+    ensures { λ r. ⌜ r ≡ processesIn n «process_limit» (now (rows .entry)) ⌝ }
+{
+    let mut i = n;
+    while 0 < i {
+        i -= 1;
+        let at = i * 6;
+        if process_limit <= rows[at] {
+            return false;
+        }
     }
-    n as usize * process_limit as usize <= counts_len
+    true
 }
 
 // Fills the counts of row j, which are 0, from those of the rows before it.
 fn fill_row(rows: &[u32], j: usize, processes: usize, counts: &mut [u16])
-    requires { ⌜ (j * 6 + 6 ≤ length (now rows)) × (processes ≤ 64) × (j * processes + processes ≤ length (now counts)) ⌝ }
+    requires { ⌜ (j * 6 + 6 ≤ length (now rows)) × (processes ≤ 64) × (j * processes + processes ≤ length (now counts)) × (rowIn (now rows) j .process < processes) ⌝ }
     requires { ⌜ ((p : ℕ) → p < processes → cellIn processes (now counts) j p ≡ 0) ⌝ }
     requires { ⌜ ((k : ℕ) → (p : ℕ) → k < j → p < processes → cellIn processes (now counts) k p ≤ 4096) ⌝ }
     ensures { λ r. ⌜ now (counts .exit) ≡ withRow processes (now (counts .entry)) j (filledRow processes (now (rows .entry)) (now (counts .entry)) j) ⌝ }
@@ -147,13 +180,9 @@ fn join_sends(rows: &[u32], j: usize, processes: usize, counts: &mut [u16])
 
 // Counts row j itself.
 fn add_own(counts: &mut [u16], j: usize, processes: usize, process: u32)
-    requires { ⌜ (processes ≤ 64) × (j * processes + processes ≤ length (now counts)) ⌝ }
-    requires { ⌜ (process < processes → cellIn processes (now counts) j process ≤ 4096) ⌝ }
+    requires { ⌜ (processes ≤ 64) × (j * processes + processes ≤ length (now counts)) × (process < processes) × (cellIn processes (now counts) j process ≤ 4096) ⌝ }
     ensures { λ r. ⌜ now (counts .exit) ≡ withRow processes (now (counts .entry)) j (withOwn process (λ p. cellIn processes (now (counts .entry)) j p)) ⌝ }
 {
-    let own = process as usize;
-    if own < processes {
-        let at = j * processes + own;
-        counts[at] += 1;
-    }
+    let at = j * processes + process as usize;
+    counts[at] += 1;
 }

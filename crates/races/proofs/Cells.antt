@@ -1,33 +1,28 @@
--- Rows as the numbers of a slice: their processes, their conflicts and the last refresh. Assumes nothing.
-use Prim.Native.Nat.{ℕ, zero, suc, _+_, _*_, _-_, _≤_, _<_, max, min}
-use native.Mathlib.Nat.{add-zero}
+-- Rows as the numbers of a slice: their conflicts and the last refresh. Assumes nothing.
+use Prim.Native.Nat.{ℕ, suc, _+_, _*_, _-_, _≤_, _<_, max, min}
 use native.Mathlib.Decide.{ℕ-discrete}
 use native.Mathlib.Omega.{arith}
-use mathlib.Core.Path.{_≡_, refl, sym, ap, _∙_}
-use mathlib.Core.Bool.{Bool, true, false, cond, not, _&&_, _||_, and-false}
+use mathlib.Core.Path.{_≡_, sym, ap, _∙_}
+use mathlib.Core.Bool.{Bool, true, false, not, _&&_, _||_, and-false}
 use mathlib.Core.List.{List}
-use lib.ListN.{length, getD, drop}
+use lib.ListN.{length, getD}
 use lib.Seq.{getD-drop}
 use lib.Dec.{ltb, eqb}
-use borrow.Author.Tests.{eq-eqb, ne-eqb, lt-ltb, le-ltb}
+use borrow.Author.Tests.{eq-eqb, ne-eqb}
 use Rattle.models.specs.Operations.{READ, WRITE}
 use Rattle.models.specs.Table.{refreshes}
 use Rattle.trace.specs.Rows.{rowHere, rowsIn}
 use Rattle.order.specs.Order.{rowAt}
 use Rattle.order.specs.Clock.{rowIn}
 use Rattle.order.proofs.Filling.{row-in}
+pub use Rattle.order.proofs.Joins.{process-in}
 use Rattle.races.specs.Races.{conflict, shareByte}
 use Rattle.races.specs.Search.{lastBelow, isRefresh, refreshAt}
-use Rattle.races.specs.Scan.{processesIn}
 
 -- ---- The numbers of a row
 
 module _ (xs : List ℕ) (k : ℕ) where
   -- each field is the number at its place
-  pub process-in : rowIn xs k .process ≡ getD xs (k * 6) 0
-  unfolding rowHere
-  process-in = getD-drop (k * 6) xs 0 0 ∙ ap (λ (i : ℕ). getD xs i 0) (add-zero (k * 6))
-
   pub kind-in : rowIn xs k .kind ≡ getD xs (k * 6 + 1) 0
   unfolding rowHere
   kind-in = getD-drop (k * 6) xs 1 0
@@ -43,32 +38,6 @@ module _ (xs : List ℕ) (k : ℕ) where
   pub length-in : rowIn xs k .length ≡ getD xs (k * 6 + 4) 0
   unfolding rowHere
   length-in = getD-drop (k * 6) xs 4 0
-
--- ---- The processes of the first rows
-
--- no row is left
-pub processes-none : (P : ℕ) (xs : List ℕ) {i : ℕ} → i ≤ 0 → processesIn i P xs ≡ true
-unfolding processesIn
-processes-none P xs {i} h = let e : i ≡ 0 = omega arith in ap (λ (k : ℕ). processesIn k P xs) e
-
-module _ (P : ℕ) (xs : List ℕ) (i : ℕ) (h : 0 < i) where
-  -- the last row apart from those before it
-  split-processes : processesIn i P xs ≡ (processesIn (i - 1) P xs && ltb (rowIn xs (i - 1) .process) P)
-  unfolding processesIn
-  split-processes = let e : i ≡ suc (i - 1) = omega arith in ap (λ (k : ℕ). processesIn k P xs) e
-
-  -- row i - 1 is past the limit, or those before it decide
-  pub processes-out : P ≤ getD xs ((i - 1) * 6) 0 → processesIn i P xs ≡ false
-  processes-out l =
-      split-processes ∙ rw (process-in xs (i - 1), le-ltb (getD xs ((i - 1) * 6) 0) P l) (and-false (processesIn (i - 1) P xs))
-
-  pub processes-before : getD xs ((i - 1) * 6) 0 < P → processesIn i P xs ≡ processesIn (i - 1) P xs
-  processes-before l =
-      split-processes ∙ rw (process-in xs (i - 1), lt-ltb (getD xs ((i - 1) * 6) 0) P l) (and-true (processesIn (i - 1) P xs))
-    where
-      and-true : (b : Bool) → (b && true) ≡ b
-      and-true true = refl
-      and-true false = refl
 
 -- ---- Conflicts
 

@@ -1,36 +1,29 @@
 -- The whole call: what it relies on, and what it answers and leaves. Assumes nothing.
-use Prim.Native.Nat.{ℕ, zero, suc, _+_, _*_, _-_, _≤_, _<_}
+use Prim.Native.Nat.{ℕ, suc, _+_, _*_, _-_, _≤_, _<_}
 use native.Mathlib.Omega.{arith}
 use native.Mathlib.Decide.{decLt}
 use mathlib.Core.Path.{_≡_, refl, sym, ap, subst, _∙_}
-use mathlib.Core.Bool.{Bool, true, false, cond, not, _&&_, and-false, false≢true}
+use mathlib.Core.Bool.{Bool, true, false, cond, not, _&&_}
 use mathlib.Core.List.{List, _++_}
 use lib.ListN.{length, replicate}
-use lib.Dec.{leb, ltb, eqb}
-use borrow.Author.Tests.{ltb-true, lt-ltb, le-ltb}
+use lib.Dec.{ltb}
+use borrow.Author.Tests.{ltb-true, lt-ltb, le-ltb, ne-eqb}
+use Rattle.models.specs.Limits.{MODELS}
 use Rattle.fields.specs.declared.Row.{Row}
 use Rattle.trace.specs.Rows.{rowsIn}
-use Rattle.order.specs.Order.{rowAt, countsOf, fits, filledLeft}
-use Rattle.order.specs.Clock.{rowIn}
-use Rattle.order.proofs.Below.{and-out}
-use Rattle.order.proofs.Filling.{fits-told, length-rows}
-use Rattle.races.specs.Races.{conflict, leastFrom, Verdict, free, racing, verdictOf}
-use Rattle.races.specs.Scan.{inOrder, raceAt, processesIn, judgeable, foundOf, answerOf, countsAfter}
+use Rattle.trace.specs.Questions.{firstNo, longEnough}
+use Rattle.order.specs.declared.Filled.{Filled}
+use Rattle.order.specs.declared.Filled.the-variants as filled
+use Rattle.order.specs.Order.{rowAt, countsOf}
+use Rattle.order.specs.Filling.{fillQuestions, filledOf, filledLeft}
+use Rattle.order.proofs.Filling.{length-rows}
+use Rattle.order.proofs.Asking.{Asked, asked, done-told, refused-told}
+use Rattle.races.specs.Races.{conflict, leastFrom, verdictOf}
+use Rattle.races.specs.Scan.{inOrder, raceAt, judgeQuestions, foundOf, answerOf}
 use Rattle.races.specs.Given.{Given}
 use Rattle.races.specs.declared.Found.{Found}
 use Rattle.races.specs.declared.Found.the-variants.{Free, Race, Refused}
 use Rattle.races.proofs.Scans.{none-found, first-found}
-
--- every process is below the limit
-pub processes-told : (n P : ℕ) (xs : List ℕ) → processesIn n P xs ≡ true → (k : ℕ) → k < n → rowIn xs k .process < P
-unfolding processesIn
-processes-told zero P xs e k h = absurd (omega arith)
-processes-told (suc n) P xs e k h = go (decLt k n) (and-out (processesIn n P xs) (ltb (rowIn xs n .process) P) e) (processes-told n P xs)
-  where
-    go : Dec (k < n) → (processesIn n P xs ≡ true) × (ltb (rowIn xs n .process) P ≡ true) →
-        (processesIn n P xs ≡ true → (k : ℕ) → k < n → rowIn xs k .process < P) → rowIn xs k .process < P
-    go (yes l) a ih = ih (a .0) k l
-    go (no l) a ih = let q : n ≡ k = omega arith in rw (← q) (ltb-true (rowIn xs n .process) P (a .1))
 
 -- no number below 1
 pub zero-of : {x : ℕ} → x ≤ 0 → x ≡ 0
@@ -69,41 +62,69 @@ module _ (n P model : ℕ) (xs : List ℕ) where
       ∙ sym (ap foundOf (first-found (rowsIn n xs) model (x - 1) y m (omega (arith, length-rows n xs)) h (sym e ∙ q)))
 
   -- what is relied on once all is asked
-  pub given : (L : ℕ) (rest : List ℕ) {counts : List ℕ} → fits n P (length xs) L ≡ true → model < 4 → processesIn n P xs ≡ true →
-      counts ≡ countsOf P (rowsIn n xs) ++ rest → Given n P model xs counts
-  given L rest f m p e =
-      let t = fits-told n P (length xs) L f in
+  pub given : (L : ℕ) (rest : List ℕ) {counts : List ℕ} → Asked n P xs L → model < 4 → counts ≡ countsOf P (rowsIn n xs) ++ rest →
+      Given n P model xs counts
+  given L rest t m e =
       record {
-        few-rows = t .0;
-        few-processes = t .1;
+        few-rows = t .few-rows;
+        few-processes = t .few-processes;
         is-model = m;
-        rows-in = omega (arith, t .2);
-        below = processes-told n P xs p;
+        rows-in = omega (arith, t .rows-fit);
+        below = t .below;
         rest = rest;
         counted = e;
       }
 
+  -- ---- The first No
+
+  -- where the model is one, the questions are those of filling the counts
+  pub same-first : (L : ℕ) → model < MODELS → firstNo (fillQuestions n P xs L) ≡ firstNo (judgeQuestions n P model xs L)
+  unfolding firstNo judgeQuestions fillQuestions
+  same-first L m = rw (lt-ltb model MODELS m)
+
   module _ (counts : List ℕ) where
-    abbrev asked : Bool
-    asked = judgeable n P model xs (length counts)
+    abbrev first : ℕ
+    first = firstNo (judgeQuestions n P model xs (length counts))
 
     -- a No refuses and keeps the counts
-    pub refuses : asked ≡ false → (Refused ≡ answerOf asked xs n model) × (counts ≡ countsAfter asked n P xs counts)
-    refuses e = rw e (refl, refl)
+    pub refuses : {number : ℕ} → number ≡ first → (number ≡ 0 → ⊥) → (Refused number ≡ answerOf first xs n model) × (counts ≡ filledLeft first n P xs counts)
+    refuses {number} e z = rw (← e, ne-eqb number 0 z) (refl, refl)
 
-    pub no-model : 4 ≤ model → asked ≡ false
-    no-model h = rw (le-ltb model 4 h, and-false)
+    -- 1 or 2 where the model is none
+    pub no-slice : longEnough n P (length xs) (length counts) ≡ false → 1 ≡ first
+    unfolding firstNo judgeQuestions
+    no-slice e = rw e
 
-    pub no-fit : fits n P (length xs) (length counts) ≡ false → asked ≡ false
-    no-fit e = rw e
+    pub no-model : longEnough n P (length xs) (length counts) ≡ true → MODELS ≤ model → 2 ≡ first
+    unfolding firstNo judgeQuestions
+    no-model e h = rw (e, le-ltb model MODELS h)
 
-    pub no-process : processesIn n P xs ≡ false → asked ≡ false
-    no-process e = rw (e, and-false, and-false)
+    -- else filling the counts decides
+    module _ (m : model < MODELS) {f : Filled} {ys : List ℕ} (e : f ≡ filledOf (firstNo (fillQuestions n P xs (length counts))))
+        (l : ys ≡ filledLeft (firstNo (fillQuestions n P xs (length counts))) n P xs counts) where
+      abbrev filling : ℕ
+      filling = firstNo (fillQuestions n P xs (length counts))
 
-    -- three times Yes
-    pub judges : fits n P (length xs) (length counts) ≡ true → model < 4 → processesIn n P xs ≡ true → {r : Found} {ys : List ℕ} →
-        r ≡ foundOf (verdictOf (rowsIn n xs) model) → ys ≡ filledLeft (fits n P (length xs) (length counts)) n P xs counts →
-        (r ≡ answerOf asked xs n model) × (ys ≡ countsAfter asked n P xs counts)
-    judges f m p e c =
-        let all : asked ≡ true = rw (f, lt-ltb model 4 m, p) in
-        rw all (e, c ∙ ap (λ (b : Bool). filledLeft b n P xs counts) f)
+      -- what it leaves is what is to be left
+      left : ys ≡ filledLeft first n P xs counts
+      left = l ∙ ap (λ (number : ℕ). filledLeft number n P xs counts) (same-first (length counts) m)
+
+      -- it refuses
+      pub fill-refuses : {k : ℕ} → f ≡ filled.Refused k → (Refused k ≡ answerOf first xs n model) × (ys ≡ filledLeft first n P xs counts)
+      fill-refuses q =
+          let t = refused-told filling (sym e ∙ q) in
+          (refuses (t .0 ∙ same-first (length counts) m) (t .1) .0, left)
+
+      module _ (q : f ≡ filled.Done) where
+        -- or every answer was Yes
+        all-yes : filling ≡ 0
+        all-yes = done-told filling (sym e ∙ q)
+
+        pub given-filled : Given n P model xs ys
+        given-filled =
+            given (length counts) (replicate (length counts - n * P) 0) (asked n P xs (length counts) all-yes) m
+            (l ∙ ap (λ (number : ℕ). filledLeft number n P xs counts) all-yes)
+
+        pub judges : {r : Found} → r ≡ foundOf (verdictOf (rowsIn n xs) model) →
+            (r ≡ answerOf first xs n model) × (ys ≡ filledLeft first n P xs counts)
+        judges r = (r ∙ ap (λ (number : ℕ). answerOf number xs n model) (sym all-yes ∙ same-first (length counts) m), left)

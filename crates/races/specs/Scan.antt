@@ -1,19 +1,19 @@
 -- How the verdict is found: for each later row one pass that notes, for each process, its last row that publishes and happens before the
 -- refresh, and one pass over the earlier rows. The law `race-scan` says that it finds the races.
-use Prim.Native.Nat.{ℕ, zero, suc, _+_, _-_, _*_}
-use mathlib.Core.Path.{_≡_}
-use mathlib.Core.Bool.{Bool, true, false, cond, not, _&&_}
-use mathlib.Core.List.{List, _++_}
-use lib.ListN.{length, getD}
+use Prim.Native.Nat.{ℕ, suc, _-_}
+use mathlib.Core.Bool.{Bool, cond, not, _&&_}
+use mathlib.Core.List.{List, [], _∷_}
+use lib.ListN.{length}
 use lib.Dec.{leb, ltb, eqb}
-use Rattle.models.specs.Operations.{READ, WRITE}
+use Rattle.models.specs.Operations.{WRITE}
 use Rattle.models.specs.Limits.{MODELS}
-use Rattle.models.specs.Table.{publishes, refreshes}
+use Rattle.models.specs.Table.{publishes}
 use Rattle.fields.specs.declared.Row.{Row}
 use Rattle.trace.specs.Rows.{rowsIn}
-use Rattle.order.specs.Order.{rowAt, sameProcess, count, countsOf, fits, filledLeft}
-use Rattle.order.specs.Clock.{rowIn, cellIn}
-use Rattle.races.specs.Races.{isWrite, sameFile, conflict, leastFrom, race, Verdict, free, racing, verdictOf}
+use Rattle.trace.specs.Questions.{Question, longEnough}
+use Rattle.order.specs.Order.{rowAt, count}
+use Rattle.order.specs.Filling.{countLimits, processesIn}
+use Rattle.races.specs.Races.{isWrite, sameFile, conflict, leastFrom, Verdict, free, racing, verdictOf}
 use Rattle.races.specs.Search.{lastBelow, refreshAt}
 use Rattle.races.specs.declared.Found.{Found}
 use Rattle.races.specs.declared.Found.the-variants.{Free, Race, Refused}
@@ -47,27 +47,19 @@ module _ (rows : List Row) (model : ℕ) where
       let x = leastFrom y 0 (λ x. conflict (rowAt rows x) (rowAt rows y) && not (inOrder x y)) in
       cond (ltb x y) (suc x) 0
 
--- ---- What the call answers
+-- ---- What the call asks and answers
 
--- every process of the first n rows is below the limit
-unfoldable pub processesIn : ℕ → ℕ → List ℕ → Bool
-processesIn zero processLimit xs = true
-processesIn (suc n) processLimit xs = processesIn n processLimit xs && ltb (rowIn xs n .process) processLimit
+-- the questions of filling the counts, and in 2 whether the model is 0 to 3
+unfoldable pub judgeQuestions : ℕ → ℕ → ℕ → List ℕ → ℕ → List Question
+judgeQuestions n processLimit model xs countsLength =
+    record { number = 1; yes = longEnough n processLimit (length xs) countsLength }
+    ∷ (record { number = 2; yes = ltb model MODELS && countLimits n processLimit }
+    ∷ (record { number = 10; yes = processesIn n processLimit xs } ∷ []))
 
 abbrev pub foundOf : Verdict → Found
 foundOf free = Free
 foundOf (racing earlier later) = Race earlier later
 
--- a model, limits and slices that fit, and processes below the limit
-abbrev pub judgeable : ℕ → ℕ → ℕ → List ℕ → ℕ → Bool
-judgeable n processLimit model xs countsLength =
-    fits n processLimit (length xs) countsLength && (ltb model MODELS && processesIn n processLimit xs)
-
-abbrev pub answerOf : Bool → List ℕ → ℕ → ℕ → Found
-answerOf true xs n model = foundOf (verdictOf (rowsIn n xs) model)
-answerOf false xs n model = Refused
-
--- the counts are filled where they fit
-abbrev pub countsAfter : Bool → ℕ → ℕ → List ℕ → List ℕ → List ℕ
-countsAfter true n processLimit xs counts = filledLeft true n processLimit xs counts
-countsAfter false n processLimit xs counts = counts
+-- the verdict, or the first No
+abbrev pub answerOf : ℕ → List ℕ → ℕ → ℕ → Found
+answerOf first xs n model = cond (eqb first 0) (foundOf (verdictOf (rowsIn n xs) model)) (Refused first)

@@ -1,59 +1,44 @@
 // The verdict on a trace under a model: free, or its first race.
 ghost use mathlib.Core.Path.{_≡_};
-ghost use mathlib.Core.List.{List};
-ghost use Prim.Native.Nat.{ℕ, suc, max, min, _+_, _*_, _-_, _<_, _≤_};
+ghost use Prim.Native.Nat.{max, min, _+_, _*_, _-_, _<_, _≤_};
 ghost use lib.ListN.{length};
 ghost use lib.Dec.{leb, ltb, eqb};
 ghost use mathlib.Core.Bool.{_&&_};
 ghost use Rattle.models.specs.Table.{refreshes};
 ghost use Rattle.trace.specs.Rows.{rowsIn};
-ghost use Rattle.order.specs.Order.{rowAt, countsOf};
+ghost use Rattle.trace.specs.Questions.{firstNo};
+ghost use Rattle.order.specs.Order.{rowAt};
 ghost use Rattle.order.specs.Clock.{rowIn, cellIn};
+ghost use Rattle.order.specs.Filling.{filledLeft};
 ghost use Rattle.races.specs.Races.{conflict, verdictOf};
 ghost use Rattle.races.specs.Search.{refreshAt};
-ghost use Rattle.races.specs.Scan.{noted, lastNoted, inOrder, raceAt, processesIn, judgeable, foundOf, answerOf, countsAfter};
+ghost use Rattle.races.specs.Scan.{noted, lastNoted, inOrder, raceAt, judgeQuestions, foundOf, answerOf};
 ghost use Rattle.races.specs.Given.{Given};
+use order::Filled;
 
-// Free, the numbers of the earlier and the later row of the first race, or that the input is none to judge.
+// Free, the numbers of the earlier and the later row of the first race, or the number of the question that was answered No.
 pub enum Found {
     Free,
     Race(u32, u32),
-    Refused,
+    Refused(u32),
 }
 
-// The verdict on the first n rows under a model. It fills the counts, and refuses, changing nothing, where a limit or the model is past its
-// largest value, a slice is too short or a row's process is not below the limit.
+// The verdict on the first n rows under a model. It fills the counts on the way. A refusal changes nothing: 1 for a slice that is too short, 2
+// for the model or a limit out of its range, 10 for a row whose process is not below the process limit.
 pub fn verdict(rows: &[u32], n: u32, process_limit: u32, model: u32, counts: &mut [u16]) -> Found
-    ensures answer { λ r. ⌜ r ≡ answerOf (judgeable n «process_limit» model (now (rows .entry)) (length (now (counts .entry)))) (now (rows .entry)) n model ⌝ }
-    ensures left { λ r. ⌜ now (counts .exit) ≡ countsAfter (judgeable n «process_limit» model (now (rows .entry)) (length (now (counts .entry)))) n «process_limit» (now (rows .entry)) (now (counts .entry)) ⌝ }
+    ensures answer { λ r. ⌜ r ≡ answerOf (firstNo (judgeQuestions n «process_limit» model (now (rows .entry)) (length (now (counts .entry))))) (now (rows .entry)) n model ⌝ }
+    ensures left { λ r. ⌜ now (counts .exit) ≡ filledLeft (firstNo (judgeQuestions n «process_limit» model (now (rows .entry)) (length (now (counts .entry))))) n «process_limit» (now (rows .entry)) (now (counts .entry)) ⌝ }
 {
     if models::MODELS <= model {
-        return Found::Refused;
-    }
-    if !order::slices_fit(n, process_limit, rows.len(), counts.len()) {
-        return Found::Refused;
-    }
-    if !processes_in(rows, n as usize, process_limit) {
-        return Found::Refused;
-    }
-    order::fill_counts(rows, n, process_limit, counts);
-    first_race(rows, n as usize, process_limit as usize, model, counts)
-}
-
-// Every process of the first n rows is below the limit.
-fn processes_in(rows: &[u32], n: usize, process_limit: u32) -> bool
-    requires { ⌜ n * 6 ≤ length (now rows) ⌝ }
-    ensures { λ r. ⌜ r ≡ processesIn n «process_limit» (now (rows .entry)) ⌝ }
-{
-    let mut i = n;
-    while 0 < i {
-        i -= 1;
-        let at = i * 6;
-        if process_limit <= rows[at] {
-            return false;
+        if !order::slices_fit(n, process_limit, rows.len(), counts.len()) {
+            return Found::Refused(1);
         }
+        return Found::Refused(2);
     }
-    true
+    match order::fill_counts(rows, n, process_limit, counts) {
+        Filled::Refused(number) => Found::Refused(number),
+        Filled::Done => first_race(rows, n as usize, process_limit as usize, model, counts),
+    }
 }
 
 // The first race of the rows, by their counts.

@@ -40,12 +40,12 @@ pub data Sound (processLimit : ℕ) : List Row → Type 0 where
 -- ---- What the first No says of a list of questions
 
 -- no question has a number below k
-abbrev From : ℕ → List Question → Type 0
+abbrev pub From : ℕ → List Question → Type 0
 From k [] = Unit {0}
 From k (q ∷ qs) = (k ≤ q .number) × From k qs
 
 -- every question is answered Yes
-abbrev AllYes : List Question → Type 0
+abbrev pub AllYes : List Question → Type 0
 AllYes [] = Unit {0}
 AllYes (q ∷ qs) = (q .yes ≡ true) × AllYes qs
 
@@ -60,7 +60,7 @@ no-from k (q ∷ qs) f n = go (no-from k qs (f .1)) (q .yes) n
     go rest false m = f .0
 
 -- without a No every answer is Yes
-all-yes : (qs : List Question) → From 1 qs → firstNo qs ≡ 0 → AllYes qs
+pub all-yes : (qs : List Question) → From 1 qs → firstNo qs ≡ 0 → AllYes qs
 unfolding firstNo
 all-yes [] f e = tt
 all-yes (q ∷ qs) f e = go (all-yes qs (f .1)) (q .yes) refl e

@@ -1,6 +1,6 @@
 -- The questions put to an input, each one definition, in document 01's order; the first No decides. What a question is, and the questions 8
 -- to 11, which are put to the fields of one record, is defined in the crate `fields`.
-use Prim.Native.Nat.{ℕ, zero, suc, _+_, _*_, _-_}
+use Prim.Native.Nat.{ℕ, _+_, _*_, _-_}
 use mathlib.Core.Bool.{Bool, true, false, cond, not, _&&_, _||_}
 use mathlib.Core.List.{List, [], _∷_, _++_}
 use mathlib.Core.Path.{_≡_}

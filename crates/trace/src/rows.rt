@@ -1,9 +1,8 @@
 // Row after row, in a slice of six numbers each.
 ghost use mathlib.Core.Path.{_≡_};
-ghost use mathlib.Core.List.{[], _++_};
-ghost use Prim.Native.Nat.{suc, _+_, _*_, _≤_};
+ghost use mathlib.Core.List.{_++_};
+ghost use Prim.Native.Nat.{_+_, _*_, _≤_};
 ghost use lib.ListN.{length, take, drop};
-ghost use Rattle.csv.specs.Reading.{contentOf, recordsFrom};
 ghost use Rattle.trace.specs.Rows.{six, rowHere, rowsIn};
 ghost use Rattle.trace.specs.Questions.{any, messageInOrder, checkedOf, Holds};
 ghost use Rattle.trace.specs.Reads.{fieldsOf, matches, judgedRow, judgeFrom};

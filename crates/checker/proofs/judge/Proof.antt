@@ -23,8 +23,8 @@ enum-told c = search needs
 enum-known-earlier : tie.Need-enum-known-earlier
 enum-known-earlier c = search needs
 
-enum-told-2 : tie.Need-enum-told-2
-enum-told-2 c = search needs
+enum-known-number-2 : tie.Need-enum-known-number-2
+enum-known-number-2 c = search needs
 
 same-length : tie.Need-same-length
 same-length c = search needs
@@ -77,12 +77,12 @@ same-length-8 c = search needs
 
 returns-4 : tie.Need-returns-4
 returns-4 c =
-    let v = c .before .before .before .before in
+    let v = c .before .before .before .before .before in
     let n = v .before .before .before .before in
     let t = n .before .before .before .before .before .before in
     let a = t .before .before .before .before .before .before .args in
     decides (now (a .text)) (a .header) (a .model) (a .row-limit) (a .process-limit) (a .byte-limit) (now (a .rows)) (now (a .counts))
-    (t .check-trace .ensures) (n .n .given .1) (v .verdict .ensures) (c .enum-told2 .given .1)
+    (t .check-trace .ensures) (n .n .given .1) (v .verdict .ensures) (c .before .number2 .given .1)
 
 pub judge-spec : {M : Type 1} → statement M
 judge-spec =
@@ -94,7 +94,7 @@ judge-spec =
     verdict-requires
     enum-told
     enum-known-earlier
-    enum-told-2
+    enum-known-number-2
     same-length
     same-length-2
     returns

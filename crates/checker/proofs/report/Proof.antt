@@ -3,7 +3,7 @@ use borrow.Author.Needs.{needs}
 use mathlib.Core.Path.{refl}
 use lib.ListN.{replicate}
 use denote.Ref.{now}
-use Rattle.checker.proofs.Verdicts.{judgeable-again}
+use Rattle.checker.proofs.Verdicts.{passes-again}
 use Rattle.checker.proofs.Reports.{report-short, refusal-room, report-refused, report-accepted}
 use Rattle.checker.proofs.report.Statement.{statement}
 use Rattle.checker.proofs.report.Tie as tie
@@ -48,7 +48,7 @@ put-models-requires c κs =
     let t = n .before .before .before .before .before .before in
     let i = t .before .before .before .before .before in
     let a = i .before .before .before .args in
-    let j = judgeable-again (now (a .text)) 1 0 128 8 8192 (replicate 768 0) (replicate 1024 0) (t .check-trace .ensures) (n .n .given .1) in
+    let j = passes-again (now (a .text)) 1 0 128 8 8192 (replicate 768 0) (replicate 1024 0) (t .check-trace .ensures) (n .n .given .1) in
     (i .if1 .left, j)
 
 same-length : tie.Need-same-length

@@ -1,7 +1,7 @@
 -- `kiqsaryn::kiqsaryn_verdict` meets its contract. Assumes nothing.
 use borrow.Author.Needs.{needs}
-use Rattle.kiqsaryn.proofs.Packs.{packs-found}
 use denote.Ref.{now}
+use Rattle.kiqsaryn.proofs.Packs.{packs-found}
 use Rattle.kiqsaryn.proofs.kiqsaryn_verdict.Statement.{statement}
 use Rattle.kiqsaryn.proofs.kiqsaryn_verdict.Tie as tie
 
@@ -26,8 +26,14 @@ cast-result-2 c = search needs
 add-result : tie.Need-add-result
 add-result c = search needs
 
-enum-told-2 : tie.Need-enum-told-2
-enum-told-2 c = search needs
+enum-known-number : tie.Need-enum-known-number
+enum-known-number c = search needs
+
+cast-result-3 : tie.Need-cast-result-3
+cast-result-3 c = search needs
+
+mul-result-2 : tie.Need-mul-result-2
+mul-result-2 c = search needs
 
 same-length : tie.Need-same-length
 same-length c = search needs
@@ -35,8 +41,8 @@ same-length c = search needs
 returns : tie.Need-returns
 returns c =
     let a = c .before .before .before .before .before .before .before .before .args in
-    packs-found {n = a .n} {processLimit = a .process-limit} {model = a .model} {rows = now (a .rows)} {counts = now (a .counts)}
-    (c .before .before .before .before .verdict .ensures .0) (c .before .before .before .before .verdict .ensures .1) (c .enum-told .given .1)
+    let r = c .before .before .before .before .verdict in
+    packs-found (a .n) (a .process-limit) (a .model) (now (a .rows)) (now (a .counts)) (r .ensures .0) (r .ensures .1) (c .enum-told .given .1)
 
 same-length-2 : tie.Need-same-length-2
 same-length-2 c = search needs
@@ -44,18 +50,17 @@ same-length-2 c = search needs
 returns-2 : tie.Need-returns-2
 returns-2 c =
     let a = c .before .before .before .before .before .before .before .before .before .args in
-    packs-found {n = a .n} {processLimit = a .process-limit} {model = a .model} {rows = now (a .rows)} {counts = now (a .counts)}
-    (c .before .before .before .before .before .verdict .ensures .0) (c .before .before .before .before .before .verdict .ensures .1)
-    (c .before .earlier .given .1)
+    let r = c .before .before .before .before .before .verdict in
+    packs-found (a .n) (a .process-limit) (a .model) (now (a .rows)) (now (a .counts)) (r .ensures .0) (r .ensures .1) (c .before .earlier .given .1)
 
 same-length-3 : tie.Need-same-length-3
 same-length-3 c = search needs
 
 returns-3 : tie.Need-returns-3
 returns-3 c =
-    let a = c .before .before .before .before .before .before .before .before .args in
-    packs-found {n = a .n} {processLimit = a .process-limit} {model = a .model} {rows = now (a .rows)} {counts = now (a .counts)}
-    (c .before .before .before .before .verdict .ensures .0) (c .before .before .before .before .verdict .ensures .1) (c .enum-told2 .given .1)
+    let a = c .before .before .before .before .before .before .before .before .before .args in
+    let r = c .before .before .before .before .before .verdict in
+    packs-found (a .n) (a .process-limit) (a .model) (now (a .rows)) (now (a .counts)) (r .ensures .0) (r .ensures .1) (c .before .number .given .1)
 
 pub kiqsaryn-verdict-spec : {M : Type 1} → statement M
 kiqsaryn-verdict-spec =
@@ -68,7 +73,9 @@ kiqsaryn-verdict-spec =
     mul-result
     cast-result-2
     add-result
-    enum-told-2
+    enum-known-number
+    cast-result-3
+    mul-result-2
     same-length
     returns
     same-length-2

@@ -1,7 +1,6 @@
 -- `order::add_own` meets its contract. Assumes nothing.
 use borrow.Author.Needs.{needs}
-use Rattle.order.proofs.Joins.{own-in, own-out}
-use native.Mathlib.Omega.{arith}
+use Rattle.order.proofs.Joins.{own-in}
 use denote.Ref.{now}
 use Rattle.order.proofs.add_own.Statement.{statement}
 use Rattle.order.proofs.add_own.Tie as tie
@@ -19,7 +18,7 @@ slice-read-counts : tie.Need-slice-read-counts
 slice-read-counts c = search needs
 
 add-counts : tie.Need-add-counts
-add-counts c = omega (arith, c .before .before .pre .1 (c .before .if1 .taken))
+add-counts c = search needs
 
 slice-write-counts : tie.Need-slice-write-counts
 slice-write-counts c = search needs
@@ -28,16 +27,7 @@ same-length : tie.Need-same-length
 same-length c = search needs
 
 returns : tie.Need-returns
-returns c =
-    let s = c .before .before in
-    let a = s .args in
-    own-in (a .processes) (now (a .counts)) (a .j) (s .pre .0 .1) (c .before .if1 .taken)
-
-returns-2 : tie.Need-returns-2
-returns-2 c =
-    let s = c .before in
-    let a = s .args in
-    own-out (a .processes) (now (a .counts)) (a .j) (s .pre .0 .1) (c .if1 .left)
+returns c = let s = c .before in let a = s .args in own-in (a .processes) (now (a .counts)) (a .j) (s .pre .1) (s .pre .2)
 
 pub add-own-spec : {M : Type 1} → statement M
 add-own-spec =
@@ -50,5 +40,4 @@ add-own-spec =
     add-counts
     slice-write-counts
     same-length
-    returns
-    returns-2)
+    returns)

@@ -5,29 +5,28 @@ use mathlib.Core.Path.{_≡_, refl, sym, ap, _∙_}
 use lib.ListN.{length, replicate}
 use mathlib.Core.List.{List}
 use native.Mathlib.Numerals.{add-one}
-use borrow.Author.Tests.{not-true, not-false}
 use Rattle.order.specs.Clock.{withRow, filledRow}
 use Rattle.order.proofs.Cells.{row-before}
 use native.Mathlib.Omega.{arith}
 use denote.Ref.{now}
-use Rattle.order.proofs.Filling.{filledTo, none-filled, all-filled, row-filled, row-empty, cells-small, fits-told, left-filled, left-kept}
+use Rattle.order.proofs.Filling.{filledTo, none-filled, all-filled, row-filled, row-empty, cells-small}
+use Rattle.order.proofs.Asking.{asked, left-filled, left-kept}
 use Rattle.order.proofs.fill_counts.Statement.{statement}
 use Rattle.order.proofs.fill_counts.Tie as tie
 
 abbrev Inv-loop : tie.InvT-loop
-Inv-loop rows n process-limit counts₀ total processes j₀ counts j = (total ≡ n) × ((processes ≡ process-limit) × ((j ≤ n) × ((length counts ≡ length counts₀) × (counts ≡ filledTo n process-limit (length counts₀) rows j))))
+Inv-loop rows n process-limit counts₀ first total processes j₀ counts j = (total ≡ n) × ((processes ≡ process-limit) × ((j ≤ n) × ((length counts ≡ length counts₀) × (counts ≡ filledTo n process-limit (length counts₀) rows j))))
 
 abbrev μ-loop : tie.MeasureT-loop
-μ-loop rows n process-limit counts₀ total processes j₀ counts j = total - j
+μ-loop rows n process-limit counts₀ first total processes j₀ counts j = total - j
 
-slices-fit-requires : tie.Need-slices-fit-requires Inv-loop μ-loop
-slices-fit-requires c κs = search needs
+ask-rows-requires : tie.Need-ask-rows-requires Inv-loop μ-loop
+ask-rows-requires c κs = search needs
 
 returns : tie.Need-returns Inv-loop μ-loop
 returns c =
     let a = c .before .before .before .before .args in
-    left-kept (a .n) (a .process-limit) (now (a .rows)) (now (a .counts))
-    (sym (c .before .slices-fit .ensures) ∙ not-true (c .before .slices-fit .result) (c .if1 .taken))
+    left-kept (a .n) (a .process-limit) (now (a .rows)) (now (a .counts)) (c .before .ask-rows .ensures) (c .if1 .taken)
 
 clear-counts-requires : tie.Need-clear-counts-requires Inv-loop μ-loop
 clear-counts-requires c κs = search needs
@@ -54,19 +53,21 @@ fill-row-requires : tie.Need-fill-row-requires Inv-loop μ-loop
 fill-row-requires c κs =
     let a = c .before .before .before .before .before .before .before .before .before .before .before .args in
     let l = c .before .before .loop in
-    let t = fits-told (a .n) (a .process-limit) (length (now (a .rows))) (length (now (a .counts)))
-    (sym (c .before .before .before .before .before .before .before .before .slices-fit .ensures) ∙ not-false
-    (c .before .before .before .before .before .before .before .before .slices-fit .result)
-    (c .before .before .before .before .before .before .before .if1 .left)) in
+    let t = asked (a .n) (a .process-limit) (now (a .rows)) (length (now (a .counts))) (sym (c .before .before .before .before .before .before .before .before .ask-rows .ensures) ∙ c .before .before .before .before .before .before .before .if1 .left) in
     let size = c .before .before .before .before .before .clear-counts .kept .0 in
     let s = length (c .before .before .before .before .before .clear-counts .last .0) in
     let e = l .inv .1 .1 .1 .1 in
     let before = row-before (a .process-limit) (c .before .loop-test .taken) in
-    let room : l .j * a .process-limit + a .process-limit ≤ s = omega (arith, before, t .3, size) in (
-      (omega (arith, t .2, c .before .loop-test .taken), t .1, omega (arith, room, l .inv .1 .1 .1 .0)),
+    let room : l .j * a .process-limit + a .process-limit ≤ s = omega (arith, before, t .counts-fit, size) in (
+      (
+        omega (arith, t .rows-fit, c .before .loop-test .taken),
+        t .few-processes,
+        omega (arith, room, l .inv .1 .1 .1 .0),
+        t .below (l .j) (c .before .loop-test .taken),
+      ),
       (
         λ p q. rw e (row-empty (a .n) (a .process-limit) s (now (a .rows)) (l .j) (c .before .loop-test .taken) room p q),
-        λ k p i q. rw e (cells-small (a .n) (a .process-limit) s (now (a .rows)) (l .j) (c .before .loop-test .taken) room (t .0) k p i q),
+        λ k p i q. rw e (cells-small (a .n) (a .process-limit) s (now (a .rows)) (l .j) (c .before .loop-test .taken) room (t .few-rows) k p i q),
       ),
     )
 
@@ -80,15 +81,12 @@ loop-again : tie.Need-loop-again Inv-loop μ-loop
 loop-again c =
     let a = c .before .before .before .before .before .before .before .before .before .before .before .before .before .before .args in
     let l = c .before .before .before .before .before .loop in
-    let t = fits-told (a .n) (a .process-limit) (length (now (a .rows))) (length (now (a .counts)))
-    (sym (c .before .before .before .before .before .before .before .before .before .before .before .slices-fit .ensures) ∙ not-false
-    (c .before .before .before .before .before .before .before .before .before .before .before .slices-fit .result)
-    (c .before .before .before .before .before .before .before .before .before .before .if1 .left)) in
+    let t = asked (a .n) (a .process-limit) (now (a .rows)) (length (now (a .counts))) (sym (c .before .before .before .before .before .before .before .before .before .before .before .ask-rows .ensures) ∙ c .before .before .before .before .before .before .before .before .before .before .if1 .left) in
     let size = c .before .before .before .before .before .before .before .before .clear-counts .kept .0 in
     let s = length (c .before .before .before .before .before .before .before .before .clear-counts .last .0) in
     let e = l .inv .1 .1 .1 .1 in
     let before = row-before (a .process-limit) (c .before .before .before .before .loop-test .taken) in
-    let room : l .j * a .process-limit + a .process-limit ≤ s = omega (arith, before, t .3, size) in (
+    let room : l .j * a .process-limit + a .process-limit ≤ s = omega (arith, before, t .counts-fit, size) in (
       refl,
       (
         refl,
@@ -115,8 +113,7 @@ returns-2 c =
     let size = c .before .before .before .before .clear-counts .kept .0 in
     let end : l .j ≡ a .n = omega (arith, l .inv .1 .1 .0, c .loop-test .left) in
     left-filled (a .n) (a .process-limit) (now (a .rows)) (now (a .counts))
-    (sym (c .before .before .before .before .before .before .before .slices-fit .ensures) ∙ not-false
-    (c .before .before .before .before .before .before .before .slices-fit .result) (c .before .before .before .before .before .before .if1 .left))
+    (sym (c .before .before .before .before .before .before .before .ask-rows .ensures) ∙ c .before .before .before .before .before .before .if1 .left)
     (l .inv .1 .1 .1 .1 ∙ (λ i. filledTo (a .n) (a .process-limit) (size i) (now (a .rows)) (end i)) ∙ all-filled (a .n)
     (a .process-limit) (length (now (a .counts))) (now (a .rows)))
 
@@ -126,7 +123,7 @@ fill-counts-spec =
     (tie.spec
     Inv-loop
     μ-loop
-    slices-fit-requires
+    ask-rows-requires
     returns
     clear-counts-requires
     loop-holds

@@ -1,6 +1,6 @@
 -- `order::fill_row` meets its contract. Assumes nothing.
 use borrow.Author.Needs.{needs}
-use Rattle.order.proofs.Joins.{last-low, joined-most, row-filled}
+use Rattle.order.proofs.Joins.{process-in, last-low, joined-most, row-filled}
 use mathlib.Core.Path.{_∙_}
 use native.Mathlib.Omega.{arith}
 use denote.Ref.{now}
@@ -34,10 +34,13 @@ add-own-requires c κs =
     let s = c .before .before .before .before .before .before .before .before .before .before .before .before .before in
     let a = s .args in
     let m = c .before .before .before .before .before .before .before .join-last in
-    let n = c .before .before .before .join-sends in (
-      (s .pre .0 .1, omega (arith, s .pre .0 .2, m .kept .0, n .kept .1 .1 .1 .0)),
+    let n = c .before .before .before .join-sends in
+    let own = rw process-in at (s .pre .0 .3) in (
+      s .pre .0 .1,
+      omega (arith, s .pre .0 .2, m .kept .0, n .kept .1 .1 .1 .0),
+      own,
       joined-most (a .processes) (now (a .rows)) (now (a .counts)) (a .j) (s .pre .0 .2) (s .pre .1 .0)
-          (c .before .before .before .before .before .before .before .before .before .last-of .ensures) (m .ensures) (n .ensures) (s .pre .1 .1) _,
+          (c .before .before .before .before .before .before .before .before .before .last-of .ensures) (m .ensures) (n .ensures) (s .pre .1 .1) _ own,
     )
 
 same-length : tie.Need-same-length

@@ -13,7 +13,7 @@ pub fn judge(trace: &Trace, models: &[Model]) -> Result<Vec<(Model, Verdict)>, S
     let mut all = Vec::new();
     for model in models {
         match verdict(&trace.rows, trace.n, trace.processes, model.number(), &mut counts) {
-            Verdict::Refused => return Err(format!("there is no verdict under {}; please report this trace", model.name())),
+            Verdict::Refused(_) => return Err(format!("there is no verdict under {}; please report this trace", model.name())),
             v => all.push((*model, v)),
         }
     }

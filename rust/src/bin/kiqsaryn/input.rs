@@ -113,7 +113,7 @@ pub fn load(common: &Common) -> Result<Loaded, String> {
     let settings = Settings { header: u32::from(header), model: 0, row_limit: ROWS, process_limit: processes, byte_limit };
     match check_trace(&text, settings, &mut rows, &mut counts) {
         Checked::Accepted(n) => {
-            if !fill_counts(&rows, n, processes, &mut counts) {
+            if fill_counts(&rows, n, processes, &mut counts).is_err() {
                 return Err("the counts of the rows are missing; please report this trace".to_string());
             }
             Ok(Loaded::Accepted(Trace { name, text, header, processes, n, rows, counts }))

@@ -1,13 +1,13 @@
--- `races::processes_in` meets its contract. Assumes nothing.
+-- `order::processes_in` meets its contract. Assumes nothing.
 use borrow.Author.Needs.{needs}
-use Rattle.races.specs.Scan.{processesIn}
-use Rattle.races.proofs.Cells.{processes-none, processes-out, processes-before}
+use Rattle.order.specs.Filling.{processesIn}
+use Rattle.order.proofs.Asking.{processes-none, processes-out, processes-before}
 use mathlib.Core.Path.{_≡_, refl, sym, _∙_}
 use Prim.Native.Nat.{_≤_}
 use native.Mathlib.Omega.{arith}
 use denote.Ref.{now}
-use Rattle.races.proofs.processes_in.Statement.{statement}
-use Rattle.races.proofs.processes_in.Tie as tie
+use Rattle.order.proofs.processes_in.Statement.{statement}
+use Rattle.order.proofs.processes_in.Tie as tie
 
 abbrev Inv-loop : tie.InvT-loop
 Inv-loop rows n process-limit i₀ i = (i ≤ n) × (processesIn n process-limit rows ≡ processesIn i process-limit rows)
