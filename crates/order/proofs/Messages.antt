@@ -223,4 +223,4 @@ pub accepted-delivered : (text : List ℕ) (header model rowLimit processLimit b
     checkTrace text header model rowLimit processLimit byteLimit rowsLength countsLength ≡ accepted rows → Delivered rows
 accepted-delivered text header model rowLimit processLimit byteLimit rowsLength countsLength rows e =
     let a = accepted-passed text header model rowLimit processLimit byteLimit rowsLength countsLength rows e in
-    sound-delivered (accepted-sound header rowLimit processLimit _ rows (a .0 .some-processes) (a .1) .1)
+    sound-delivered (accepted-sound header rowLimit processLimit _ rows (a .1) .1)
