@@ -1,4 +1,5 @@
-/* Trace B through the library for C, from its text to the verdicts, and its read replayed on a machine for session and on the plain file. */
+/* Trace B through the library for C: in one call, then from its text to the verdicts, and its read replayed on a machine for session and on
+ * the plain file. */
 #include "kiqsaryn.h"
 #include <stdio.h>
 #include <string.h>
@@ -7,11 +8,27 @@ enum { ROWS = 16, PROCESSES = 2, SPACE = 4 };
 
 static const char *const names[4] = {"posix", "commit", "session", "mpiio"};
 
+static void print_judged(const char *name, uint64_t judged) {
+    if (kiqsaryn_judged_refusal(judged))
+        printf("%s: refused %u at %u\n", name, (unsigned)kiqsaryn_judged_refusal(judged), (unsigned)kiqsaryn_judged_place(judged));
+    else if (kiqsaryn_judged_later(judged))
+        printf("%s: %u rows, race %u %u\n", name, (unsigned)kiqsaryn_judged_rows(judged), (unsigned)kiqsaryn_judged_earlier(judged),
+               (unsigned)kiqsaryn_judged_later(judged));
+    else
+        printf("%s: %u rows, free\n", name, (unsigned)kiqsaryn_judged_rows(judged));
+}
+
 int main(void) {
     const char *text = "process,kind,file,offset,length,message\r\n"
                        "0,write,1,0,10,\r\n0,commit,1,,,\r\n0,send,,,,7\r\n1,recv,,,,7\r\n1,read,1,5,10,\r\n";
     uint32_t rows[6 * ROWS], seen[ROWS], maps[4 * SPACE * (PROCESSES + 1)], map[4 * SPACE], pieces[3 * 8];
     uint16_t counts[ROWS * PROCESSES];
+
+    for (uint32_t model = 1; model < 3; model++)
+        print_judged(names[model], kiqsaryn_judge((const uint8_t *)text, strlen(text), 1, model, ROWS, PROCESSES, SIZE_MAX, rows, 6 * ROWS,
+                                                  counts, ROWS * PROCESSES));
+    print_judged("header word 0", kiqsaryn_judge((const uint8_t *)text, strlen(text), 0, 1, ROWS, PROCESSES, SIZE_MAX, rows, 6 * ROWS, counts,
+                                                 ROWS * PROCESSES));
 
     uint64_t checked =
         kiqsaryn_check_trace((const uint8_t *)text, strlen(text), 1, 1, ROWS, PROCESSES, SIZE_MAX, rows, 6 * ROWS, counts, ROWS * PROCESSES);

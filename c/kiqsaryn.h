@@ -33,6 +33,30 @@ extern "C" {
 uint64_t kiqsaryn_check_trace(const uint8_t *text, size_t text_len, uint32_t header, uint32_t model, uint32_t row_limit, uint32_t process_limit,
                               size_t byte_limit, uint32_t *rows, size_t rows_len, uint16_t *counts, size_t counts_len);
 
+/* The whole call on a trace: reads it as kiqsaryn_check_trace does, fills the counts of its rows, and judges it under the model. The answer is
+ * four words of 16 bits. Of an accepted trace, from the lowest: the row count, the later and the earlier row of the first race, both 0 for
+ * free, and 0. Of a refusal: its place in the lowest, its number in the highest, and 0 between. */
+uint64_t kiqsaryn_judge(const uint8_t *text, size_t text_len, uint32_t header, uint32_t model, uint32_t row_limit, uint32_t process_limit,
+                        size_t byte_limit, uint32_t *rows, size_t rows_len, uint16_t *counts, size_t counts_len);
+
+/* The parts of that answer: the number of a refusal, 0 for none, and its place; else the row count, and the rows of the first race, both 0 for
+ * free. A part that the answer does not have is 0. */
+static inline uint32_t kiqsaryn_judged_refusal(uint64_t judged) {
+    return (uint32_t)(judged >> 48);
+}
+static inline uint32_t kiqsaryn_judged_place(uint64_t judged) {
+    return judged >> 48 ? (uint32_t)(judged & 0xffff) : 0;
+}
+static inline uint32_t kiqsaryn_judged_rows(uint64_t judged) {
+    return judged >> 48 ? 0 : (uint32_t)(judged & 0xffff);
+}
+static inline uint32_t kiqsaryn_judged_earlier(uint64_t judged) {
+    return (uint32_t)(judged >> 32 & 0xffff);
+}
+static inline uint32_t kiqsaryn_judged_later(uint64_t judged) {
+    return (uint32_t)(judged >> 16 & 0xffff);
+}
+
 /* Fills the happens-before counts of the first n rows, process_limit each: how many rows of each process happen before the row or are it.
  * The answer is 0, or the number of a refusal, which changes nothing: 1 where `rows` has fewer than 6 * n numbers or `counts` fewer than
  * n * process_limit, 2 for more than 4,096 rows or a process limit that is not 1 to 64, 10 for a row whose process is not below the limit. */

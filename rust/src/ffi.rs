@@ -16,6 +16,20 @@ extern "C" {
         counts_len: usize,
     ) -> u64;
 
+    pub fn kiqsaryn_judge(
+        text: *const u8,
+        text_len: usize,
+        header: u32,
+        model: u32,
+        row_limit: u32,
+        process_limit: u32,
+        byte_limit: usize,
+        rows: *mut u32,
+        rows_len: usize,
+        counts: *mut u16,
+        counts_len: usize,
+    ) -> u64;
+
     pub fn kiqsaryn_fill_counts(rows: *const u32, rows_len: usize, n: u32, process_limit: u32, counts: *mut u16, counts_len: usize) -> u32;
 
     pub fn kiqsaryn_verdict(

@@ -130,6 +130,44 @@ pub fn check_trace(text: &[u8], s: Settings, rows: &mut [u32], counts: &mut [u16
     }
 }
 
+/// What a trace comes to in one call.
+#[derive(Clone, Copy, Debug, PartialEq, Eq)]
+pub enum Judged {
+    /// The number of rows, of which no two race.
+    Free { rows: u32 },
+    /// The number of rows, and the row numbers of the first race.
+    Race { rows: u32, earlier: u32, later: u32 },
+    /// As `check_trace` refuses.
+    Refused { refusal: Refusal, place: u32 },
+}
+
+/// The whole call: reads a trace into the lent rows, fills their counts, and judges it under the model. The slices are left as `check_trace`
+/// leaves them where it refuses.
+pub fn judge(text: &[u8], s: Settings, rows: &mut [u32], counts: &mut [u16]) -> Judged {
+    // The three slices are live for the call, and the two lent for writing are borrowed by it alone.
+    let answer = unsafe {
+        ffi::kiqsaryn_judge(
+            text.as_ptr(),
+            text.len(),
+            s.header,
+            s.model,
+            s.row_limit,
+            s.process_limit,
+            s.byte_limit,
+            rows.as_mut_ptr(),
+            rows.len(),
+            counts.as_mut_ptr(),
+            counts.len(),
+        )
+    };
+    let word = |k: u32| (answer >> (16 * k)) as u32 & 0xffff;
+    match (word(3), word(1)) {
+        (0, 0) => Judged::Free { rows: word(0) },
+        (0, later) => Judged::Race { rows: word(0), earlier: word(2), later },
+        (number, _) => Judged::Refused { refusal: refused(number), place: word(0) },
+    }
+}
+
 /// Nothing for 0, and the refusal of any other number.
 fn done(number: u32) -> Result<(), Refusal> {
     match number {

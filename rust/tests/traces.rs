@@ -1,9 +1,9 @@
-//! Every vector of `vectors/traces.txt` and `vectors/aimed.txt`: the answer and both slices whole.
+//! Every vector of `vectors/traces.txt` and `vectors/aimed.txt`, call by call and in one call: the answer and both slices whole.
 
 #[allow(dead_code)]
 mod vectors;
 
-use kiqsaryn::{check_trace, fill_counts, verdict, Checked, Refusal, Settings, Verdict};
+use kiqsaryn::{check_trace, fill_counts, judge, verdict, Checked, Judged, Refusal, Settings, Verdict};
 
 /// A slice that holds these numbers, then 0.
 fn padded(front: &[u32], len: usize) -> Vec<u32> {
@@ -41,7 +41,11 @@ fn every_vector(file: &str) {
         let (rows_len, counts_len) = (n(6) as usize, n(7) as usize);
         let mut rows = vec![fill; rows_len];
         let mut counts = vec![fill as u16; counts_len];
-        let got = check_trace(&line.bytes(10), settings, &mut rows, &mut counts);
+        let bytes = line.bytes(10);
+        let got = check_trace(&bytes, settings, &mut rows, &mut counts);
+        let mut whole_rows = vec![fill; rows_len];
+        let mut whole_counts = vec![fill as u16; counts_len];
+        let whole = judge(&bytes, settings, &mut whole_rows, &mut whole_counts);
 
         let answer = lines.next().expect("an answer");
         let a = &answer.words;
@@ -52,6 +56,7 @@ fn every_vector(file: &str) {
             let (number, place) = (v(2), v(3));
             let refusal = Refusal::from_number(number).expect("a refusal");
             assert_eq!(got, Checked::Refused { refusal, place }, "vector {}", w[1]);
+            assert_eq!(whole, Judged::Refused { refusal, place }, "the whole call on vector {}", w[1]);
             let left = if number <= 3 { fill } else { 0 };
             assert!(rows.iter().all(|x| *x == left), "rows of vector {}", w[1]);
             assert!(counts.iter().all(|x| u32::from(*x) == left), "counts of vector {}", w[1]);
@@ -63,9 +68,16 @@ fn every_vector(file: &str) {
             let want = if a[3] == "free" { Verdict::Free } else { Verdict::Race { earlier: v(4), later: v(5) } };
             let judged = verdict(&rows, v(2), settings.process_limit, settings.model, &mut counts);
             assert_eq!(judged, want, "verdict of vector {}", w[1]);
+            let want = match want {
+                Verdict::Race { earlier, later } => Judged::Race { rows: v(2), earlier, later },
+                _ => Judged::Free { rows: v(2) },
+            };
+            assert_eq!(whole, want, "the whole call on vector {}", w[1]);
             let wide: Vec<u32> = counts.iter().map(|x| u32::from(*x)).collect();
             assert_eq!(wide, padded(&lines.next().expect("the counts").numbers("C"), counts_len), "counts of vector {}", w[1]);
         }
+        assert_eq!(whole_rows, rows, "rows of the whole call on vector {}", w[1]);
+        assert_eq!(whole_counts, counts, "counts of the whole call on vector {}", w[1]);
         run += 1;
     }
     vectors::all_run(file, &text, &["T"], run);
@@ -134,4 +146,32 @@ fn verdicts_on_wild_arguments_are_refused() {
     let mut counts = [7u16; 12];
     assert_eq!(verdict(&rows, 2, 6, 0, &mut counts), Verdict::Race { earlier: 1, later: 2 });
     assert_eq!(verdict(&rows, 1, 6, 0, &mut counts), Verdict::Free);
+}
+
+#[test]
+fn whole_calls_of_wild_arguments_are_refused() {
+    let good = Settings { header: 0, model: 0, row_limit: 2, process_limit: 3, byte_limit: usize::MAX };
+    let wild = [
+        // 1: a slice is too short, whatever else is wrong
+        (Settings { row_limit: 3, process_limit: 0, ..good }, 1),
+        (Settings { process_limit: 4, model: 4, ..good }, 1),
+        (Settings { row_limit: u32::MAX, process_limit: u32::MAX, ..good }, 1),
+        // 2: the model or a limit is out of its range
+        (Settings { model: 4, header: 2, ..good }, 2),
+        (Settings { row_limit: 0, ..good }, 2),
+        (Settings { process_limit: 0, ..good }, 2),
+        // 3: the header word is neither 0 nor 1
+        (Settings { header: 2, ..good }, 3),
+    ];
+    for (settings, number) in wild {
+        let (mut rows, mut counts) = ([7u32; 12], [7u16; 6]);
+        let want = Judged::Refused { refusal: Refusal::from_number(number).expect("a refusal"), place: 0 };
+        assert_eq!(judge(b"0,write,0,0,1,\r\n", settings, &mut rows, &mut counts), want, "{settings:?}");
+        assert!(rows.iter().all(|x| *x == 7) && counts.iter().all(|x| *x == 7));
+    }
+    let (mut rows, mut counts) = ([7u32; 12], [7u16; 6]);
+    let text = b"0,write,0,0,1,\r\n2,write,0,0,1,";
+    assert_eq!(judge(text, good, &mut rows, &mut counts), Judged::Race { rows: 2, earlier: 1, later: 2 });
+    assert_eq!(rows, [0, 1, 0, 0, 1, 0, 2, 1, 0, 0, 1, 0]);
+    assert_eq!(counts, [1, 0, 0, 0, 0, 1]);
 }

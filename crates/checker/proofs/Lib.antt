@@ -2,3 +2,4 @@ pub mod Lines
 pub mod Verdicts
 pub mod Reports
 pub mod Input
+pub mod Sizes

@@ -1,7 +1,9 @@
 -- How answers are packed into one number for C.
-use Prim.Native.Nat.{ℕ, _+_, _*_}
+use Prim.Native.Nat.{ℕ, _+_, _*_, _/_, _%_}
 use mathlib.Core.Path.{_≡_}
+use mathlib.Core.Bool.{cond}
 use mathlib.Core.List.{List}
+use lib.Dec.{eqb}
 use Rattle.order.specs.Filling.{filledLeft}
 use Rattle.races.specs.declared.Found.{Found}
 use Rattle.races.specs.declared.Found.the-variants.{Free, Race, Refused}
@@ -10,6 +12,9 @@ use Rattle.trace.specs.declared.Checked.{Checked}
 use Rattle.trace.specs.declared.Checked.the-variants.{Accepted, Refused as RefusedAt}
 use Rattle.fields.specs.declared.Row.{Row}
 use Rattle.trace.specs.Questions.{Question, firstNo, Outcome, checkedOf, rowsLeft, countsLeft}
+use Rattle.checker.specs.declared.Judged.{Judged}
+use Rattle.checker.specs.declared.Judged.the-variants as judged
+use Rattle.checker.specs.Judging.{judgedOf, countsKept}
 use Rattle.layers.specs.States.{Header}
 use Rattle.layers.specs.Steps as steps
 use Rattle.layers.specs.Steps.{Step, madeTo}
@@ -26,6 +31,28 @@ pub record Gives (o : Outcome) (answer : ℕ) (rows rows′ counts counts′ : L
   pub rows-left : rows′ ≡ rowsLeft o rows
   pub counts-left : counts′ ≡ countsLeft o counts
 
+-- The whole call's answer, in four words of 16 bits. Of an accepted trace, from the lowest: the row count, the later and the earlier row of the
+-- first race, 0 for free, and 0. Of a refusal: the place in the lowest word, the number in the highest.
+abbrev pub packedJudged : Judged → ℕ
+packedJudged (judged.Free n) = n
+packedJudged (judged.Race n earlier later) = n + later * 65536 + earlier * 4294967296
+packedJudged (judged.Refused number place) = number * 281474976710656 + place
+
+-- how it is read back
+abbrev pub unpackedJudged : ℕ → Judged
+unpackedJudged answer =
+    let number = answer / 281474976710656 in
+    let earlier = answer / 4294967296 % 65536 in
+    let later = answer / 65536 % 65536 in
+    let low = answer % 65536 in
+    cond (eqb number 0) (cond (eqb later 0) (judged.Free low) (judged.Race low earlier later)) (judged.Refused number low)
+
+-- what the whole call answers and leaves
+pub record JudgeGives (model processLimit : ℕ) (o : Outcome) (answer : ℕ) (rows rows′ counts counts′ : List ℕ) : Type 0 where
+  pub answered : answer ≡ packedJudged (judgedOf model o)
+  pub rows-left : rows′ ≡ rowsLeft o rows
+  pub counts-left : counts′ ≡ countsKept processLimit o counts
+
 -- what filling the counts answers and leaves: the first No, 0 for none, and the counts
 pub record Fills (questions : List Question) (n processLimit answer : ℕ) (rows counts counts′ : List ℕ) : Type 0 where
   pub answered : answer ≡ firstNo questions
@@ -36,6 +63,13 @@ abbrev pub packedFound : Found → ℕ
 packedFound Free = 0
 packedFound (Race earlier later) = earlier * 4294967296 + later
 packedFound (Refused number) = number * 4294967296
+
+-- how it is read back: the later row of a race is not 0
+abbrev pub unpackedFound : ℕ → Found
+unpackedFound answer =
+    let high = answer / 4294967296 in
+    let low = answer % 4294967296 in
+    cond (eqb low 0) (cond (eqb high 0) Free (Refused high)) (Race high low)
 
 -- what a verdict answers and leaves
 pub record Judges (questions : List Question) (n processLimit model answer : ℕ) (rows counts counts′ : List ℕ) : Type 0 where

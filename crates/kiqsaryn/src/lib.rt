@@ -8,8 +8,9 @@ ghost use Rattle.races.specs.Scan.{judgeQuestions};
 ghost use Rattle.checker.specs.Report.{reportLength, reportIn};
 ghost use Rattle.layers.specs.Steps.{makingQuestions, plainMakingQuestions, stepOf, plainStepOf};
 ghost use Rattle.machine.specs.Replays.{replayOf, plainReplayOf};
-ghost use Rattle.kiqsaryn.specs.Packing.{Gives, Fills, Judges, headed, rowed, Makes, StepGives, ReplayGives};
+ghost use Rattle.kiqsaryn.specs.Packing.{Gives, JudgeGives, Fills, Judges, headed, rowed, Makes, StepGives, ReplayGives};
 use asking::Machine;
+use checker::Judged;
 use extents::Answer;
 use fields::Row;
 use machine::Made;
@@ -46,6 +47,42 @@ pub extern "C" fn kiqsaryn_check_trace(
     ) {
         Checked::Accepted(n) => n as u64,
         Checked::Refused(number, place) => number as u64 * 4294967296 + place as u64,
+    }
+}
+
+// The whole call on a trace, as checker::judge does: its rows, their counts and the verdict under the model. The answer is four words of 16
+// bits. Of an accepted trace, from the lowest: the row count, the later and the earlier row of the first race, both 0 for free, and 0. Of a
+// refusal: its place in the lowest, its number in the highest, and 0 between.
+#[no_mangle]
+pub extern "C" fn kiqsaryn_judge(
+    text: &[u8],
+    header: u32,
+    model: u32,
+    row_limit: u32,
+    process_limit: u32,
+    byte_limit: usize,
+    rows: &mut [u32],
+    counts: &mut [u16],
+) -> u64
+    ensures { λ r. ⌜ JudgeGives model «process_limit»
+        (checkTrace (now (text .entry)) header model «row_limit» «process_limit» «byte_limit» (length (now (rows .entry))) (length (now (counts .entry))))
+        r (now (rows .entry)) (now (rows .exit)) (now (counts .entry)) (now (counts .exit)) ⌝ }
+{
+    match checker::judge(
+        text,
+        header,
+        model,
+        row_limit,
+        process_limit,
+        byte_limit,
+        rows,
+        counts,
+    ) {
+        Judged::Free(n) => n as u64,
+        Judged::Race(n, earlier, later) => {
+            n as u64 + later as u64 * 65536 + earlier as u64 * 4294967296
+        }
+        Judged::Refused(number, place) => number as u64 * 281474976710656 + place as u64,
     }
 }
 

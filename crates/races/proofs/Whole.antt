@@ -6,16 +6,18 @@ use mathlib.Core.Path.{_≡_, refl, sym, ap, subst, _∙_}
 use mathlib.Core.Bool.{Bool, true, false, cond, not, _&&_}
 use mathlib.Core.List.{List, _++_}
 use lib.ListN.{length, replicate}
-use lib.Dec.{ltb}
-use borrow.Author.Tests.{ltb-true, lt-ltb, le-ltb, ne-eqb}
-use Rattle.models.specs.Limits.{MODELS}
+use lib.Dec.{leb, ltb}
+use borrow.Author.Tests.{leb-true, ltb-true, lt-ltb, le-ltb, ne-eqb}
+use Rattle.models.specs.Limits.{MODELS, PROCESSES, ROWS}
 use Rattle.fields.specs.declared.Row.{Row}
 use Rattle.trace.specs.Rows.{rowsIn}
 use Rattle.trace.specs.Questions.{firstNo, longEnough}
+use Rattle.trace.proofs.Laws.{all-yes}
 use Rattle.order.specs.declared.Filled.{Filled}
 use Rattle.order.specs.declared.Filled.the-variants as filled
 use Rattle.order.specs.Order.{rowAt, countsOf}
-use Rattle.order.specs.Filling.{fillQuestions, filledOf, filledLeft}
+use Rattle.order.specs.Filling.{countLimits, fillQuestions, filledOf, filledLeft}
+use Rattle.order.proofs.Below.{and-out}
 use Rattle.order.proofs.Filling.{length-rows}
 use Rattle.order.proofs.Asking.{Asked, asked, done-told, refused-told}
 use Rattle.races.specs.Races.{conflict, leastFrom, verdictOf}
@@ -82,6 +84,14 @@ module _ (n P model : ℕ) (xs : List ℕ) where
   unfolding firstNo judgeQuestions fillQuestions
   same-first L m = rw (lt-ltb model MODELS m)
 
+  -- rows that are judged are few
+  pub few-judged : (L : ℕ) → firstNo (judgeQuestions n P model xs L) ≡ 0 → n ≤ ROWS
+  unfolding judgeQuestions
+  few-judged L e =
+      let yes = all-yes (judgeQuestions n P model xs L) (omega arith) e in
+      let limits = and-out (ltb model MODELS) (countLimits n P) (yes .1 .0) .1 in
+      leb-true n ROWS (and-out (leb n ROWS) (leb 1 P && leb P PROCESSES) limits .0)
+
   module _ (counts : List ℕ) where
     abbrev first : ℕ
     first = firstNo (judgeQuestions n P model xs (length counts))
@@ -117,14 +127,14 @@ module _ (n P model : ℕ) (xs : List ℕ) where
 
       module _ (q : f ≡ filled.Done) where
         -- or every answer was Yes
-        all-yes : filling ≡ 0
-        all-yes = done-told filling (sym e ∙ q)
+        all-passed : filling ≡ 0
+        all-passed = done-told filling (sym e ∙ q)
 
         pub given-filled : Given n P model xs ys
         given-filled =
-            given (length counts) (replicate (length counts - n * P) 0) (asked n P xs (length counts) all-yes) m
-            (l ∙ ap (λ (number : ℕ). filledLeft number n P xs counts) all-yes)
+            given (length counts) (replicate (length counts - n * P) 0) (asked n P xs (length counts) all-passed) m
+            (l ∙ ap (λ (number : ℕ). filledLeft number n P xs counts) all-passed)
 
         pub judges : {r : Found} → r ≡ foundOf (verdictOf (rowsIn n xs) model) →
             (r ≡ answerOf first xs n model) × (ys ≡ filledLeft first n P xs counts)
-        judges r = (r ∙ ap (λ (number : ℕ). answerOf number xs n model) (sym all-yes ∙ same-first (length counts) m), left)
+        judges r = (r ∙ ap (λ (number : ℕ). answerOf number xs n model) (sym all-passed ∙ same-first (length counts) m), left)

@@ -50,7 +50,7 @@ AllYes [] = Unit {0}
 AllYes (q ∷ qs) = (q .yes ≡ true) × AllYes qs
 
 -- a first No is one of the numbers
-no-from : (k : ℕ) (qs : List Question) → From k qs → (firstNo qs ≡ 0 → ⊥) → k ≤ firstNo qs
+pub no-from : (k : ℕ) (qs : List Question) → From k qs → (firstNo qs ≡ 0 → ⊥) → k ≤ firstNo qs
 unfolding firstNo
 no-from k [] f n = absurd (n refl)
 no-from k (q ∷ qs) f n = go (no-from k qs (f .1)) (q .yes) n

@@ -5,3 +5,4 @@ pub mod Asking
 pub mod Going
 pub mod Whole
 pub mod Accepting
+pub mod Refusals

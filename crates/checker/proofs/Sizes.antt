@@ -1,0 +1,43 @@
+-- The numbers of what the whole call answers are small. Assumes nothing.
+use Prim.Native.Nat.{ℕ, _≤_, _<_}
+use native.Mathlib.Omega.{arith}
+use mathlib.Core.Path.{_≡_, refl}
+use mathlib.Core.List.{List}
+use lib.ListN.{length}
+use Rattle.models.specs.Limits.{ROWS}
+use Rattle.fields.specs.declared.Row.{Row}
+use Rattle.trace.specs.Questions.{Outcome, refused, accepted, checkTrace}
+use Rattle.trace.proofs.Laws.{accepted-passed, accepted-sound}
+use Rattle.trace.proofs.Refusals.{Bounded, refusal-bounded}
+use Rattle.races.specs.Races.{Verdict, free, racing, verdictOf}
+use Rattle.races.proofs.Verdicts.{race-out, racing-iff}
+use Rattle.checker.specs.declared.Judged.{Judged}
+use Rattle.checker.specs.declared.Judged.the-variants.{Free, Race, Refused}
+use Rattle.checker.specs.Judging.{judgedRows, judgedOf}
+
+-- at most 4,096 rows, the rows of a race among them, and the bounds of a refusal
+abbrev pub Small : Judged → Type 0
+Small (Free n) = n ≤ ROWS
+Small (Race n earlier later) = (n ≤ ROWS) × (earlier < later) × (later ≤ n)
+Small (Refused number place) = Bounded number place
+
+-- the rows of a race are rows of the trace
+verdict-small : (rows : List Row) (model : ℕ) → length rows ≤ ROWS → Small (judgedRows (length rows) (verdictOf rows model))
+verdict-small rows model h = go (verdictOf rows model) refl
+  where
+    go : (v : Verdict) → verdictOf rows model ≡ v → Small (judgedRows (length rows) v)
+    go free e = h
+    go (racing earlier later) e =
+        let (x, y, p, q, f) = racing-iff rows model earlier later .0 e in
+        let o = race-out rows model x y (f .is-race) in
+        (h, omega arith, omega arith)
+
+pub judged-small : (text : List ℕ) (header model R P limit a b : ℕ) → Small (judgedOf model (checkTrace text header model R P limit a b))
+judged-small text header model R P limit a b = go (checkTrace text header model R P limit a b) refl
+  where
+    go : (o : Outcome) → checkTrace text header model R P limit a b ≡ o → Small (judgedOf model o)
+    go (refused number place) e = refusal-bounded text header model R P limit a b e
+    go (accepted rows) e =
+        let p = accepted-passed text header model R P limit a b rows e in
+        let s = accepted-sound header R P _ rows (p .1) in
+        verdict-small rows model (omega (arith, s .0, p .0 .few-rows))

@@ -1,0 +1,116 @@
+-- The number and the place of a refusal are small. Assumes nothing.
+use Prim.Native.Nat.{ℕ, _+_, _≤_}
+use native.Mathlib.Omega.{arith}
+use mathlib.Core.Path.{_≡_, refl, subst}
+use mathlib.Core.Bool.{Bool, true, false, cond}
+use mathlib.Core.List.{List, [], _∷_, _++_}
+use lib.ListN.{length, length-append}
+use lib.Dec.{eqb}
+use borrow.Author.Tests.{ltb-true, eqb-true, eqb-false}
+use Rattle.csv.specs.Reading.{Records, records, Ending, all-read, at-malformed, at-limit}
+use Rattle.models.specs.Limits.{ROWS}
+use Rattle.fields.specs.declared.Row.{Row}
+use Rattle.trace.specs.Rows.{rowOf}
+use Rattle.trace.specs.Questions.{Question, firstNo, callQuestions, isHeader, fieldQuestions, rowQuestions, Outcome, refused, accepted, judgeRows, judgeHeader, readTrace, checkTrace}
+use Rattle.trace.proofs.Laws.{all-yes, no-from, legal}
+
+-- no question has a number past m
+abbrev UpTo : ℕ → List Question → Type 0
+UpTo m [] = Unit {0}
+UpTo m (q ∷ qs) = (q .number ≤ m) × UpTo m qs
+
+-- so neither has the first No
+no-most : (m : ℕ) (qs : List Question) → UpTo m qs → firstNo qs ≤ m
+unfolding firstNo
+no-most m [] u = omega arith
+no-most m (q ∷ qs) u = go (q .yes) (no-most m qs (u .1))
+  where
+    go : (b : Bool) → firstNo qs ≤ m → cond b (firstNo qs) (q .number) ≤ m
+    go true h = h
+    go false h = u .0
+
+-- a refusal's number is 1 to 12, and its place at most one past the row limit
+abbrev Low : ℕ → Outcome → Type 0
+Low rowLimit (refused number place) = (1 ≤ number) × (number ≤ 12) × (place ≤ rowLimit + 1)
+Low rowLimit (accepted rows) = Unit {0}
+
+module _ (rowLimit processLimit : ℕ) where
+  -- records behind rows
+  low-rows : (before : List Row) (recs : List (List (List ℕ))) (ending : Ending) → length before ≤ rowLimit →
+      Low rowLimit (judgeRows rowLimit processLimit before recs ending)
+  unfolding judgeRows rowQuestions fieldQuestions
+  low-rows before [] all-read h = tt
+  low-rows before [] at-malformed h = omega arith
+  low-rows before [] at-limit h = omega arith
+  low-rows before (fields ∷ rest) ending h = go (low-rows (before ++ (rowOf fields ∷ [])) rest ending) (eqb first 0) refl
+    where
+      questions : List Question
+      questions = rowQuestions rowLimit processLimit before fields
+
+      first : ℕ
+      first = firstNo questions
+
+      behind : Outcome
+      behind = judgeRows rowLimit processLimit (before ++ (rowOf fields ∷ [])) rest ending
+
+      go : (length (before ++ (rowOf fields ∷ [])) ≤ rowLimit → Low rowLimit behind) → (b : Bool) → eqb first 0 ≡ b →
+          Low rowLimit (cond b behind (refused first (length before + 1)))
+      go ih true e =
+          let room = ltb-true (length before) rowLimit (all-yes questions (omega arith) (eqb-true first 0 e) .0) in
+          ih (simp length-append (omega arith))
+      go ih false e = (no-from 1 questions (omega arith) (eqb-false first 0 e), no-most 12 questions (omega arith), omega arith)
+
+  -- records behind a header
+  low-header : (recs : List (List (List ℕ))) (ending : Ending) → Low rowLimit (judgeHeader rowLimit processLimit recs ending)
+  unfolding judgeHeader
+  low-header [] all-read = omega arith
+  low-header [] at-malformed = omega arith
+  low-header [] at-limit = omega arith
+  low-header (fields ∷ rest) ending = go (isHeader fields)
+    where
+      go : (b : Bool) → Low rowLimit (cond b (judgeRows rowLimit processLimit [] rest ending) (refused 5 0))
+      go true = low-rows [] rest ending (omega arith)
+      go false = omega arith
+
+  -- the records of a text, with or without a header
+  low-read : (header : ℕ) (r : Records) → Low rowLimit (readTrace header rowLimit processLimit r)
+  unfolding readTrace
+  low-read header r = go (eqb header 0)
+    where
+      go : (b : Bool) →
+          Low rowLimit
+          (cond b (judgeRows rowLimit processLimit [] (r .rows) (r .ending)) (judgeHeader rowLimit processLimit (r .rows) (r .ending)))
+      go true = low-rows [] (r .rows) (r .ending) (omega arith)
+      go false = low-header (r .rows) (r .ending)
+
+-- the bounds of every refusal
+pub record Bounded (number place : ℕ) : Type 0 where
+  pub some : 1 ≤ number
+  pub few : number ≤ 12
+  pub placed : place ≤ ROWS + 1
+
+pub refusal-bounded : (text : List ℕ) (header model R P limit a b : ℕ) {number place : ℕ} →
+    checkTrace text header model R P limit a b ≡ refused number place → Bounded number place
+unfolding checkTrace callQuestions
+refusal-bounded text header model R P limit a b {number} {place} e = go (eqb first 0) refl e
+  where
+    questions : List Question
+    questions = callQuestions header model R P a b
+
+    first : ℕ
+    first = firstNo questions
+
+    go : (x : Bool) → eqb first 0 ≡ x → cond x (readTrace header R P (records text limit)) (refused first 0) ≡ refused number place →
+        Bounded number place
+    go true q e =
+        let l = legal header model R P a b (eqb-true first 0 q) .few-rows in
+        let h = subst (Low R) e (low-read R P header (records text limit)) in
+        record { some = h .0; few = h .1; placed = omega arith }
+    go false q e =
+        let n : first ≡ number = cc in
+        let p : _≡_ {A = ℕ} 0 place = cc in
+        record {
+          some = omega (arith, no-from 1 questions (omega arith) (eqb-false first 0 q));
+          few = omega (arith, no-most 12 questions (omega arith));
+          placed = omega arith;
+        }
