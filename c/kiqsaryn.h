@@ -33,9 +33,9 @@ extern "C" {
 uint64_t kiqsaryn_check_trace(const uint8_t *text, size_t text_len, uint32_t header, uint32_t model, uint32_t row_limit, uint32_t process_limit,
                               size_t byte_limit, uint32_t *rows, size_t rows_len, uint16_t *counts, size_t counts_len);
 
-/* The whole call on a trace: reads it as kiqsaryn_check_trace does, fills the counts of its rows, and judges it under the model. The answer is
- * four words of 16 bits. Of an accepted trace, from the lowest: the row count, the later and the earlier row of the first race, both 0 for
- * free, and 0. Of a refusal: its place in the lowest, its number in the highest, and 0 between. */
+/* The whole call on a trace: reads and refuses as kiqsaryn_check_trace does, and fills the counts of an accepted trace and judges it under the
+ * model. The answer is four words of 16 bits. Of an accepted trace, from the lowest: the row count, the later and the earlier row of the first
+ * race, both 0 for free, and 0. Of a refusal: its place in the lowest, its number in the highest, and 0 between. */
 uint64_t kiqsaryn_judge(const uint8_t *text, size_t text_len, uint32_t header, uint32_t model, uint32_t row_limit, uint32_t process_limit,
                         size_t byte_limit, uint32_t *rows, size_t rows_len, uint16_t *counts, size_t counts_len);
 

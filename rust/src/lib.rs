@@ -141,8 +141,7 @@ pub enum Judged {
     Refused { refusal: Refusal, place: u32 },
 }
 
-/// The whole call: reads a trace into the lent rows, fills their counts, and judges it under the model. The slices are left as `check_trace`
-/// leaves them where it refuses.
+/// The whole call: reads and refuses a trace as `check_trace` does, and fills the counts of an accepted one and judges it under the model.
 pub fn judge(text: &[u8], s: Settings, rows: &mut [u32], counts: &mut [u16]) -> Judged {
     // The three slices are live for the call, and the two lent for writing are borrowed by it alone.
     let answer = unsafe {

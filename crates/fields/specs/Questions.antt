@@ -41,7 +41,7 @@ abbrev pub numberIf : Bool → ℕ → List ℕ → Bool
 numberIf true below content = isNumber below content
 numberIf false below content = true
 
--- offsets and lengths are numbered from 0
+-- the bound of an offset and of a length, one more than the largest
 abbrev pub OFFSETS : ℕ
 OFFSETS = OFFSET-MAX + 1
 

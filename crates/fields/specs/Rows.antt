@@ -111,7 +111,7 @@ value content = valueFrom 0 content
 abbrev pub isNumber : ℕ → List ℕ → Bool
 isNumber below content = isPlain content && ltb (value content) below
 
--- that number, or what is none
+-- the number that a content is, and Bad where it is none
 unfoldable pub numberBelow : ℕ → List ℕ → Number
 numberBelow below content = cond (isNumber below content) (Plain (value content)) Bad
 

@@ -32,13 +32,13 @@ pub record Gives (o : Outcome) (answer : ℕ) (rows rows′ counts counts′ : L
   pub counts-left : counts′ ≡ countsLeft o counts
 
 -- The whole call's answer, in four words of 16 bits. Of an accepted trace, from the lowest: the row count, the later and the earlier row of the
--- first race, 0 for free, and 0. Of a refusal: the place in the lowest word, the number in the highest.
+-- first race, both 0 for free, and 0. Of a refusal: its place in the lowest, its number in the highest, and 0 between.
 abbrev pub packedJudged : Judged → ℕ
 packedJudged (judged.Free n) = n
 packedJudged (judged.Race n earlier later) = n + later * 65536 + earlier * 4294967296
 packedJudged (judged.Refused number place) = number * 281474976710656 + place
 
--- how it is read back
+-- the answer that such a number tells; the later row of a race is not 0
 abbrev pub unpackedJudged : ℕ → Judged
 unpackedJudged answer =
     let number = answer / 281474976710656 in
@@ -64,7 +64,7 @@ packedFound Free = 0
 packedFound (Race earlier later) = earlier * 4294967296 + later
 packedFound (Refused number) = number * 4294967296
 
--- how it is read back: the later row of a race is not 0
+-- the answer that such a number tells; the later row of a race is not 0
 abbrev pub unpackedFound : ℕ → Found
 unpackedFound answer =
     let high = answer / 4294967296 in

@@ -21,12 +21,13 @@ unfoldable pub processesIn : ℕ → ℕ → List ℕ → Bool
 processesIn zero processLimit xs = true
 processesIn (suc n) processLimit xs = processesIn n processLimit xs && ltb (rowIn xs n .process) processLimit
 
+-- the questions in their order
 unfoldable pub fillQuestions : ℕ → ℕ → List ℕ → ℕ → List Question
 fillQuestions n processLimit xs countsLength =
     record { number = 1; yes = longEnough n processLimit (length xs) countsLength }
     ∷ (record { number = 2; yes = countLimits n processLimit } ∷ (record { number = 10; yes = processesIn n processLimit xs } ∷ []))
 
--- that the counts were filled, or the first No
+-- done, or refused with the first No
 abbrev pub filledOf : ℕ → Filled
 filledOf first = cond (eqb first 0) Done (Refused first)
 

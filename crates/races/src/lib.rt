@@ -23,8 +23,8 @@ pub enum Found {
     Refused(u32),
 }
 
-// The verdict on the first n rows under a model. It fills the counts on the way. A refusal changes nothing: 1 for a slice that is too short, 2
-// for the model or a limit out of its range, 10 for a row whose process is not below the process limit.
+// The verdict on the first n rows under a model; the call fills their counts on the way. A refusal changes nothing: 1 for a slice that is too
+// short, 2 for the model or a limit out of its range, 10 for a row whose process is not below the process limit.
 pub fn verdict(rows: &[u32], n: u32, process_limit: u32, model: u32, counts: &mut [u16]) -> Found
     ensures answer { λ r. ⌜ r ≡ answerOf (firstNo (judgeQuestions n «process_limit» model (now (rows .entry)) (length (now (counts .entry))))) (now (rows .entry)) n model ⌝ }
     ensures left { λ r. ⌜ now (counts .exit) ≡ filledLeft (firstNo (judgeQuestions n «process_limit» model (now (rows .entry)) (length (now (counts .entry))))) n «process_limit» (now (rows .entry)) (now (counts .entry)) ⌝ }
