@@ -45,6 +45,7 @@ impl Machine {
     }
 }
 
+// The number is a process limit: 1 to 64.
 pub fn is_process_limit(n: u32) -> bool
     ensures { λ r. ⌜ r ≡ processLimit n ⌝ }
 {

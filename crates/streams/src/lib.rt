@@ -1,6 +1,8 @@
 // Standard input and output for programs: reading to the end and writing all, with a failed call told from the end of the input.
 ghost use mathlib.Core.Path.{_≡_};
 ghost use Prim.Native.Nat.{min};
+ghost use mathlib.Core.Bool.{true};
+ghost use lib.ListN.{length};
 ghost use Rattle.streams.specs.Moves.{outcomeOf, Within};
 
 // How many interrupted calls are made again before the call counts as failed.
@@ -73,8 +75,11 @@ pub fn read_all(fd: i32, buf: &mut [u8]) -> Read
     Read::Whole(done)
 }
 
-// Writes all bytes and answers true, or answers false at the first write that fails or takes nothing. An interrupted write is made again.
-pub fn write_all(fd: i32, bytes: &[u8]) -> bool {
+// Writes all bytes and answers true, or answers false at the first write that fails or takes nothing. An interrupted write is made again. No
+// bytes are always written.
+pub fn write_all(fd: i32, bytes: &[u8]) -> bool
+    ensures { λ r. ⌜ (length (now (bytes .entry)) ≡ 0 → r ≡ true) ⌝ }
+{
     let mut done = 0;
     let mut tries = TRIES;
     while done < bytes.len() {

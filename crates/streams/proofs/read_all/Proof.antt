@@ -1,3 +1,4 @@
+-- `streams::read_all` meets its contract. The loop's invariant: the bytes read so far lie within the buffer, whose length stays. Assumes nothing.
 use Prim.Native.Nat.{_≤_, _+_, _-_}
 use native.Mathlib.Omega.{arith}
 use mathlib.Core.Path.{_≡_, sym, _∙_}
@@ -6,11 +7,6 @@ use lib.ListN.{length}
 use Rattle.streams.proofs.Outcomes.{took-some, sub-positive, within-rest, is-within, back-length, back-within}
 use Rattle.streams.proofs.read_all.Statement.{statement}
 use Rattle.streams.proofs.read_all.Tie as tie
-use Rattle.streams.proofs.read_all.Reads as reads
-use Rattle.streams.proofs.read_all.Lts as lts
-use Rattle.libc.proofs.read.Reads as read-reads
-use Rattle.os.proofs.errno.Reads as errno-reads
-use Rattle.streams.proofs.outcome.Reads as outcome-reads
 
 abbrev Inv-loop : tie.InvT-loop
 Inv-loop fd buf₀ done₀ tries₀ buf done tries = (done ≤ length buf) × (length buf ≡ length buf₀)
@@ -18,109 +14,83 @@ Inv-loop fd buf₀ done₀ tries₀ buf done tries = (done ≤ length buf) × (l
 abbrev μ-loop : tie.MeasureT-loop
 μ-loop fd buf₀ done₀ tries₀ buf done tries = (length buf - done) + tries
 
--- src/lib.rt:52:5
 loop-holds : tie.Need-loop-holds Inv-loop μ-loop
 loop-holds c = search needs
 
--- src/lib.rt:53:20
 sub-room : tie.Need-sub-room Inv-loop μ-loop
 sub-room c = search needs
 
--- src/lib.rt:54:34
 sub-read : tie.Need-sub-read Inv-loop μ-loop
 sub-read c = search needs
 
--- src/lib.rt:54:34
 part-read-start : tie.Need-part-read-start Inv-loop μ-loop
 part-read-start c = search needs
 
--- src/lib.rt:54:34
 part-read-end : tie.Need-part-read-end Inv-loop μ-loop
 part-read-end c = search needs
 
--- src/lib.rt:54:13
 read-requires : tie.Need-read-requires Inv-loop μ-loop
 read-requires c κs = search needs
 
--- src/lib.rt:55:34
 errno-requires : tie.Need-errno-requires Inv-loop μ-loop
 errno-requires c κs = search needs
 
--- src/lib.rt:55:15
 outcome-requires : tie.Need-outcome-requires Inv-loop μ-loop
 outcome-requires c κs = search needs
 
--- src/lib.rt:56:25
 enum-known-n : tie.Need-enum-known-n Inv-loop μ-loop
 enum-known-n c = search needs
 
--- src/lib.rt:57:17
 add-done : tie.Need-add-done Inv-loop μ-loop
 add-done c = let t = took-some _ _ _ _ (sub-positive (c .before .before .before .before .before .before .before .before .before .loop-test .taken)) (sym (c .before .before .before .outcome .ensures) ∙ c .before .n .given .1) in record { fits = omega (arith, t .0, t .1, c .before .before .before .before .before .before .before .before .before .before .loop .inv) }
 
--- src/lib.rt:52:5
 loop-less : tie.Need-loop-less Inv-loop μ-loop
 loop-less c = let t = took-some _ _ _ _ (sub-positive (c .before .before .before .before .before .before .before .before .before .loop-test .taken)) (sym (c .before .before .before .outcome .ensures) ∙ c .before .n .given .1) in omega (arith, t .0, t .1, c .before .before .before .before .before .before .before .before .before .before .loop .inv, c .before .before .before .before .before .before .before .before .before .loop-test .taken)
 
--- src/lib.rt:52:5
 loop-again : tie.Need-loop-again Inv-loop μ-loop
 loop-again c =
     let t = took-some _ _ _ _ (sub-positive (c .before .before .before .before .before .before .before .before .before .loop-test .taken)) (sym (c .before .before .before .outcome .ensures) ∙ c .before .n .given .1) in
     (back-within (c .before .before .before .before .before .before .before .before .before .before .loop .done) (c .before .before .before .before .before .before .before .before .before .before .loop .buf) (c .before .before .before .before .before .before .before .read .last .1 .0) (c .before .before .before .before .before .before .before .read .kept .1 .0) _ (within-rest (t .1) (c .before .before .before .before .before .before .before .before .before .before .loop .inv .0)) .0, back-length (c .before .before .before .before .before .before .before .before .before .before .loop .done) (c .before .before .before .before .before .before .before .before .before .before .loop .buf) (c .before .before .before .before .before .before .before .read .last .1 .0) (c .before .before .before .before .before .before .before .read .kept .1 .0) ∙ c .before .before .before .before .before .before .before .before .before .before .loop .inv .1)
 
--- src/lib.rt:60:17
 enum-told : tie.Need-enum-told Inv-loop μ-loop
 enum-told c = search needs
 
--- src/lib.rt:60:17
 same-length : tie.Need-same-length Inv-loop μ-loop
 same-length c = search needs
 
--- src/lib.rt:60:17
 returns : tie.Need-returns Inv-loop μ-loop
 returns c = back-within (c .before .before .before .before .before .before .before .before .before .loop .done) (c .before .before .before .before .before .before .before .before .before .loop .buf) (c .before .before .before .before .before .before .read .last .1 .0) (c .before .before .before .before .before .before .read .kept .1 .0) _ (c .before .before .before .before .before .before .before .before .before .loop .inv .0)
 
--- src/lib.rt:63:20
 enum-told-2 : tie.Need-enum-told-2 Inv-loop μ-loop
 enum-told-2 c = search needs
 
--- src/lib.rt:64:21
 same-length-2 : tie.Need-same-length-2 Inv-loop μ-loop
 same-length-2 c = search needs
 
--- src/lib.rt:64:21
 returns-2 : tie.Need-returns-2 Inv-loop μ-loop
 returns-2 c = search needs
 
--- src/lib.rt:66:17
 sub-tries : tie.Need-sub-tries Inv-loop μ-loop
 sub-tries c = search needs
 
--- src/lib.rt:52:5
 loop-less-2 : tie.Need-loop-less-2 Inv-loop μ-loop
 loop-less-2 c = search needs
 
--- src/lib.rt:52:5
 loop-again-2 : tie.Need-loop-again-2 Inv-loop μ-loop
 loop-again-2 c = search needs
 
--- src/lib.rt:69:17
 enum-told-3 : tie.Need-enum-told-3 Inv-loop μ-loop
 enum-told-3 c = search needs
 
--- src/lib.rt:69:17
 same-length-3 : tie.Need-same-length-3 Inv-loop μ-loop
 same-length-3 c = search needs
 
--- src/lib.rt:69:17
 returns-3 : tie.Need-returns-3 Inv-loop μ-loop
 returns-3 c = search needs
 
--- src/lib.rt:47:1
 same-length-4 : tie.Need-same-length-4 Inv-loop μ-loop
 same-length-4 c = search needs
 
--- src/lib.rt:47:1
 returns-4 : tie.Need-returns-4 Inv-loop μ-loop
 returns-4 c = is-within _ _ (c .before .loop .inv .0)
 

@@ -1,3 +1,4 @@
+-- `streams::write_all` meets its contract. The loop's invariant: the bytes written so far are no more than there are. Assumes nothing.
 use Prim.Native.Nat.{_≤_, _+_, _-_}
 use native.Mathlib.Omega.{arith}
 use mathlib.Core.Path.{_≡_, sym, _∙_}
@@ -6,11 +7,6 @@ use lib.ListN.{length}
 use Rattle.streams.proofs.Outcomes.{took-some, sub-positive, within-rest}
 use Rattle.streams.proofs.write_all.Statement.{statement}
 use Rattle.streams.proofs.write_all.Tie as tie
-use Rattle.streams.proofs.write_all.Reads as reads
-use Rattle.streams.proofs.write_all.Lts as lts
-use Rattle.libc.proofs.write.Reads as write-reads
-use Rattle.os.proofs.errno.Reads as errno-reads
-use Rattle.streams.proofs.outcome.Reads as outcome-reads
 
 abbrev Inv-loop : tie.InvT-loop
 Inv-loop fd bytes done₀ tries₀ done tries = (done ≤ length bytes)
@@ -18,91 +14,69 @@ Inv-loop fd bytes done₀ tries₀ done tries = (done ≤ length bytes)
 abbrev μ-loop : tie.MeasureT-loop
 μ-loop fd bytes done₀ tries₀ done tries = (length bytes - done) + tries
 
--- src/lib.rt:80:5
 loop-holds : tie.Need-loop-holds Inv-loop μ-loop
 loop-holds c = search needs
 
--- src/lib.rt:81:20
 sub-room : tie.Need-sub-room Inv-loop μ-loop
 sub-room c = search needs
 
--- src/lib.rt:82:35
 sub-write : tie.Need-sub-write Inv-loop μ-loop
 sub-write c = search needs
 
--- src/lib.rt:82:35
 part-write-start : tie.Need-part-write-start Inv-loop μ-loop
 part-write-start c = search needs
 
--- src/lib.rt:82:35
 part-write-end : tie.Need-part-write-end Inv-loop μ-loop
 part-write-end c = search needs
 
--- src/lib.rt:82:13
 write-requires : tie.Need-write-requires Inv-loop μ-loop
 write-requires c κs = search needs
 
--- src/lib.rt:83:34
 errno-requires : tie.Need-errno-requires Inv-loop μ-loop
 errno-requires c κs = search needs
 
--- src/lib.rt:83:15
 outcome-requires : tie.Need-outcome-requires Inv-loop μ-loop
 outcome-requires c κs = search needs
 
--- src/lib.rt:84:25
 enum-known-n : tie.Need-enum-known-n Inv-loop μ-loop
 enum-known-n c = search needs
 
--- src/lib.rt:85:17
 add-done : tie.Need-add-done Inv-loop μ-loop
 add-done c = let t = took-some _ _ _ _ (sub-positive (c .before .before .before .before .before .before .before .loop-test .taken)) (sym (c .before .before .before .outcome .ensures) ∙ c .before .n .given .1) in record { fits = omega (arith, t .0, t .1, c .before .before .before .before .before .before .before .before .loop .inv) }
 
--- src/lib.rt:80:5
 loop-less : tie.Need-loop-less Inv-loop μ-loop
 loop-less c = let t = took-some _ _ _ _ (sub-positive (c .before .before .before .before .before .before .before .loop-test .taken)) (sym (c .before .before .before .outcome .ensures) ∙ c .before .n .given .1) in omega (arith, t .0, t .1, c .before .before .before .before .before .before .before .before .loop .inv, c .before .before .before .before .before .before .before .loop-test .taken)
 
--- src/lib.rt:80:5
 loop-again : tie.Need-loop-again Inv-loop μ-loop
 loop-again c = let t = took-some _ _ _ _ (sub-positive (c .before .before .before .before .before .before .before .loop-test .taken)) (sym (c .before .before .before .outcome .ensures) ∙ c .before .n .given .1) in within-rest (t .1) (c .before .before .before .before .before .before .before .before .loop .inv)
 
--- src/lib.rt:88:17
 enum-told : tie.Need-enum-told Inv-loop μ-loop
 enum-told c = search needs
 
--- src/lib.rt:88:17
 returns : tie.Need-returns Inv-loop μ-loop
-returns c = search needs
+returns c = λ e. absurd (omega (arith, e, c .before .before .before .before .before .before .loop-test .taken))
 
--- src/lib.rt:91:20
 enum-told-2 : tie.Need-enum-told-2 Inv-loop μ-loop
 enum-told-2 c = search needs
 
--- src/lib.rt:92:21
 returns-2 : tie.Need-returns-2 Inv-loop μ-loop
-returns-2 c = search needs
+returns-2 c = λ e. absurd (omega (arith, e, c .before .before .before .before .before .before .before .loop-test .taken))
 
--- src/lib.rt:94:17
 sub-tries : tie.Need-sub-tries Inv-loop μ-loop
 sub-tries c = search needs
 
--- src/lib.rt:80:5
 loop-less-2 : tie.Need-loop-less-2 Inv-loop μ-loop
 loop-less-2 c = search needs
 
--- src/lib.rt:80:5
 loop-again-2 : tie.Need-loop-again-2 Inv-loop μ-loop
 loop-again-2 c = search needs
 
--- src/lib.rt:97:17
 enum-told-3 : tie.Need-enum-told-3 Inv-loop μ-loop
 enum-told-3 c = search needs
 
--- src/lib.rt:97:17
 returns-3 : tie.Need-returns-3 Inv-loop μ-loop
-returns-3 c = search needs
+returns-3 c = λ e. absurd (omega (arith, e, c .before .before .before .before .before .before .loop-test .taken))
 
--- src/lib.rt:77:1
 returns-4 : tie.Need-returns-4 Inv-loop μ-loop
 returns-4 c = search needs
 
