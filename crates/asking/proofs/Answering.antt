@@ -5,7 +5,7 @@ use mathlib.Core.Bool.{Bool, true, false, cond}
 use mathlib.Core.List.{List, _++_}
 use lib.Dec.{eqb}
 use borrow.Author.Tests.{eqb-true, ne-eqb}
-use Rattle.fields.specs.declared.Row.{Row}
+use Rattle.rows.specs.declared.Row.{Row}
 use Rattle.layers.specs.Layers.{ofFile}
 use Rattle.layers.specs.Steps.{refusing, Step, decided}
 use Rattle.extents.specs.declared.Answer as extents

@@ -12,21 +12,22 @@ use lib.ListN.{length, take, drop, length-drop}
 use lib.Seq.{ext-getD, getD-drop}
 use lib.Dec.{leb, ltb, eqb}
 use borrow.Author.Tests.{le-leb, eq-eqb, ne-eqb, eqb-true, eqb-false}
-use Rattle.models.specs.Limits.{FILES}
-use Rattle.models.specs.Operations.{WRITE}
+use Rattle.rows.specs.Limits.{FILES}
+use Rattle.rows.specs.Kinds.{WRITE}
 use Rattle.models.specs.Table.{publishes, refreshes}
-use Rattle.fields.specs.declared.Row.{Row}
+use Rattle.rows.specs.declared.Row.{Row}
 use Rattle.runs.specs.Cells.{Bytes, cellOf, overwrite, published, settled, refreshed}
 use Rattle.runs.specs.Runs.{runsOf}
 use Rattle.runs.specs.Maps.{mapFor, lawful, lawfulPublished, mapAt, withMap}
 use Rattle.layers.specs.Layers.{Layers, withView, publishing, refreshing, afterRow}
-use Rattle.layers.specs.States.{Header, mapsLength, allBelow, processLimit, lawfulState, layersIn, layersTo, layersFit}
-use Rattle.layers.specs.States.{lawfulPlain}
+use Rattle.layers.specs.States.{Header, mapsLength, processLimit, lawfulState, layersIn, layersTo, layersFit, lawfulPlain}
+use Rattle.rows.specs.Counting.{allBelow}
 use Rattle.layers.specs.Steps.{makingQuestions, plainMakingQuestions}
 use Rattle.layers.proofs.Stepping.{AllYes}
 use Rattle.layers.proofs.Slices.{all-in, all-out}
 use Rattle.layers.proofs.Lawful.{to-is, here-fit, state-told, state-parts, map-below, map-in, shared-again, view-again}
-use Rattle.runs.proofs.Trips.{both, not-passed, length-map}
+use Rattle.runs.proofs.Trips.{length-map}
+use Rattle.rows.proofs.Bools.{and-out, not-passed}
 use Rattle.runs.proofs.Sides.{with-length, with-other, at-same, at-other}
 use Rattle.views.specs.Pairs.{twoMaps}
 use Rattle.extents.specs.Entries.{bothMaps}
@@ -87,9 +88,9 @@ module _ (h : Header) (xs : List ℕ) where
   pub plain-making : lawfulPlain h xs ≡ true → AllYes (plainMakingQuestions h (length xs)) × (lawfulPublished (mapAt (h .space) 0 xs) ≡ true)
   unfolding lawfulPlain plainMakingQuestions
   plain-making law =
-      let e1 = both (processLimit (h .processes)) _ law in
-      let e2 = both (ltb (h .file) FILES) _ (e1 .1) in
-      let e3 = both (leb (4 * h .space) (length xs)) _ (e2 .1) in
+      let e1 = and-out (processLimit (h .processes)) _ law in
+      let e2 = and-out (ltb (h .file) FILES) _ (e1 .1) in
+      let e3 = and-out (leb (4 * h .space) (length xs)) _ (e2 .1) in
       ((e3 .0, (e1 .0, (e2 .0, tt))), e3 .1)
 
 module _ (h : Header) (xs : List ℕ) (law : lawfulState h xs ≡ true) (p : ℕ) (below : p < h .processes) where

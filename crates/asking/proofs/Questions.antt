@@ -8,18 +8,17 @@ use lib.ListN.{drop, getD}
 use lib.Seq.{getD-drop}
 use lib.Dec.{leb, ltb, eqb}
 use borrow.Author.Tests.{le-leb, lt-leb, leb-true, lt-ltb, le-ltb, ltb-true, eq-eqb, ne-eqb}
-use Rattle.models.specs.Limits.{ROWS, OFFSET-MAX}
-use Rattle.models.specs.Operations.{READ, WRITE, COMMIT, SEND}
-use Rattle.fields.specs.declared.Row.{Row}
-use Rattle.trace.specs.Rows.{rowHere}
-use Rattle.trace.specs.Questions.{Question, firstNo}
-use Rattle.order.specs.Clock.{rowIn}
+use Rattle.rows.specs.Limits.{ROWS, OFFSET-MAX}
+use Rattle.rows.specs.Kinds.{READ, WRITE, COMMIT, SEND}
+use Rattle.rows.specs.declared.Row.{Row}
+use Rattle.rows.specs.Rows.{rowHere, rowIn}
+use Rattle.rows.specs.Questions.{Question, firstNo}
 use Rattle.runs.specs.Runs.{Run}
 use Rattle.layers.specs.Layers.{ofFile}
 use Rattle.layers.specs.States.{Header, processLimit}
 use Rattle.layers.specs.Steps.{usesRange, rowAsked, roomAsked}
 use Rattle.layers.proofs.Stepping.{AllYes}
-use Rattle.runs.proofs.Trips.{both}
+use Rattle.rows.proofs.Bools.{and-out}
 use Rattle.asking.specs.Answers.{fileAsked, rangeAsked}
 
 -- ---- Limits and slices
@@ -40,23 +39,6 @@ module _ (n rows counts : ℕ) where
   -- rows that fit: the counts decide
   pub rows-long : n ≤ rows / 6 → leb n counts ≡ leb (6 * n) rows && leb n counts
   rows-long h = sym (λ i. le-leb (6 * n) rows (omega arith) i && leb n counts)
-
--- six numbers are the row at a place
-pub row-read : (xs : List ℕ) (k : ℕ) →
-    record {
-      process = getD xs (k * 6) 0;
-      kind = getD xs (k * 6 + 1) 0;
-      file = getD xs (k * 6 + 2) 0;
-      offset = getD xs (k * 6 + 3) 0;
-      length = getD xs (k * 6 + 4) 0;
-      message = getD xs (k * 6 + 5) 0;
-    } ≡ rowIn xs k
-unfolding rowHere
-row-read xs k =
-    let first : k * 6 ≡ k * 6 + 0 = omega arith in
-    let zeroth = (λ j. getD xs (first j) 0) ∙ sym (getD-drop (k * 6) xs 0 0) in
-    let at : (n : ℕ) → getD xs (k * 6 + n) 0 ≡ getD (drop (k * 6) xs) n 0 = λ n. sym (getD-drop (k * 6) xs n 0) in
-    λ i. record { process = zeroth i; kind = at 1 i; file = at 2 i; offset = at 3 i; length = at 4 i; message = at 5 i }
 
 -- ---- A row of the file
 
@@ -225,17 +207,17 @@ module _ (h : Header) (r : Row) (number : ℕ) where
     -- a row number
     pub asked-number : (1 ≤ number) × (number ≤ ROWS)
     unfolding rowAsked
-    asked-number = let b = both (leb 1 number) _ (all .1 .0) in (leb-true _ _ (b .0), leb-true _ _ (b .1))
+    asked-number = let b = and-out (leb 1 number) _ (all .1 .0) in (leb-true _ _ (b .0), leb-true _ _ (b .1))
 
     -- a process below the limit
     pub asked-process : r .process < h .processes
     unfolding rowAsked
-    asked-process = ltb-true _ _ (both (ltb (r .process) (h .processes)) _ (all .1 .1 .0) .0)
+    asked-process = ltb-true _ _ (and-out (ltb (r .process) (h .processes)) _ (all .1 .1 .0) .0)
 
     -- and a range that ends in time, where it is used
     pub asked-range : r .kind ≤ 1 → (r .offset ≤ OFFSET-MAX) × (r .length ≤ OFFSET-MAX) × (r .offset + r .length ≤ OFFSET-MAX)
     unfolding rowAsked
     asked-range range =
         let u = uses r range in
-        let bounds = both (leb (r .offset) OFFSET-MAX) _ (rw u at (both (ltb (r .process) (h .processes)) _ (all .1 .1 .0) .1)) in
+        let bounds = and-out (leb (r .offset) OFFSET-MAX) _ (rw u at (and-out (ltb (r .process) (h .processes)) _ (all .1 .1 .0) .1)) in
         (leb-true _ _ (bounds .0), leb-true _ _ (bounds .1), leb-true _ _ (rw u at (all .1 .1 .1 .0)))

@@ -4,11 +4,11 @@ use mathlib.Core.Path.{_≡_}
 use mathlib.Core.Bool.{true, cond, _&&_}
 use mathlib.Core.List.{List, [], _∷_, _++_}
 use lib.Dec.{leb, ltb, eqb}
-use Rattle.models.specs.Limits.{ROWS, OFFSET-MAX}
-use Rattle.trace.specs.Questions.{Question, firstNo}
+use Rattle.rows.specs.Limits.{ROWS, OFFSET-MAX}
+use Rattle.rows.specs.Questions.{Question, firstNo}
 use Rattle.extents.specs.declared.Answer as extents
 use Rattle.extents.specs.declared.Answer.the-variants.{Done, Listed, Refused}
-use Rattle.fields.specs.declared.Row.{Row}
+use Rattle.rows.specs.declared.Row.{Row}
 use Rattle.layers.specs.Layers.{ofFile}
 use Rattle.layers.specs.States.{Header, lawfulState}
 use Rattle.layers.specs.Steps.{Answer, refusing, done, listed, Step, rowAsked}

@@ -5,14 +5,14 @@ ghost use mathlib.Core.Bool.{_&&_};
 ghost use mathlib.Core.List.{_++_};
 ghost use lib.ListN.{length, drop, replicate};
 ghost use lib.Dec.{leb};
-ghost use Rattle.trace.specs.Questions.{firstNo};
-ghost use Rattle.order.specs.Clock.{rowIn};
+ghost use Rattle.rows.specs.Questions.{firstNo};
+ghost use Rattle.rows.specs.Rows.{rowIn};
 ghost use Rattle.layers.specs.Layers.{ofFile};
 ghost use Rattle.layers.specs.States.{processLimit};
 ghost use Rattle.layers.specs.Steps.{rowAsked};
 ghost use Rattle.asking.specs.Answers.{headerOf, fileAsked, rangeAsked, refusalOf, countOf};
 use extents::Answer;
-use fields::Row;
+use rows::Row;
 
 // What a machine serves: a model, processes below a limit, one file, and maps with space for so many pieces each. A plain file's model is not
 // read.
@@ -53,18 +53,6 @@ pub fn is_process_limit(n: u32) -> bool
         return false;
     }
     n <= Machine::PROCESSES
-}
-
-// Puts 0 into the first n numbers.
-pub fn clear(maps: &mut [u32], n: usize)
-    requires { ⌜ n ≤ length (now maps) ⌝ }
-    ensures { λ _. ⌜ now (maps .exit) ≡ replicate n 0 ++ drop n (now (maps .entry)) ⌝ }
-{
-    let mut i = 0;
-    while i < n {
-        maps[i] = 0;
-        i += 1;
-    }
 }
 
 // The first No of the questions 15, 14, 10 and 11, and 0 where there is none. The kind decides which fields are used.
@@ -139,22 +127,6 @@ pub fn slices_fit(rows_len: usize, counts_len: usize, n: u32) -> bool
         return false;
     }
     all <= counts_len
-}
-
-// The row at a place.
-pub fn row_at(rows: &[u32], k: usize) -> Row
-    requires { ⌜ k * 6 + 6 ≤ length (now rows) ⌝ }
-    ensures { λ r. ⌜ r ≡ rowIn (now (rows .entry)) k ⌝ }
-{
-    let at = k * 6;
-    Row {
-        process: rows[at],
-        kind: rows[at + 1],
-        file: rows[at + 2],
-        offset: rows[at + 3],
-        length: rows[at + 4],
-        message: rows[at + 5],
-    }
 }
 
 // The number of a refusal, and 0 for any other answer.

@@ -2,8 +2,8 @@
 use asking::Machine;
 use checker::Judged;
 use extents::Answer;
-use fields::Row;
 use machine::Made;
+use rows::Row;
 
 fn put(text: &[u8]) {
     io::write_all(1, text);

@@ -8,8 +8,9 @@ use lib.ListN.{length, take}
 use lib.Seq.{length-take-le, take-all}
 use lib.Dec.{eqb, lit<}
 use Rattle.csv.proofs.Cutting.{records-cut}
-use Rattle.models.specs.Operations.{POSIX}
-use Rattle.trace.specs.Questions.{firstNo, callQuestions, readTrace, checkTrace, refused}
+use Rattle.models.specs.Models.{POSIX}
+use Rattle.trace.specs.Questions.{callQuestions, readTrace, checkTrace, refused}
+use Rattle.rows.specs.Questions.{firstNo}
 use Rattle.checker.specs.Report.{BYTES, INPUT, REPORT-ROWS, REPORT-PROCESSES, readByProgram, reportLength, reportIn}
 use Rattle.checker.proofs.Reports.{Front}
 

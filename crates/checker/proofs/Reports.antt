@@ -9,17 +9,17 @@ use lib.Seq.{length-take-le}
 use borrow.Author.Tests.{le-leb, lt-leb}
 use Rattle.print.specs.Puts.{lay, putIn, putEnd}
 use Rattle.print.proofs.Laying.{lay-length}
-use Rattle.trace.specs.Rows.{rowsIn}
+use Rattle.rows.specs.Rows.{rowsIn}
 use Rattle.trace.specs.declared.Checked.{Checked}
 use Rattle.trace.specs.declared.Checked.the-variants as checked
-use Rattle.trace.specs.Questions.{firstNo, Outcome, refused, accepted, Leaves}
+use Rattle.trace.specs.Questions.{Outcome, refused, accepted, Leaves}
+use Rattle.rows.specs.Questions.{firstNo}
 use Rattle.trace.proofs.Whole.{refused-told}
 use Rattle.races.specs.declared.Found.{Found}
 use Rattle.races.specs.declared.Found.the-variants.{Free, Race, Refused}
 use Rattle.races.specs.Races.{Verdict, free, racing, verdictOf}
 use Rattle.races.specs.Scan.{judgeQuestions, foundOf, answerOf}
-use Rattle.checker.specs.Report.{lineEnd, heading, posix, commit, session, mpiio, freeWords, raceWord, refusedWord}
-use Rattle.checker.specs.Report.{pair, verdictWords, modelLine, reportOf, readByProgram, reportLength, reportIn}
+use Rattle.checker.specs.Report.{lineEnd, heading, posix, commit, session, mpiio, freeWords, raceWord, refusedWord, pair, verdictWords, modelLine, reportOf, readByProgram, reportLength, reportIn}
 use Rattle.checker.proofs.Lines.{pair-most, line-most, Laid, put-laid, laid-length, then}
 use Rattle.checker.proofs.Verdicts.{passes-other, outcome, told, rows-again}
 

@@ -4,8 +4,8 @@ use native.Mathlib.Omega.{arith}
 use mathlib.Core.Path.{_≡_, refl}
 use mathlib.Core.List.{List}
 use lib.ListN.{length}
-use Rattle.models.specs.Limits.{ROWS}
-use Rattle.fields.specs.declared.Row.{Row}
+use Rattle.rows.specs.Limits.{ROWS}
+use Rattle.rows.specs.declared.Row.{Row}
 use Rattle.trace.specs.Questions.{Outcome, refused, accepted, checkTrace}
 use Rattle.trace.proofs.Laws.{accepted-passed, accepted-sound}
 use Rattle.trace.proofs.Refusals.{Bounded, refusal-bounded}

@@ -5,20 +5,21 @@ use native.Mathlib.Nat.{mul-le-mul-right}
 use mathlib.Core.Path.{_≡_, refl, sym, ap, _∙_}
 use mathlib.Core.List.{List, _++_}
 use lib.ListN.{length, replicate, length-append, length-replicate}
-use Rattle.models.specs.Limits.{MODELS}
+use Rattle.rows.specs.Limits.{MODELS}
 use Rattle.csv.specs.Reading.{records}
-use Rattle.fields.specs.declared.Row.{Row}
+use Rattle.rows.specs.declared.Row.{Row}
 use Rattle.trace.specs.declared.Checked.{Checked}
 use Rattle.trace.specs.declared.Checked.the-variants as checked
-use Rattle.trace.specs.Rows.{numbers, rowsIn}
-use Rattle.trace.specs.Questions.{firstNo, Outcome, accepted, checkTrace, rowsLeft, countsLeft, Leaves}
-use Rattle.trace.proofs.Laws.{accepted-passed, accepted-sound, length-numbers, rows-left-back}
+use Rattle.rows.specs.Rows.{numbers, rowsIn, rowAt}
+use Rattle.trace.specs.Questions.{Outcome, accepted, checkTrace, rowsLeft, countsLeft, Leaves}
+use Rattle.rows.specs.Questions.{firstNo}
+use Rattle.trace.proofs.Laws.{accepted-passed, accepted-sound, rows-left-back}
+use Rattle.rows.proofs.Slices.{length-numbers, row-in}
 use Rattle.trace.proofs.Whole.{accepted-told, refused-told}
-use Rattle.order.specs.Order.{rowAt, countsOf}
+use Rattle.order.specs.Order.{countsOf}
 use Rattle.order.specs.Filling.{fillQuestions, filledLeft}
 use Rattle.order.proofs.Asking.{all-asked}
-use Rattle.order.proofs.Filling.{row-in}
-use Rattle.order.proofs.Sounds.{sound-row}
+use Rattle.trace.proofs.Sounds.{sound-row}
 use Rattle.races.specs.declared.Found.{Found}
 use Rattle.races.specs.declared.Found.the-variants as found
 use Rattle.races.specs.Races.{Verdict, free, racing, verdictOf}

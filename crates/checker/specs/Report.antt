@@ -4,9 +4,9 @@ use mathlib.Core.Bool.{cond}
 use mathlib.Core.List.{List, [], _∷_, _++_}
 use lib.ListN.{length, drop}
 use lib.Dec.{leb}
-use Rattle.models.specs.Operations.{POSIX, COMMIT-MODEL, SESSION, MPI-IO}
+use Rattle.models.specs.Models.{POSIX, COMMIT-MODEL, SESSION, MPI-IO}
 use Rattle.print.specs.Decimal.{decimalOf}
-use Rattle.fields.specs.declared.Row.{Row}
+use Rattle.rows.specs.declared.Row.{Row}
 use Rattle.trace.specs.Questions.{Outcome, refused, accepted, checkTrace}
 use Rattle.races.specs.Races.{Verdict, free, racing, verdictOf}
 

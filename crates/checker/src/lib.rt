@@ -2,8 +2,9 @@
 ghost use Prim.Native.Nat.{_+_, _≤_, _<_};
 ghost use mathlib.Core.Path.{_≡_};
 ghost use lib.ListN.{length, take};
-ghost use Rattle.trace.specs.Rows.{rowsIn};
-ghost use Rattle.trace.specs.Questions.{firstNo, checkTrace, accepted};
+ghost use Rattle.rows.specs.Rows.{rowsIn};
+ghost use Rattle.trace.specs.Questions.{checkTrace, accepted};
+ghost use Rattle.rows.specs.Questions.{firstNo};
 ghost use Rattle.print.specs.Puts.{lay};
 ghost use Rattle.races.specs.Races.{verdictOf};
 ghost use Rattle.races.specs.Scan.{judgeQuestions};

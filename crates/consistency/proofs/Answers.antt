@@ -8,9 +8,9 @@ use mathlib.Core.List.{List, [], _++_}
 use lib.ListN.{length, drop}
 use lib.Dec.{leb, eqb}
 use borrow.Author.Tests.{leb-true, ltb-true}
-use Rattle.models.specs.Operations.{READ}
-use Rattle.fields.specs.declared.Row.{Row}
-use Rattle.order.proofs.Below.{and-out}
+use Rattle.rows.specs.Kinds.{READ}
+use Rattle.rows.specs.declared.Row.{Row}
+use Rattle.rows.proofs.Bools.{and-out}
 use Rattle.runs.specs.Cells.{Bytes, numberIn, inRange}
 use Rattle.runs.specs.Runs.{piecesOf}
 use Rattle.runs.specs.Maps.{threes}

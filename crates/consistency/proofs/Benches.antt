@@ -4,19 +4,18 @@ use native.Mathlib.Omega.{arith}
 use native.Mathlib.Decide.{decLt}
 use mathlib.Core.Path.{_≡_, refl, sym, ap, _∙_}
 use mathlib.Core.List.{map, List, [], _∷_, _++_}
-use Rattle.models.specs.Operations.{WRITE, COMMIT, COMMIT-MODEL}
+use Rattle.rows.specs.Kinds.{WRITE, COMMIT}
+use Rattle.models.specs.Models.{COMMIT-MODEL}
 use Rattle.models.specs.Table.{publishes, refreshes}
-use Rattle.csv.specs.Reading.{records, recordsFrom, onFound, readAt, fieldsFrom, onStop, prepend, fieldAt}
-use Rattle.csv.specs.Reading.{afterCR, stopOf, run, isText, contentOf, sameBytes}
-use Rattle.fields.specs.declared.Row.{Row}
+use Rattle.csv.specs.Reading.{records, recordsFrom, onFound, readAt, fieldsFrom, onStop, prepend, fieldAt, afterCR, stopOf, run, isText, contentOf, sameBytes}
+use Rattle.rows.specs.declared.Row.{Row}
 use Rattle.trace.specs.Rows.{wordOf, usedBy, allDigits, startsPlain, valueFrom, rowOf}
-use Rattle.trace.specs.Questions.{firstNo, callQuestions, filledAsUsed, numbersInRange, messageInOrder, fieldQuestions, rowQuestions}
-use Rattle.trace.specs.Questions.{judgeRows, readTrace, checkTrace, accepted}
-use Rattle.order.specs.Counting.{anyBelow}
+use Rattle.trace.specs.Questions.{callQuestions, filledAsUsed, numbersInRange, messageInOrder, fieldQuestions, rowQuestions, judgeRows, readTrace, checkTrace, accepted}
+use Rattle.rows.specs.Questions.{firstNo}
+use Rattle.rows.specs.Counting.{anyBelow, leastFrom}
 use Rattle.order.specs.Order.{edge, hbWithin}
-use Rattle.races.proofs.Bench.{judged, traces, expected, bench-verdicts}
-use Rattle.races.specs.Races.{shareByte, conflict, chainCommit, chain, synchronized, race}
-use Rattle.races.specs.Races.{leastFrom, racing, verdictOf}
+use Rattle.consistency.proofs.BenchVerdicts.{judged, traces, expected, bench-verdicts}
+use Rattle.races.specs.Races.{shareByte, conflict, chainCommit, chain, synchronized, race, racing, verdictOf}
 use Rattle.runs.specs.Cells.{Bytes, cellOf}
 use Rattle.runs.specs.Runs.{Run, runOf, cellAt, Lawful}
 use Rattle.runs.specs.Maps.{mapOf, mapFor, mapAt}

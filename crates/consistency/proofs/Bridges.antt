@@ -9,19 +9,21 @@ use mathlib.Core.List.{List, [], _∷_, _++_, reverse, reverse-cons}
 use lib.ListN.{length}
 use lib.Dec.{ltb, eqb}
 use borrow.Author.Tests.{lt-ltb, ne-eqb, eqb-true, eqb-false, not-true}
-use Rattle.models.specs.Limits.{MODELS}
-use Rattle.models.specs.Operations.{READ, WRITE, COMMIT, SEND, COMMIT-MODEL}
+use Rattle.rows.specs.Limits.{MODELS}
+use Rattle.rows.specs.Kinds.{READ, WRITE, COMMIT, SEND}
+use Rattle.models.specs.Models.{COMMIT-MODEL}
 use Rattle.models.specs.Table.{publishes, refreshes}
-use Rattle.fields.specs.declared.Row.{Row}
-use Rattle.order.specs.Order.{rowAt, edge, hb}
-use Rattle.order.proofs.Below.{and-out}
+use Rattle.rows.specs.declared.Row.{Row}
+use Rattle.order.specs.Order.{edge, hb}
+use Rattle.rows.specs.Rows.{rowAt}
+use Rattle.rows.proofs.Bools.{and-out}
 use Rattle.order.proofs.Clocks.{edge-forward, hb-iff}
 use Rattle.runs.specs.Cells.{inRange}
 use Rattle.layers.specs.Layers.{ofFile}
 use Rattle.races.specs.Races.{conflict, chain, synchronized, race, verdictOf, free}
 use Rattle.races.proofs.Verdicts.{free-iff, race-out}
 use Rattle.races.proofs.Conflicts.{Conflict as RowsConflict, conflict-iff}
-use Rattle.consistency.specs.Orders.{In, Once}
+use Rattle.rows.specs.Lists.{In, Once}
 use Rattle.consistency.specs.Files.{End, processesOf, NumbersIn, ByAll}
 use Rattle.consistency.proofs.Core.{Chain, Conflict, Synchronized, Free, Commits}
 use Rattle.consistency.proofs.Selections.{keep, select, select-in, select-out}

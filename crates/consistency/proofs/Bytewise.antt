@@ -7,11 +7,12 @@ use mathlib.Core.Bool.{Bool, true, false, cond, _&&_, and-false, false≢true}
 use mathlib.Core.List.{List, [], _∷_, _++_, reverse, reverseAux}
 use lib.Dec.{eqb}
 use borrow.Author.Tests.{ne-eqb, eqb-true}
-use Rattle.models.specs.Operations.{READ, WRITE, COMMIT, COMMIT-MODEL}
+use Rattle.rows.specs.Kinds.{READ, WRITE, COMMIT}
+use Rattle.models.specs.Models.{COMMIT-MODEL}
 use Rattle.models.specs.Table.{publishes, refreshes}
-use Rattle.fields.specs.declared.Row.{Row}
-use Rattle.order.specs.Order.{rowAt}
-use Rattle.order.proofs.Below.{and-out}
+use Rattle.rows.specs.declared.Row.{Row}
+use Rattle.rows.specs.Rows.{rowAt}
+use Rattle.rows.proofs.Bools.{and-out}
 use Rattle.runs.specs.Cells.{Bytes, cellOf, numberIn, unpublished, cleared, inRange, overwrite, settled, refreshed}
 use Rattle.layers.specs.Layers.{Layers, fresh, nothing, written, publishing, refreshing, afterRow, afterPlain, ofFile}
 use Rattle.consistency.specs.Files.{Numbered, rowsFor, End, endRows, processesOf}

@@ -9,12 +9,13 @@ use mathlib.Core.List.{List}
 use lib.ListN.{length}
 use lib.Dec.{ltb, leb, eqb}
 use borrow.Author.Tests.{lt-ltb, ltb-true, le-leb, leb-true, eq-eqb, ne-eqb, eqb-true}
-use Rattle.models.specs.Limits.{MODELS}
-use Rattle.models.specs.Operations.{READ, WRITE, COMMIT, OPEN, CLOSE, SYNC, SEND}
+use Rattle.rows.specs.Limits.{MODELS}
+use Rattle.rows.specs.Kinds.{READ, WRITE, COMMIT, OPEN, CLOSE, SYNC, SEND}
 use Rattle.models.specs.Table.{publishes, refreshes}
-use Rattle.fields.specs.declared.Row.{Row}
-use Rattle.order.specs.Order.{rowAt, sameProcess}
-use Rattle.order.proofs.Below.{and-out}
+use Rattle.rows.specs.declared.Row.{Row}
+use Rattle.order.specs.Order.{sameProcess}
+use Rattle.rows.specs.Rows.{rowAt}
+use Rattle.rows.proofs.Bools.{and-out}
 use Rattle.runs.specs.Cells.{inRange}
 use Rattle.layers.specs.Layers.{ofFile}
 use Rattle.races.specs.Races.{sameFile, chain}

@@ -8,7 +8,7 @@ use mathlib.Core.List.{List, [], _∷_, _++_}
 use Rattle.consistency.proofs.Byte.{Byte, freshByte, writeByte, publishByte, refreshByte, stepByte}
 use Rattle.order.specs.Order.{HB}
 use Rattle.order.proofs.Clocks.{Forward}
-use Rattle.consistency.specs.Orders.{In}
+use Rattle.rows.specs.Lists.{In}
 
 -- The rows as one byte of one file sees them: which write or read the byte, which publish and refresh the file for their process, and whether
 -- a write publishes and a read refreshes by itself under the model.

@@ -10,12 +10,11 @@ use mathlib.Core.Bool.{Bool, true, false, cond, false≢true}
 use mathlib.Core.List.{List, [], _∷_}
 use Rattle.consistency.proofs.Byte.{Byte, freshByte, writeByte, stepByte}
 use Rattle.order.specs.Order.{HB, one, more}
-use Rattle.order.proofs.Below.{not-passed}
+use Rattle.rows.proofs.Bools.{not-passed}
 use Rattle.order.proofs.Clocks.{HB-less, HB-trans}
-use Rattle.consistency.specs.Orders.{In}
+use Rattle.rows.specs.Lists.{In}
 use Rattle.consistency.proofs.Core.{Trace, run, plain, Ok, none, next, Published, Refreshed, Chain, Synchronized, Free, publishAll}
-use Rattle.consistency.proofs.Holding.{Settled, Holds, holds-view, write-holds, shared-holds, shared-settled, all-publish}
-use Rattle.consistency.proofs.Holding.{shared-left, write-own, write-other}
+use Rattle.consistency.proofs.Holding.{Settled, Holds, holds-view, write-holds, shared-holds, shared-settled, all-publish, shared-left, write-own, write-other}
 
 -- row c stands in an order before row o
 abbrev Before : ℕ → ℕ → List ℕ → Type 0

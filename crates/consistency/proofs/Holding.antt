@@ -7,7 +7,7 @@ use mathlib.Core.Bool.{Bool, true, false, cond, false≢true}
 use mathlib.Core.List.{List, [], _∷_}
 use borrow.Author.Tests.{eq-eqb, ne-eqb}
 use Rattle.consistency.proofs.Byte.{Byte, put, writeByte, publishByte, refreshByte}
-use Rattle.consistency.specs.Orders.{In}
+use Rattle.rows.specs.Lists.{In}
 use Rattle.consistency.proofs.Core.{publishAll}
 
 -- ---- One process's value in a function

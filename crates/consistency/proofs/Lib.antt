@@ -1,3 +1,5 @@
+pub mod Messages
+pub mod BenchVerdicts
 pub mod Byte
 pub mod Core
 pub mod Holding

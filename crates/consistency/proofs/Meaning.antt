@@ -6,11 +6,12 @@ use mathlib.Core.List.{List, [], _∷_}
 use lib.ListN.{length}
 use lib.Dec.{eqb}
 use borrow.Author.Tests.{eqb-true}
-use Rattle.models.specs.Operations.{READ, WRITE}
+use Rattle.rows.specs.Kinds.{READ, WRITE}
 use Rattle.models.specs.Table.{publishes, refreshes}
-use Rattle.fields.specs.declared.Row.{Row}
-use Rattle.order.specs.Order.{rowAt, edge}
-use Rattle.order.proofs.Below.{and-out}
+use Rattle.rows.specs.declared.Row.{Row}
+use Rattle.order.specs.Order.{edge}
+use Rattle.rows.specs.Rows.{rowAt}
+use Rattle.rows.proofs.Bools.{and-out}
 use Rattle.order.proofs.Clocks.{edge-forward, edge-in, program-order}
 use Rattle.runs.specs.Cells.{Bytes, numberIn, inRange}
 use Rattle.layers.specs.Layers.{Layers, afterRow, afterPlain, ofFile}

@@ -6,9 +6,10 @@ use mathlib.Core.Logic.{_⊎_, inl, inr}
 use mathlib.Core.Bool.{true}
 use mathlib.Core.List.{List, [], _∷_, _++_, reverseAux, reverse, reverse-cons, reverseAux-append, reverse-reverse}
 use lib.ListN.{length}
-use Rattle.fields.specs.declared.Row.{Row}
+use Rattle.rows.specs.declared.Row.{Row}
 use Rattle.order.specs.Order.{edge, one}
-use Rattle.consistency.specs.Orders.{In, Once, Stands, Allowed, placesBelow, traceOrder}
+use Rattle.consistency.specs.Orders.{Stands, Allowed, placesBelow, traceOrder}
+use Rattle.rows.specs.Lists.{In, Once}
 use Rattle.consistency.proofs.Core.{Trace, Ok, none, next}
 use Rattle.consistency.proofs.Freedom.{row-of, closed}
 use Rattle.consistency.proofs.Selections.{select, select-ok}

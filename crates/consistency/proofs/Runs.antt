@@ -9,7 +9,7 @@ use mathlib.Core.Bool.{Bool, true, false, cond, false≢true}
 use mathlib.Core.List.{List, [], _∷_, _++_}
 use borrow.Author.Tests.{eq-eqb, ne-eqb}
 use Rattle.consistency.proofs.Byte.{Byte, put, freshByte, writeByte, publishByte, refreshByte, stepByte}
-use Rattle.consistency.specs.Orders.{In}
+use Rattle.rows.specs.Lists.{In}
 use Rattle.consistency.proofs.Core.{Trace, run, Ok, none, next, publishAll, Commits}
 
 -- ---- One byte

@@ -7,8 +7,8 @@ use mathlib.Core.Path.{_≡_, refl, sym, ap, _∙_}
 use mathlib.Core.Logic.{_⊎_, inl, inr}
 use mathlib.Core.Bool.{Bool, true, false, cond, _||_, false≢true}
 use mathlib.Core.List.{List, [], _∷_}
-use Rattle.order.proofs.Below.{or-out, or-right}
-use Rattle.consistency.specs.Orders.{In}
+use Rattle.rows.proofs.Bools.{or-out, or-right}
+use Rattle.rows.specs.Lists.{In}
 use Rattle.consistency.proofs.Core.{Trace, plain, Ok, none, next}
 
 -- a row before a list, where a test of it passed

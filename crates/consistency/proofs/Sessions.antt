@@ -6,32 +6,33 @@ use mathlib.Core.Logic.{inl, inr}
 use mathlib.Core.Bool.{Bool, true, false, cond, _&&_, _||_, false≢true}
 use mathlib.Core.List.{List, [], _∷_, _++_}
 use lib.Dec.{ltb, eqb}
-use Rattle.models.specs.Limits.{FILES}
-use Rattle.models.specs.Operations.{WRITE, COMMIT, CLOSE, SEND, RECV, COMMIT-MODEL, SESSION}
+use Rattle.rows.specs.Limits.{FILES}
+use Rattle.rows.specs.Kinds.{WRITE, COMMIT, CLOSE, SEND, RECV}
+use Rattle.models.specs.Models.{COMMIT-MODEL, SESSION}
 use Rattle.models.specs.Table.{publishes, refreshes}
 use Rattle.csv.specs.Reading.{records, recordsFrom, onFound, readAt, fieldsFrom, onStop, prepend, fieldAt}
 use Rattle.csv.specs.Reading.{afterCR, stopOf, run as runText, isText, contentOf, sameBytes}
-use Rattle.fields.specs.declared.Row.{Row}
+use Rattle.rows.specs.declared.Row.{Row}
 use Rattle.trace.specs.Rows.{wordOf, usedBy, allDigits, startsPlain, valueFrom, rowOf}
-use Rattle.trace.specs.Questions.{firstNo, callQuestions, filledAsUsed, numbersInRange, any, messageInOrder, fieldQuestions, rowQuestions}
-use Rattle.trace.specs.Questions.{judgeRows, readTrace, checkTrace, accepted}
-use Rattle.order.specs.Counting.{anyBelow}
-use Rattle.order.specs.Order.{rowAt, edge, hbWithin}
+use Rattle.trace.specs.Questions.{callQuestions, filledAsUsed, numbersInRange, any, messageInOrder, fieldQuestions, rowQuestions, judgeRows, readTrace, checkTrace, accepted}
+use Rattle.rows.specs.Questions.{firstNo}
+use Rattle.rows.specs.Counting.{anyBelow, leastFrom}
+use Rattle.order.specs.Order.{edge, hbWithin}
+use Rattle.rows.specs.Rows.{rowAt}
 use Rattle.order.proofs.Clocks.{edge-forward}
-use Rattle.races.specs.Races.{shareByte, conflict, chainCommit, chainSession, chain, synchronized, race}
-use Rattle.races.specs.Races.{leastFrom, free, racing, verdictOf}
+use Rattle.races.specs.Races.{shareByte, conflict, chainCommit, chainSession, chain, synchronized, race, free, racing, verdictOf}
 use Rattle.runs.specs.Cells.{numberIn}
 use Rattle.layers.specs.Layers.{Layers, fresh, nothing, ofFile}
 use Rattle.layers.specs.States.{Header}
-use Rattle.consistency.specs.Orders.{In, Allowed}
+use Rattle.consistency.specs.Orders.{Allowed}
+use Rattle.rows.specs.Lists.{In}
 use Rattle.consistency.specs.Files.{Numbered, rowsFor, End, endRows, processesOf, ByAll, SpaceFor, headerFor, EqualWith}
 use Rattle.consistency.proofs.Byte.{Byte, stepByte}
 use Rattle.consistency.proofs.Core.{Trace, run, plain, Ok, none, next, publishAll}
 use Rattle.consistency.proofs.Freedom.{row-of, published-plain}
 use Rattle.consistency.proofs.Meaning.{layersRun, plainRun, ReadsSame, covers, byteTrace}
 use Rattle.consistency.proofs.Encoding.{Made, AllFit, agree-iff, level-iff}
-use Rattle.consistency.proofs.Bytewise.{layers-at, plain-at, reads-in, ends-plain, ends-read, ends-at}
-use Rattle.consistency.proofs.Bytewise.{layers-append, plain-append, reads-append}
+use Rattle.consistency.proofs.Bytewise.{layers-at, plain-at, reads-in, ends-plain, ends-read, ends-at, layers-append, plain-append, reads-append}
 use Rattle.consistency.proofs.Bridges.{allowed-ok, free-at}
 use Rattle.consistency.proofs.Theorems.{pointsOf, points-enough, order-fits, ends-fit, fit-append, sound-trace}
 use Rattle.consistency.proofs.Benches.{row}

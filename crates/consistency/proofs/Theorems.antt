@@ -8,22 +8,24 @@ use mathlib.Core.List.{List, [], _∷_, _++_, append-assoc, reverse, reverse-con
 use lib.ListN.{length, replicate, length-replicate}
 use lib.Dec.{ltb, leb, eqb}
 use borrow.Author.Tests.{eq-eqb, ltb-true, lt-ltb}
-use Rattle.models.specs.Limits.{MODELS, PROCESSES, ROWS, FILES, OFFSET-MAX}
-use Rattle.models.specs.Operations.{WRITE, COMMIT, SEND, COMMIT-MODEL}
+use Rattle.rows.specs.Limits.{MODELS, PROCESSES, ROWS, FILES, OFFSET-MAX}
+use Rattle.rows.specs.Kinds.{WRITE, COMMIT, SEND}
+use Rattle.models.specs.Models.{COMMIT-MODEL}
 use Rattle.csv.specs.Reading.{records}
-use Rattle.fields.specs.declared.Row.{Row}
+use Rattle.rows.specs.declared.Row.{Row}
 use Rattle.trace.specs.Questions.{checkTrace, accepted}
 use Rattle.trace.proofs.Laws.{WellFormed, Sound, accepted-passed, accepted-sound}
-use Rattle.order.specs.Order.{rowAt}
-use Rattle.order.proofs.Below.{and-out}
-use Rattle.order.proofs.Sounds.{sound-row}
+use Rattle.rows.specs.Rows.{rowAt}
+use Rattle.rows.proofs.Bools.{and-out}
+use Rattle.trace.proofs.Sounds.{sound-row}
 use Rattle.runs.specs.Cells.{numberIn, inRange}
 use Rattle.races.specs.Races.{race, verdictOf, free}
 use Rattle.races.proofs.Verdicts.{free-iff, race-out}
 use Rattle.layers.specs.Layers.{Layers, fresh, nothing, ofFile}
 use Rattle.layers.specs.States.{Header, mapsLength}
 use Rattle.layers.specs.Steps.{usesRange}
-use Rattle.consistency.specs.Orders.{In, Allowed}
+use Rattle.consistency.specs.Orders.{Allowed}
+use Rattle.rows.specs.Lists.{In}
 use Rattle.consistency.specs.Files.{Numbered, rowsFor, End, endRows, processesOf, NumbersIn, ByAll, writesIn, SpaceFor, headerFor, Lent, ReadsPlain, Equal}
 use Rattle.consistency.proofs.Core.{run, plain, Ok, Shown, by-read, at-end, publishAll}
 use Rattle.consistency.proofs.Freedom.{row-of, reads-plain, published-plain}

@@ -8,9 +8,9 @@ use mathlib.Core.List.{List, [], _∷_, _++_}
 use lib.Dec.{eqb}
 use borrow.Author.Tests.{eq-eqb, eqb-true, eqb-false}
 use Rattle.order.specs.Order.{HB, one, hb, upTo}
-use Rattle.order.proofs.Below.{or-out, or-right}
+use Rattle.rows.proofs.Bools.{or-out, or-right}
 use Rattle.order.proofs.Clocks.{HB-less, HB-trans, hb-iff}
-use Rattle.consistency.specs.Orders.{In}
+use Rattle.rows.specs.Lists.{In}
 use Rattle.consistency.proofs.Core.{Trace, run, plain, Ok, next, Conflict, Synchronized, publishAll, Commits, Shown, by-read, at-end}
 use Rattle.consistency.proofs.Runs.{Released, kept, unseen, last-published}
 use Rattle.consistency.proofs.Selections.{select, select-in, select-out, select-top, Closed, closed-or, select-ok, Latest, plain-latest}

@@ -6,16 +6,18 @@ use mathlib.Core.Bool.{cond}
 use mathlib.Core.List.{List, [], _∷_, _++_}
 use lib.ListN.{length}
 use lib.Dec.{eqb}
-use Rattle.models.specs.Limits.{ROWS, FILES, OFFSET-MAX}
-use Rattle.models.specs.Operations.{WRITE, COMMIT, COMMIT-MODEL}
-use Rattle.fields.specs.declared.Row.{Row}
-use Rattle.trace.specs.Questions.{firstNo}
-use Rattle.order.specs.Order.{rowAt}
+use Rattle.rows.specs.Limits.{ROWS, FILES, OFFSET-MAX}
+use Rattle.rows.specs.Kinds.{WRITE, COMMIT}
+use Rattle.models.specs.Models.{COMMIT-MODEL}
+use Rattle.rows.specs.declared.Row.{Row}
+use Rattle.rows.specs.Questions.{firstNo}
+use Rattle.rows.specs.Rows.{rowAt}
 use Rattle.runs.specs.Cells.{numberIn}
 use Rattle.layers.specs.Layers.{ofFile}
 use Rattle.layers.specs.States.{Header, mapsLength, layersIn, plainIn}
 use Rattle.layers.specs.Steps.{refusing, Step, stepOf, plainStepOf, makingQuestions, plainMakingQuestions, madeTo}
-use Rattle.consistency.specs.Orders.{In, Once, Allowed}
+use Rattle.consistency.specs.Orders.{Allowed}
+use Rattle.rows.specs.Lists.{In, Once}
 
 -- ---- What is put to both files
 

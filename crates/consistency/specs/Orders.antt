@@ -5,14 +5,9 @@ use mathlib.Core.Logic.{_⊎_}
 use mathlib.Core.Bool.{true}
 use mathlib.Core.List.{List, [], _∷_, _++_}
 use lib.ListN.{length}
-pub use Rattle.runs.specs.Points.{In}
-use Rattle.fields.specs.declared.Row.{Row}
+use Rattle.rows.specs.declared.Row.{Row}
 use Rattle.order.specs.Order.{edge, HB}
-
--- each number stands once
-abbrev pub Once : List ℕ → Type 0
-Once [] = Unit {0}
-Once (a ∷ l) = (In a l → ⊥) × Once l
+use Rattle.rows.specs.Lists.{In, Once}
 
 -- a stands before b
 abbrev pub Stands : ℕ → ℕ → List ℕ → Type 0

@@ -9,8 +9,7 @@ use lib.ListN.{length, getD, take, drop, length-drop, length-take}
 use lib.Seq.{length-take-le, take-take, take-all}
 use lib.Dec.{eqb}
 use Rattle.csv.specs.Grammar.{DQUOTE}
-use Rattle.csv.specs.Reading.{run, quotes, noSpan, bareAt, quotedTo, fieldAt, prepend, onStop, fieldsFrom, recordIn, readAt, rawOf, contentOf, undouble, onFound, recordsFrom, records, Records}
-use Rattle.csv.specs.Reading.{Found, nothing, malformed, past-limit, found}
+use Rattle.csv.specs.Reading.{run, quotes, noSpan, bareAt, quotedTo, fieldAt, prepend, onStop, fieldsFrom, recordIn, readAt, rawOf, contentOf, undouble, onFound, recordsFrom, records, Records, Found, nothing, malformed, past-limit, found}
 use Rattle.csv.specs.declared.Span.{Span}
 use Rattle.csv.specs.declared.scan.Cell.{Cell}
 use Rattle.csv.specs.declared.scan.Quotes.{Quotes}

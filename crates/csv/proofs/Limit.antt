@@ -10,14 +10,12 @@ use lib.ListN.{length, take, drop, length-take, length-append, drop-of-length-le
 use lib.Seq.{drop-append-le, drop-append-add, take-all}
 use borrow.Author.Tests.{lt-ltb, le-ltb}
 use Rattle.csv.specs.Grammar.{DQUOTE, CR, LF}
-use Rattle.csv.specs.Reading.{isText, isQuoted, run, quotes, afterCR, stopOf, cell, quotedTo, fieldAt, prepend, onStop, fieldsFrom, recordIn, readAt, Records, onFound, recordsFrom}
-use Rattle.csv.specs.Reading.{Found, nothing, malformed, past-limit, found}
+use Rattle.csv.specs.Reading.{isText, isQuoted, run, quotes, afterCR, stopOf, cell, quotedTo, fieldAt, prepend, onStop, fieldsFrom, recordIn, readAt, Records, onFound, recordsFrom, Found, nothing, malformed, past-limit, found}
 use Rattle.csv.specs.declared.Span.{Span}
 use Rattle.csv.specs.declared.scan.Cell.{Cell}
 use Rattle.csv.specs.declared.scan.Stop.{Stop}
 use Rattle.csv.specs.declared.scan.Stop.the-variants.{Comma, LineEnd, TextEnd, Bad, Cut}
-use Rattle.csv.proofs.Places.{Stops, comma, line, cut-end, cut-cr, bad, stops, Plain, View, ends, broken, unclosed, view, past-end}
-use Rattle.csv.proofs.Places.{comma-place, whole-place, fields-past, found-places}
+use Rattle.csv.proofs.Places.{Stops, comma, line, cut-end, cut-cr, bad, stops, Plain, View, ends, broken, unclosed, view, past-end, comma-place, whole-place, fields-past, found-places}
 
 -- ---- what reading reads
 

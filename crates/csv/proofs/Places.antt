@@ -11,8 +11,7 @@ use lib.Seq.{drop-append-le}
 use lib.Dec.{ltb, eqb}
 use borrow.Author.Tests.{eqb-true, ltb-true, ltb-false}
 use Rattle.csv.specs.Grammar.{COMMA, DQUOTE, CR, LF}
-use Rattle.csv.specs.Reading.{isText, isQuoted, run, quotes, afterQuote, afterCR, stopOf, cell, noSpan, bareAt, quotedTo, fieldAt, prepend, onStop, fieldsFrom, recordIn, readAt}
-use Rattle.csv.specs.Reading.{Found, nothing, malformed, past-limit, found}
+use Rattle.csv.specs.Reading.{isText, isQuoted, run, quotes, afterQuote, afterCR, stopOf, cell, noSpan, bareAt, quotedTo, fieldAt, prepend, onStop, fieldsFrom, recordIn, readAt, Found, nothing, malformed, past-limit, found}
 use Rattle.csv.specs.declared.Span.{Span}
 use Rattle.csv.specs.declared.scan.Cell.{Cell}
 use Rattle.csv.specs.declared.scan.Quotes.{Quotes}

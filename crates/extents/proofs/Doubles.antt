@@ -9,8 +9,8 @@ use mathlib.Core.List.{List}
 use lib.ListN.{length}
 use lib.Dec.{leb}
 use borrow.Author.Tests.{le-leb, lt-leb, leb-true, leb-false, eq-eqb, ne-eqb, not-true, not-false}
-use Rattle.models.specs.Limits.{ROWS, OFFSET-MAX}
-use Rattle.trace.specs.Questions.{firstNo}
+use Rattle.rows.specs.Limits.{ROWS, OFFSET-MAX}
+use Rattle.rows.specs.Questions.{firstNo}
 use Rattle.runs.specs.Cells.{Bytes, cellOf, numberIn, markIn, unpublished, cleared, overwrite, published, settled, refreshed, inRange}
 use Rattle.runs.specs.Runs.{Run, cellAt, runsFrom, runsOf, piecesOf, Lawful}
 use Rattle.runs.specs.Maps.{mapOf, mapFor, bytesOf, runs, lawful, mapAt, withMap}
@@ -23,9 +23,8 @@ use Rattle.extents.specs.declared.Answer.{Answer}
 use Rattle.extents.specs.declared.Answer.the-variants.{Done, Listed, Refused}
 use Rattle.maps.specs.Mixes.{PUBLISH, SETTLE, REFRESH, mixed, mix}
 use Rattle.views.specs.Pairs.{twoMaps, viewOf, belowOf}
-use Rattle.extents.specs.Entries.{orRefused, orKept, bothMaps, publishRefusal, publishedMaps, refreshRefusal, refreshedMaps}
+use Rattle.extents.specs.Entries.{orRefused, orKept, bothMaps, publishRefusal, publishedMaps, refreshRefusal, refreshedMaps, syncRefusal, syncedMaps, readRefusal, postRefusal, postedMaps, countOf}
 use Rattle.maps.specs.Pieces.{listedIn}
-use Rattle.extents.specs.Entries.{syncRefusal, syncedMaps, readRefusal, postRefusal, postedMaps, countOf}
 use Rattle.views.specs.Packing.{marked}
 use Rattle.extents.proofs.Entering.{accepted}
 use Rattle.views.proofs.Pairing.{Told, two-told, two-apart, map-space, map-whole}

@@ -9,8 +9,8 @@ use mathlib.Core.List.{List}
 use lib.ListN.{length}
 use lib.Dec.{leb}
 use borrow.Author.Tests.{le-leb, lt-leb, ne-eqb}
-use Rattle.models.specs.Limits.{ROWS, OFFSET-MAX}
-use Rattle.trace.specs.Questions.{firstNo}
+use Rattle.rows.specs.Limits.{ROWS, OFFSET-MAX}
+use Rattle.rows.specs.Questions.{firstNo}
 use Rattle.runs.specs.Cells.{Bytes, cellOf, numberIn, overwrite}
 use Rattle.runs.specs.Runs.{Run, runsOf, piecesOf}
 use Rattle.runs.specs.Maps.{mapOf, mapFor, spaceIn, bytesOf, runs, lawful}

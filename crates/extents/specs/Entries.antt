@@ -4,8 +4,8 @@ use mathlib.Core.Bool.{Bool, true, false, cond, _&&_}
 use mathlib.Core.List.{List, [], _∷_, _++_}
 use lib.ListN.{length}
 use lib.Dec.{leb, eqb}
-use Rattle.models.specs.Limits.{ROWS, OFFSET-MAX}
-use Rattle.trace.specs.Questions.{Question, firstNo}
+use Rattle.rows.specs.Limits.{ROWS, OFFSET-MAX}
+use Rattle.rows.specs.Questions.{Question, firstNo}
 use Rattle.runs.specs.Cells.{Bytes, cellOf, overwrite, published, settled, refreshed}
 use Rattle.runs.specs.Runs.{Run, runsOf, piecesOf}
 use Rattle.runs.specs.Maps.{mapFor, spaceIn, bytesOf, lawful, withMap}

@@ -9,11 +9,8 @@ ghost use Rattle.runs.specs.Cells.{cellOf, refreshed};
 ghost use Rattle.runs.specs.Runs.{piecesOf};
 ghost use Rattle.runs.specs.Maps.{bytesOf, lawful};
 ghost use Rattle.maps.specs.Pieces.{listedIn};
-ghost use Rattle.views.specs.Pairs.{twoMaps};
-ghost use Rattle.extents.specs.Entries.{orRefused, orKept, countOf, markOf, writeRefusal, writtenMap, listRefusal};
-ghost use Rattle.views.specs.Pairs.{viewOf, belowOf};
-ghost use Rattle.extents.specs.Entries.{publishRefusal, publishedMaps, refreshRefusal, refreshedMaps, syncRefusal, syncedMaps};
-ghost use Rattle.extents.specs.Entries.{postRefusal, postedMaps, readRefusal};
+ghost use Rattle.views.specs.Pairs.{twoMaps, viewOf, belowOf};
+ghost use Rattle.extents.specs.Entries.{orRefused, orKept, countOf, markOf, writeRefusal, writtenMap, listRefusal, publishRefusal, publishedMaps, refreshRefusal, refreshedMaps, syncRefusal, syncedMaps, postRefusal, postedMaps, readRefusal};
 ghost use Rattle.extents.specs.declared.Answer.the-variants.{Done};
 
 // Gives a range of a map a row number and a mark.

@@ -5,10 +5,8 @@ ghost use Rattle.runs.specs.Cells.{refreshed};
 ghost use Rattle.runs.specs.Runs.{piecesOf};
 ghost use Rattle.runs.specs.Maps.{bytesOf, lawful, lawfulPublished};
 ghost use Rattle.maps.specs.Pieces.{listedIn};
-ghost use Rattle.extents.specs.Entries.{orRefused, orKept, countOf, writeRefusal, writtenMap, listRefusal};
+ghost use Rattle.extents.specs.Entries.{orRefused, orKept, countOf, writeRefusal, writtenMap, listRefusal, publishRefusal, publishedMaps, refreshRefusal, refreshedMaps, syncRefusal, syncedMaps, postRefusal, postedMaps, readRefusal};
 ghost use Rattle.views.specs.Pairs.{viewOf, belowOf};
-ghost use Rattle.extents.specs.Entries.{publishRefusal, publishedMaps, refreshRefusal, refreshedMaps, syncRefusal, syncedMaps};
-ghost use Rattle.extents.specs.Entries.{postRefusal, postedMaps, readRefusal};
 ghost use Rattle.extents.specs.declared.Answer.the-variants.{Done};
 
 pub mod lawful;

@@ -9,23 +9,18 @@ use lib.Dec.{ltb}
 use borrow.Author.Tests.{lt-ltb, le-ltb, le-leb, lt-leb, ltb-true, not-true, not-false}
 use Rattle.csv.specs.Reading.{contentOf, noSpan}
 use Rattle.csv.specs.declared.Span.{Span}
-use Rattle.models.specs.Limits.{FILES, MESSAGES, OFFSET-MAX}
-use Rattle.fields.specs.declared.Row.{Row}
+use Rattle.rows.specs.Limits.{FILES, MESSAGES, OFFSET-MAX}
+use Rattle.rows.specs.declared.Row.{Row}
 use Rattle.fields.specs.declared.Number.{Number}
 use Rattle.fields.specs.declared.Number.the-variants.{Plain, Bad}
 use Rattle.fields.specs.declared.Used.{Used}
 use Rattle.fields.specs.declared.Judged.{Judged}
 use Rattle.fields.specs.declared.Judged.the-variants.{Kept, No}
-use Rattle.fields.specs.Rows.{KINDS, kindOf, usedBy, isPlain, isNumber, value, valueFrom, numberBelow, field, rowOf}
-use Rattle.fields.specs.Questions.{firstNo, fieldQuestions, kindKnown, asUsed, filledAsUsed, numberIf, OFFSETS, numbersInRange, endInRange}
+use Rattle.fields.specs.Rows.{kindOf, usedBy, isPlain, isNumber, value, valueFrom, numberBelow, field, rowOf}
+use Rattle.rows.specs.Kinds.{KINDS}
+use Rattle.fields.specs.Questions.{fieldQuestions, kindKnown, asUsed, filledAsUsed, numberIf, OFFSETS, numbersInRange, endInRange}
+use Rattle.rows.specs.Questions.{firstNo}
 use Rattle.fields.specs.Reads.{fieldsOf, fillsAs, numberWhere, judgedBy, judgedFields}
-
--- a test that `!` turned round
-pub refused : {x r : Bool} → r ≡ x → not r ≡ true → x ≡ false
-refused {x} {r} e f = sym e ∙ not-true r f
-
-pub passed : {x r : Bool} → r ≡ x → not r ≡ false → x ≡ true
-passed {x} {r} e f = sym e ∙ not-false r f
 
 -- the content of the field at a place
 abbrev pub contentAt : List ℕ → List Span → ℕ → List ℕ

@@ -5,19 +5,11 @@ use mathlib.Core.Bool.{Bool, true, false, cond, not, _&&_}
 use mathlib.Core.List.{List, [], _∷_}
 use lib.Dec.{leb, ltb}
 use Rattle.csv.specs.Reading.{isNil}
-use Rattle.models.specs.Limits.{FILES, MESSAGES, OFFSET-MAX}
-use Rattle.fields.specs.declared.Row.{Row}
-use Rattle.fields.specs.Rows.{KINDS, kindOf, usedBy, isNumber, field, rowOf}
-
--- a question's number and its answer
-pub record Question : Type 0 where
-  pub number : ℕ
-  pub yes : Bool
-
--- the number of the first No, and 0 where every answer is Yes
-unfoldable pub firstNo : List Question → ℕ
-firstNo [] = 0
-firstNo (q ∷ qs) = cond (q .yes) (firstNo qs) (q .number)
+use Rattle.rows.specs.Limits.{FILES, MESSAGES, OFFSET-MAX}
+use Rattle.rows.specs.declared.Row.{Row}
+use Rattle.fields.specs.Rows.{kindOf, usedBy, isNumber, field, rowOf}
+use Rattle.rows.specs.Kinds.{KINDS}
+use Rattle.rows.specs.Questions.{Question}
 
 -- 8. Is the kind known?
 abbrev pub kindKnown : List (List ℕ) → Bool

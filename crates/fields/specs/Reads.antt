@@ -12,7 +12,8 @@ use Rattle.fields.specs.declared.Used.{Used}
 use Rattle.fields.specs.declared.Judged.{Judged}
 use Rattle.fields.specs.declared.Judged.the-variants.{Kept, No}
 use Rattle.fields.specs.Rows.{numberBelow, field, rowOf}
-use Rattle.fields.specs.Questions.{firstNo, fieldQuestions, asUsed}
+use Rattle.fields.specs.Questions.{fieldQuestions, asUsed}
+use Rattle.rows.specs.Questions.{firstNo}
 
 -- the contents of spans
 abbrev pub fieldsOf : List ℕ → List Span → List (List ℕ)

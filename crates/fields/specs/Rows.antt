@@ -5,8 +5,7 @@ use mathlib.Core.List.{List, [], _∷_, _++_}
 use lib.ListN.{getD, drop}
 use lib.Dec.{ltb, eqb}
 use Rattle.csv.specs.Reading.{sameBytes, isNil, within}
-pub use Rattle.models.specs.Operations.{READ, WRITE, COMMIT, OPEN, CLOSE, SYNC, SEND, RECV, KINDS}
-use Rattle.fields.specs.declared.Row.{Row}
+use Rattle.rows.specs.declared.Row.{Row}
 use Rattle.fields.specs.declared.Number.{Number}
 use Rattle.fields.specs.declared.Number.the-variants.{Plain, Bad}
 use Rattle.fields.specs.declared.Used.{Used}
@@ -132,27 +131,3 @@ rowOf fields =
       length = value (field fields 4);
       message = value (field fields 5);
     }
-
--- six numbers for each row, in field order
-unfoldable pub six : Row → List ℕ
-six r = r .process ∷ (r .kind ∷ (r .file ∷ (r .offset ∷ (r .length ∷ (r .message ∷ [])))))
-
-unfoldable pub numbers : List Row → List ℕ
-numbers [] = []
-numbers (r ∷ rs) = six r ++ numbers rs
-
--- the row that six numbers at the front are, and the first n rows
-unfoldable pub rowHere : List ℕ → Row
-rowHere xs =
-    record {
-      process = getD xs 0 0;
-      kind = getD xs 1 0;
-      file = getD xs 2 0;
-      offset = getD xs 3 0;
-      length = getD xs 4 0;
-      message = getD xs 5 0;
-    }
-
-unfoldable pub rowsIn : ℕ → List ℕ → List Row
-rowsIn zero xs = []
-rowsIn (suc n) xs = rowHere xs ∷ rowsIn n (drop 6 xs)

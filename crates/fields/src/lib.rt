@@ -6,25 +6,16 @@ ghost use Rattle.fields.specs.Rows.{kindOf, usedBy, startsPlain, numberB
 ghost use Rattle.fields.specs.Questions.{asUsed, OFFSETS};
 ghost use Rattle.fields.specs.Reads.{fieldsOf, fillsAs, numberWhere, judgedFields};
 use csv::Span;
+use rows::Row;
 
 // The bound of a file's number.
-const FILES: u64 = models::FILES as u64;
+const FILES: u64 = rows::FILES as u64;
 
 // The bound of an offset and of a length, one more than the largest.
-const OFFSETS: u64 = models::OFFSET_MAX as u64 + 1;
+const OFFSETS: u64 = rows::OFFSET_MAX as u64 + 1;
 
 // The bound of a message.
-const MESSAGES: u64 = models::MESSAGES as u64;
-
-// A row: six numbers in field order. Fields that the kind does not use are 0.
-pub struct Row {
-    pub process: u32,
-    pub kind: u32,
-    pub file: u32,
-    pub offset: u32,
-    pub length: u32,
-    pub message: u32,
-}
+const MESSAGES: u64 = rows::MESSAGES as u64;
 
 // A number within its range, or what is none.
 pub enum Number {
@@ -215,7 +206,7 @@ pub fn judge_fields(text: &[u8], spans: [Span; 6], process_limit: u32) -> Judged
     let Number::Plain(message) = number_in(text, spans[5], MESSAGES, used.message) else {
         return Judged::No(10);
     };
-    if models::OFFSET_MAX - offset < length {
+    if rows::OFFSET_MAX - offset < length {
         return Judged::No(11);
     }
     Judged::Kept(Row {

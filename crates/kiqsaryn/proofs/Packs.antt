@@ -10,7 +10,7 @@ use borrow.Author.Tests.{ne-eqb, eqb-true}
 use Rattle.order.specs.declared.Filled.{Filled}
 use Rattle.order.specs.declared.Filled.the-variants as filled
 use Rattle.order.specs.Filling.{fillQuestions, filledOf, filledLeft}
-use Rattle.order.proofs.Filling.{length-rows}
+use Rattle.rows.proofs.Slices.{length-rows}
 use Rattle.races.specs.declared.Found.{Found}
 use Rattle.races.specs.declared.Found.the-variants as found
 use Rattle.races.specs.Races.{Verdict, free, racing, verdictOf}
@@ -19,9 +19,9 @@ use Rattle.races.proofs.Verdicts.{race-out, racing-iff}
 use Rattle.races.proofs.Whole.{few-judged}
 use Rattle.trace.specs.declared.Checked.{Checked}
 use Rattle.trace.specs.Questions.{Outcome, Leaves, checkTrace}
-use Rattle.trace.specs.Questions.{Question, firstNo}
-use Rattle.trace.specs.Rows.{rowsIn}
-use Rattle.fields.specs.declared.Row.{Row}
+use Rattle.rows.specs.Questions.{Question, firstNo}
+use Rattle.rows.specs.Rows.{rowsIn}
+use Rattle.rows.specs.declared.Row.{Row}
 use Rattle.checker.specs.declared.Judged.{Judged}
 use Rattle.checker.specs.declared.Judged.the-variants as judged
 use Rattle.checker.specs.Judging.{judgedOf, Decides}

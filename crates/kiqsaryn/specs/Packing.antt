@@ -10,8 +10,9 @@ use Rattle.races.specs.declared.Found.the-variants.{Free, Race, Refused}
 use Rattle.races.specs.Scan.{answerOf}
 use Rattle.trace.specs.declared.Checked.{Checked}
 use Rattle.trace.specs.declared.Checked.the-variants.{Accepted, Refused as RefusedAt}
-use Rattle.fields.specs.declared.Row.{Row}
-use Rattle.trace.specs.Questions.{Question, firstNo, Outcome, checkedOf, rowsLeft, countsLeft}
+use Rattle.rows.specs.declared.Row.{Row}
+use Rattle.trace.specs.Questions.{Outcome, checkedOf, rowsLeft, countsLeft}
+use Rattle.rows.specs.Questions.{Question, firstNo}
 use Rattle.checker.specs.declared.Judged.{Judged}
 use Rattle.checker.specs.declared.Judged.the-variants as judged
 use Rattle.checker.specs.Judging.{judgedOf, countsKept}

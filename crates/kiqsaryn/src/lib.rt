@@ -12,10 +12,10 @@ ghost use Rattle.kiqsaryn.specs.Packing.{Gives, JudgeGives, Fills, Judge
 use asking::Machine;
 use checker::Judged;
 use extents::Answer;
-use fields::Row;
 use machine::Made;
 use order::Filled;
 use races::Found;
+use rows::Row;
 use trace::Checked;
 
 // Checks a trace, as trace::check_trace does. The answer is the row count of an accepted trace, below 2^32, and of a refusal its number

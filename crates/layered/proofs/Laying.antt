@@ -10,18 +10,19 @@ use lib.ListN.{length, take, drop}
 use lib.Dec.{leb, ltb, eqb}
 use borrow.Author.Tests.{lt-ltb, le-ltb, le-leb, lt-leb, leb-true, ne-eqb, eqb-true, eqb-false}
 use borrow.Rule.Slice.PartMut.{putMid}
-use Rattle.models.specs.Limits.{MODELS, PROCESSES, FILES, ROWS, OFFSET-MAX}
-use Rattle.models.specs.Operations.{READ, WRITE}
+use Rattle.rows.specs.Limits.{MODELS, PROCESSES, FILES, ROWS, OFFSET-MAX}
+use Rattle.rows.specs.Kinds.{READ, WRITE}
 use Rattle.models.specs.Table.{publishes, refreshes}
-use Rattle.fields.specs.declared.Row.{Row}
-use Rattle.trace.specs.Questions.{Question, firstNo}
+use Rattle.rows.specs.declared.Row.{Row}
+use Rattle.rows.specs.Questions.{Question, firstNo}
 use Rattle.runs.specs.Cells.{Bytes, cellOf, overwrite, published, settled, refreshed}
 use Rattle.runs.specs.Runs.{Run, runsOf, piecesOf}
 use Rattle.runs.specs.Maps.{mapFor, threes, bytesOf, lawful, lawfulPublished, mapAt, withMap}
-use Rattle.runs.proofs.Trips.{both}
+use Rattle.rows.proofs.Bools.{and-out}
 use Rattle.runs.proofs.Sides.{with-same}
 use Rattle.layers.specs.Layers.{Layers, afterRow, piecesRead}
-use Rattle.layers.specs.States.{Header, mapsLength, allBelow, processLimit, lawfulState, layersIn, layersTo, layersFit, plainFits}
+use Rattle.layers.specs.States.{Header, mapsLength, processLimit, lawfulState, layersIn, layersTo, layersFit, plainFits}
+use Rattle.rows.specs.Counting.{allBelow}
 use Rattle.layers.specs.Steps.{Answer, done, listed, rowAsked, roomAsked, answered, decided, stepOf}
 use Rattle.layers.proofs.Slices.{Alike, alike-fit, alike-to}
 use Rattle.layers.proofs.Lawful.{here-fit, to-same}
@@ -29,16 +30,12 @@ use Rattle.layers.proofs.Stepping.{AllYes}
 use Rattle.maps.specs.Pieces.{listedIn}
 use Rattle.extents.specs.declared.Answer as extents
 use Rattle.extents.specs.declared.Answer.the-variants.{Done, Refused}
-use Rattle.views.specs.Pairs.{twoMaps}
-use Rattle.extents.specs.Entries.{bothMaps, orRefused, orKept, countOf, writeRefusal, writtenMap, listRefusal}
-use Rattle.views.specs.Pairs.{viewOf, belowOf}
-use Rattle.extents.specs.Entries.{publishRefusal, publishedMaps, refreshRefusal, refreshedMaps, syncRefusal, syncedMaps}
-use Rattle.extents.specs.Entries.{postRefusal, postedMaps, readRefusal}
+use Rattle.views.specs.Pairs.{twoMaps, viewOf, belowOf}
+use Rattle.extents.specs.Entries.{bothMaps, orRefused, orKept, countOf, writeRefusal, writtenMap, listRefusal, publishRefusal, publishedMaps, refreshRefusal, refreshedMaps, syncRefusal, syncedMaps, postRefusal, postedMaps, readRefusal}
 use Rattle.views.proofs.Parts.{home}
 use Rattle.views.proofs.Pairing.{two-told, lentMap, map-lent, map-space}
 use Rattle.asking.specs.Answers.{answerOf, Steps, Ready}
-use Rattle.asking.proofs.Maps.{first-map, state-two, state-view, state-in, anew, fit-both, to-both, to-view-alone}
-use Rattle.asking.proofs.Maps.{shared′, view′, row-both}
+use Rattle.asking.proofs.Maps.{first-map, state-two, state-view, state-in, anew, fit-both, to-both, to-view-alone, shared′, view′, row-both}
 use Rattle.asking.proofs.Questions.{no-none, no-behind, no-before, room-named, asked-yes, asked-process, asked-range}
 use Rattle.asking.proofs.Answering.{same-kept, carried, refused}
 
@@ -51,7 +48,7 @@ next-in size n len p h l = let m : p + 1 + 1 ≤ n + 1 = omega arith in omega (a
 -- the space of all maps is a number of 64 bits
 pub limit-fits : (space n : ℕ) → space < 4294967296 → processLimit n ≡ true → space * (n + 1) < 18446744073709551616
 limit-fits space n h e =
-    let b = both (leb 1 n) (leb n PROCESSES) e in
+    let b = and-out (leb 1 n) (leb n PROCESSES) e in
     let m : n + 1 ≤ 65 = omega (arith, leb-true n PROCESSES (b .1)) in
     omega (arith, mul-le-mul-left space m)
 
@@ -247,7 +244,7 @@ module _ {h : Header} {xs : List ℕ} {r : Row} {number : ℕ} (k : Ready h xs r
     -- and are put into the slice
     both-to : fits ≡ true → layersTo h state xs ≡ bothMaps (h .space) (suc (r .process)) 0 xs v w
     both-to f =
-        let b = both (plainFits h w) (plainFits h v) f in
+        let b = and-out (plainFits h w) (plainFits h v) f in
         to-both h xs (k .lawful) (r .process) (ready-process k) v w (leb-true _ _ (b .1)) (leb-true _ _ (b .0))
 
     -- so the step is what an entry answers and leaves that asks the same
@@ -428,7 +425,7 @@ module _ {h : Header} {xs : List ℕ} {r : Row} {number : ℕ} (k : Ready h xs r
       (home ((r .process + 1) * (4 * h .space)) (4 * h .space) xs last
       ∙ (λ i. withMap (h .space) (add-one (r .process) i) (left i) xs) ∙ write-home (eqb n 0))
       (λ f. sym (to-view-alone h xs (k .lawful) (r .process) (ready-process k) new
-      (leb-true _ _ (both (plainFits h (old k .shared)) (plainFits h new) f .1))))
+      (leb-true _ _ (and-out (plainFits h (old k .shared)) (plainFits h new) f .1))))
 
 -- ---- A read
 

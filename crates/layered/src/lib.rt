@@ -5,13 +5,13 @@ ghost use mathlib.Core.Bool.{true};
 ghost use mathlib.Core.List.{List};
 ghost use lib.ListN.{length, take, drop};
 ghost use Rattle.runs.specs.Maps.{lawful};
-ghost use Rattle.layers.specs.States.{allBelow, lawfulState};
+ghost use Rattle.layers.specs.States.{lawfulState};
+ghost use Rattle.rows.specs.Counting.{allBelow};
 ghost use Rattle.layers.specs.Steps.{stepOf};
-ghost use Rattle.asking.specs.Answers.{headerOf, Steps, Ready};
-ghost use Rattle.asking.specs.Answers.{putTo};
+ghost use Rattle.asking.specs.Answers.{headerOf, Steps, Ready, putTo};
 use asking::Machine;
 use extents::Answer;
-use fields::Row;
+use rows::Row;
 
 // A lawful state: a header as for making, a slice that is long enough, and lawful maps in it.
 pub fn is_state(machine: Machine, maps: &[u32]) -> bool

@@ -10,14 +10,15 @@ use lib.ListN.{length, take, drop, length-drop, take-append-drop}
 use lib.Seq.{length-take-le, take-add}
 use lib.Dec.{leb, ltb}
 use borrow.Author.Tests.{leb-true}
-use Rattle.models.specs.Limits.{MODELS, FILES}
-use Rattle.order.specs.Counting.{blocks}
+use Rattle.rows.specs.Limits.{MODELS, FILES}
+use Rattle.rows.specs.Counting.{blocks, allBelow}
 use Rattle.runs.specs.Runs.{Run, runsOf}
 use Rattle.runs.specs.Maps.{mapOf, runs, spaceIn, bytesOf, lawful, lawfulPublished}
 use Rattle.runs.proofs.Longest.{runs-back}
-use Rattle.runs.proofs.Trips.{both, lawful-map}
+use Rattle.runs.proofs.Trips.{lawful-map}
+use Rattle.rows.proofs.Bools.{and-out}
 use Rattle.layers.specs.Layers.{Layers}
-use Rattle.layers.specs.States.{Header, mapAt, mapFor, mapsLength, allBelow, processLimit, lawfulState, layersIn, layersTo}
+use Rattle.layers.specs.States.{Header, mapAt, mapFor, mapsLength, processLimit, lawfulState, layersIn, layersTo}
 use Rattle.layers.proofs.Slices.{all-out, blocks-same}
 
 -- ---- Maps of a slice
@@ -78,11 +79,11 @@ module _ (h : Header) (xs : List ℕ) (law : lawfulState h xs ≡ true) where
       × (allBelow (h .processes) (λ p. lawful (mapAt (h .space) (suc p) xs)) ≡ true)
   unfolding lawfulState
   state-told =
-      let e1 = both (ltb (h .model) MODELS) _ law in
-      let e2 = both (processLimit (h .processes)) _ (e1 .1) in
-      let e3 = both (ltb (h .file) FILES) _ (e2 .1) in
-      let e4 = both (leb (mapsLength h) (length xs)) _ (e3 .1) in
-      let e5 = both (lawfulPublished (mapAt (h .space) 0 xs)) _ (e4 .1) in
+      let e1 = and-out (ltb (h .model) MODELS) _ law in
+      let e2 = and-out (processLimit (h .processes)) _ (e1 .1) in
+      let e3 = and-out (ltb (h .file) FILES) _ (e2 .1) in
+      let e4 = and-out (leb (mapsLength h) (length xs)) _ (e3 .1) in
+      let e5 = and-out (lawfulPublished (mapAt (h .space) 0 xs)) _ (e4 .1) in
       (e1 .0, e2 .0, e3 .0, e4 .0, e5 .0, e5 .1)
 
   -- so its maps lie in the slice, and each is lawful
@@ -102,7 +103,7 @@ module _ (h : Header) (xs : List ℕ) (law : lawfulState h xs ≡ true) where
 
   -- the published map is lawful by itself
   shared-law : lawful (mapAt (h .space) 0 xs) ≡ true
-  shared-law = both (lawful (mapAt (h .space) 0 xs)) _ (state-parts .1) .0
+  shared-law = and-out (lawful (mapAt (h .space) 0 xs)) _ (state-parts .1) .0
 
   -- it is written again as it is
   pub shared-again : mapFor (h .space) (layersIn h xs .shared) ≡ mapAt (h .space) 0 xs

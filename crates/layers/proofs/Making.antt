@@ -5,8 +5,8 @@ use mathlib.Core.Bool.{_&&_}
 use mathlib.Core.List.{List}
 use lib.ListN.{length}
 use borrow.Author.Tests.{le-leb, lt-ltb}
-use Rattle.models.specs.Limits.{MODELS, PROCESSES, FILES}
-use Rattle.trace.specs.Questions.{firstNo}
+use Rattle.rows.specs.Limits.{MODELS, PROCESSES, FILES}
+use Rattle.rows.specs.Questions.{firstNo}
 use Rattle.layers.specs.Layers.{fresh, nothing}
 use Rattle.layers.specs.States.{Header, mapsLength, layersTo, plainTo}
 use Rattle.layers.specs.Steps.{makingQuestions, plainMakingQuestions, madeTo}

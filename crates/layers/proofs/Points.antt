@@ -9,13 +9,13 @@ use mathlib.Core.List.{List}
 use lib.ListN.{length}
 use lib.Dec.{eqb}
 use borrow.Author.Tests.{eqb-true, ne-eqb}
-use Rattle.models.specs.Limits.{ROWS, OFFSET-MAX}
-use Rattle.models.specs.Operations.{WRITE}
+use Rattle.rows.specs.Limits.{ROWS, OFFSET-MAX}
+use Rattle.rows.specs.Kinds.{WRITE}
 use Rattle.models.specs.Table.{publishes, refreshes}
-use Rattle.fields.specs.declared.Row.{Row}
+use Rattle.rows.specs.declared.Row.{Row}
 use Rattle.runs.specs.Cells.{Bytes, cellOf, numberIn, unpublished, cleared, inRange, overwrite, published, settled, refreshed}
 use Rattle.runs.specs.Runs.{runsOf, piecesOf}
-use Rattle.runs.specs.Points.{In}
+use Rattle.rows.specs.Lists.{In}
 use Rattle.runs.proofs.Longest.{Fine}
 use Rattle.runs.proofs.Points.{few-runs, few-pieces}
 use Rattle.runs.proofs.Passes.{over-in, over-before, over-behind}

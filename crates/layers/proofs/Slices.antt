@@ -9,15 +9,16 @@ use mathlib.Core.List.{List, [], _++_, append-assoc}
 use lib.ListN.{length, take, drop, replicate, length-append, length-drop, replicate-append-replicate}
 use lib.Seq.{take-at, drop-at, drop-append-add}
 use borrow.Author.Tests.{le-leb}
-use Rattle.models.specs.Limits.{OFFSET-MAX}
-use Rattle.order.specs.Counting.{blocks}
+use Rattle.rows.specs.Limits.{OFFSET-MAX}
+use Rattle.rows.specs.Counting.{blocks, allBelow}
 use Rattle.runs.specs.Cells.{Bytes, unpublished}
 use Rattle.runs.specs.Runs.{Run, runsOf, cellAt, Lawful}
 use Rattle.runs.specs.Maps.{mapOf, runs, bytesOf, lawful, noMarks, lawfulPublished}
 use Rattle.runs.proofs.Longest.{Fine, mean-behind, runs-mean, runs-lawful, runs-unique}
-use Rattle.runs.proofs.Trips.{both, map-none, length-map, map-back, map-lawful, no-marks-in}
+use Rattle.runs.proofs.Trips.{map-none, length-map, map-back, map-lawful, no-marks-in}
+use Rattle.rows.proofs.Bools.{and-out}
 use Rattle.layers.specs.Layers.{Layers, nothing, fresh}
-use Rattle.layers.specs.States.{Header, mapAt, mapsLength, allBelow, layersIn, mapFor, layersTo, layersFit, plainIn, plainTo, plainFits}
+use Rattle.layers.specs.States.{Header, mapAt, mapsLength, layersIn, mapFor, layersTo, layersFit, plainIn, plainTo, plainFits}
 use Rattle.layers.specs.Steps.{madeTo}
 use Rattle.layers.proofs.Points.{Pointed, pointed-runs, LayersPointed, PlainPointed}
 
@@ -33,7 +34,7 @@ all-in (suc n) test h = λ i. all-in n test (λ p l. h p (omega arith)) i && h n
 pub all-out : (n : ℕ) (test : ℕ → Bool) → allBelow n test ≡ true → (p : ℕ) → p < n → test p ≡ true
 unfolding allBelow
 all-out zero test e p l = absurd (omega arith)
-all-out (suc n) test e p l = let b = both (allBelow n test) (test n) e in go (decLt p n) (all-out n test (b .0) p) (b .1)
+all-out (suc n) test e p l = let b = and-out (allBelow n test) (test n) e in go (decLt p n) (all-out n test (b .0) p) (b .1)
   where
     go : Dec (p < n) → (p < n → test p ≡ true) → test n ≡ true → test p ≡ true
     go (yes q) ih t = ih q

@@ -7,21 +7,20 @@ use mathlib.Core.List.{List, [], _∷_, _++_}
 use lib.ListN.{length}
 use lib.Dec.{leb, ltb, eqb}
 use borrow.Author.Tests.{le-leb, leb-true, ltb-true, eq-eqb}
-use Rattle.models.specs.Limits.{MODELS}
-use Rattle.models.specs.Operations.{WRITE}
+use Rattle.rows.specs.Limits.{MODELS}
+use Rattle.rows.specs.Kinds.{WRITE}
 use Rattle.models.specs.Table.{publishes, refreshes}
-use Rattle.fields.specs.declared.Row.{Row}
-use Rattle.trace.specs.Questions.{Question, firstNo}
+use Rattle.rows.specs.declared.Row.{Row}
+use Rattle.rows.specs.Questions.{Question, firstNo}
 use Rattle.runs.specs.Cells.{Bytes, cellOf, overwrite, published, settled, refreshed}
 use Rattle.runs.specs.Runs.{Run}
 use Rattle.runs.specs.Maps.{lawful, lawfulPublished}
-use Rattle.runs.proofs.Trips.{both}
+use Rattle.rows.proofs.Bools.{and-out}
 use Rattle.layers.specs.Layers.{Layers, withView, written, publishing, refreshing, afterRow, afterPlain, piecesRead}
-use Rattle.layers.specs.States.{Header, mapAt, mapsLength, allBelow, processLimit, lawfulState, layersIn, layersTo, layersFit}
-use Rattle.layers.specs.States.{lawfulPlain, plainIn, plainTo, plainFits}
+use Rattle.layers.specs.States.{Header, mapAt, mapsLength, processLimit, lawfulState, layersIn, layersTo, layersFit, lawfulPlain, plainIn, plainTo, plainFits}
+use Rattle.rows.specs.Counting.{allBelow}
 use Rattle.layers.specs.Steps.{makingQuestions, plainMakingQuestions, rowAsked, Step, answered, decided, stepOf, plainStepOf}
-use Rattle.layers.proofs.Slices.{all-in, held-lawful, held-published, LayersHeld, Alike, alike-fit, alike-to}
-use Rattle.layers.proofs.Slices.{to-length, to-again, to-shared, to-view, to-in, PlainHeld, plain-first, plain-length, plain-again, plain-in}
+use Rattle.layers.proofs.Slices.{all-in, held-lawful, held-published, LayersHeld, Alike, alike-fit, alike-to, to-length, to-again, to-shared, to-view, to-in, PlainHeld, plain-first, plain-length, plain-again, plain-in}
 
 -- ---- Questions
 
@@ -103,7 +102,7 @@ module _ (h : Header) {s : Layers} (held : LayersHeld h s) (xs : List ℕ) (maki
   pub to-lawful : lawfulState h (layersTo h s xs) ≡ true
   unfolding lawfulState makingQuestions
   to-lawful =
-      let limits = both (ltb (h .model) MODELS) (processLimit (h .processes)) (making .1 .0) in
+      let limits = and-out (ltb (h .model) MODELS) (processLimit (h .processes)) (making .1 .0) in
       let room : leb (mapsLength h) (length (layersTo h s xs)) ≡ true =
       ap (leb (mapsLength h)) (to-length h held xs (leb-true _ _ (making .0))) ∙ making .0 in
       let first : lawfulPublished (mapAt (h .space) 0 (layersTo h s xs)) ≡ true =
@@ -119,7 +118,7 @@ module _ (h : Header) {s : Layers} (held : LayersHeld h s) (xs : List ℕ) (maki
         stepOf h (layersTo h s xs) r number out ≡ answered r (piecesRead r (t .view (r .process))) (layersTo h t xs) out
     unfolding rowAsked
     step-held fit room =
-        let l = ltb-true _ _ (both (ltb (r .process) (h .processes)) _ (asked .1 .1 .0) .0) in
+        let l = ltb-true _ _ (and-out (ltb (r .process) (h .processes)) _ (asked .1 .1 .0) .0) in
         let a = alike-row r number l (h .model) (to-in h held xs) in
         let e = ap (piecesRead r) (a .view (r .process) l) in
         let n = ap (λ (ps : List Run). length ps) e in

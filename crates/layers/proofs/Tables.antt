@@ -2,9 +2,10 @@
 use Prim.Native.Nat.{ℕ}
 use mathlib.Core.Path.{_≡_, refl}
 use borrow.Author.Tests.{ne-eqb}
-use Rattle.models.specs.Operations.{READ, WRITE, COMMIT, OPEN, CLOSE, SYNC, POSIX, COMMIT-MODEL, SESSION, MPI-IO}
+use Rattle.rows.specs.Kinds.{READ, WRITE, COMMIT, OPEN, CLOSE, SYNC}
+use Rattle.models.specs.Models.{POSIX, COMMIT-MODEL, SESSION, MPI-IO}
 use Rattle.models.specs.Table.{publishes, refreshes}
-use Rattle.fields.specs.declared.Row.{Row}
+use Rattle.rows.specs.declared.Row.{Row}
 use Rattle.layers.specs.Layers.{Layers, written, publishing, refreshing, afterRow}
 
 -- a row of a kind by process p

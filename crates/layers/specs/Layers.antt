@@ -3,9 +3,9 @@ use Prim.Native.Nat.{ℕ}
 use mathlib.Core.Bool.{Bool, cond, _&&_}
 use mathlib.Core.List.{List, []}
 use lib.Dec.{ltb, eqb}
-use Rattle.models.specs.Operations.{READ, WRITE, SEND}
+use Rattle.rows.specs.Kinds.{READ, WRITE, SEND}
 use Rattle.models.specs.Table.{publishes, refreshes}
-use Rattle.fields.specs.declared.Row.{Row}
+use Rattle.rows.specs.declared.Row.{Row}
 use Rattle.runs.specs.Cells.{Bytes, cellOf, overwrite, published, settled, refreshed}
 use Rattle.runs.specs.Runs.{Run, piecesOf}
 

@@ -4,8 +4,8 @@ use mathlib.Core.Bool.{Bool, true, _&&_}
 use mathlib.Core.List.{List, _++_}
 use lib.ListN.{length, drop}
 use lib.Dec.{leb, ltb}
-use Rattle.models.specs.Limits.{MODELS, PROCESSES, FILES}
-use Rattle.order.specs.Counting.{blocks}
+use Rattle.rows.specs.Limits.{MODELS, PROCESSES, FILES}
+use Rattle.rows.specs.Counting.{blocks, allBelow}
 use Rattle.runs.specs.Cells.{Bytes}
 use Rattle.runs.specs.Runs.{runsOf}
 pub use Rattle.runs.specs.Maps.{mapFor, mapAt}
@@ -24,11 +24,6 @@ pub record Header : Type 0 where
 -- how many numbers the maps of a machine take
 abbrev pub mapsLength : Header → ℕ
 mapsLength h = 4 * h .space * (h .processes + 1)
-
--- every number below n passes
-unfoldable pub allBelow : ℕ → (ℕ → Bool) → Bool
-allBelow zero test = true
-allBelow (suc n) test = allBelow n test && test n
 
 -- ---- Machines
 

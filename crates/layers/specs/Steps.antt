@@ -4,10 +4,10 @@ use mathlib.Core.Bool.{Bool, true, false, cond, not, _&&_, _||_}
 use mathlib.Core.List.{List, [], _∷_, _++_}
 use lib.ListN.{length, drop, replicate}
 use lib.Dec.{leb, ltb, eqb}
-use Rattle.models.specs.Limits.{MODELS, ROWS, FILES, OFFSET-MAX}
-use Rattle.models.specs.Operations.{READ, WRITE}
-use Rattle.fields.specs.declared.Row.{Row}
-use Rattle.trace.specs.Questions.{Question, firstNo}
+use Rattle.rows.specs.Limits.{MODELS, ROWS, FILES, OFFSET-MAX}
+use Rattle.rows.specs.Kinds.{READ, WRITE}
+use Rattle.rows.specs.declared.Row.{Row}
+use Rattle.rows.specs.Questions.{Question, firstNo}
 use Rattle.runs.specs.Cells.{Bytes}
 use Rattle.runs.specs.Runs.{Run}
 use Rattle.runs.specs.Maps.{threes}

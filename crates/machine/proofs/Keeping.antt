@@ -9,19 +9,19 @@ use mathlib.Core.List.{List, [], _∷_, _++_}
 use lib.ListN.{length, drop, length-append, length-drop}
 use lib.Dec.{leb, ltb, eqb}
 use borrow.Author.Tests.{leb-true, ltb-true, lt-ltb, eqb-true}
-use Rattle.models.specs.Limits.{OFFSET-MAX}
-use Rattle.models.specs.Operations.{READ, WRITE}
-use Rattle.fields.specs.declared.Row.{Row}
-use Rattle.trace.specs.Questions.{Question, firstNo}
+use Rattle.rows.specs.Limits.{OFFSET-MAX}
+use Rattle.rows.specs.Kinds.{READ, WRITE}
+use Rattle.rows.specs.declared.Row.{Row}
+use Rattle.rows.specs.Questions.{Question, firstNo}
 use Rattle.runs.specs.Runs.{Run, runsOf}
 use Rattle.runs.specs.Maps.{threes, runs, bytesOf, lawful, lawfulPublished, noMarks, mapAt}
-use Rattle.runs.specs.Points.{In}
+use Rattle.rows.specs.Lists.{In}
 use Rattle.runs.proofs.Longest.{mean-behind, lawful-fine}
-use Rattle.runs.proofs.Trips.{both, lawful-map, no-marks-out}
+use Rattle.runs.proofs.Trips.{lawful-map, no-marks-out}
+use Rattle.rows.proofs.Bools.{and-out}
 use Rattle.runs.proofs.Threes.{length-threes}
 use Rattle.layers.specs.Layers.{Layers, nothing, afterRow, afterPlain, piecesRead, ofFile}
-use Rattle.layers.specs.States.{Header, lawfulState, layersIn, layersTo, layersFit}
-use Rattle.layers.specs.States.{lawfulPlain, plainIn, plainTo, plainFits}
+use Rattle.layers.specs.States.{Header, lawfulState, layersIn, layersTo, layersFit, lawfulPlain, plainIn, plainTo, plainFits}
 use Rattle.layers.specs.Steps.{Answer, refusing, done, listed, Step, rowAsked, roomAsked, answered, decided, stepOf, plainStepOf}
 use Rattle.layers.proofs.Points.{picked, prior, Pointed, LayersPointed, PlainPointed, Writing, fresh-pointed, row-pointed, plain-row-pointed}
 use Rattle.layers.proofs.Slices.{all-out, LayersHeld, PlainHeld, Alike, alike-fit, alike-to}
@@ -129,7 +129,7 @@ module _ (points : List ℕ) (whole : (b : ℕ) → b ≤ OFFSET-MAX → In b po
   -- and so do those of a lawful published map, which have no marks
   published-pointed : (xs : List ℕ) → lawfulPublished xs ≡ true → PlainPointed points (bytesOf xs)
   published-pointed xs law =
-      let b = both (lawful xs) (noMarks (runs xs)) law in
+      let b = and-out (lawful xs) (noMarks (runs xs)) law in
       record { bytes = lawful-pointed xs (b .0); unmarked = no-marks-out (runs xs) (b .1) }
 
   -- and those of a lawful state
@@ -150,7 +150,7 @@ module _ (points : List ℕ) (whole : (b : ℕ) → b ≤ OFFSET-MAX → In b po
   fit-held : (h : Header) (s : Layers) → LayersPointed points s → layersFit h s ≡ true → LayersHeld h s
   unfolding layersFit
   fit-held h s k fit =
-      let b = both (leb (length (runsOf (s .shared))) (h .space)) _ fit in
+      let b = and-out (leb (length (runsOf (s .shared))) (h .space)) _ fit in
       let views = all-out (h .processes) (λ p. leb (length (runsOf (s .view p))) (h .space)) (b .1) in
       record {
         shared = record { fine = k .shared .fine; ends = k .shared .ends; fit = leb-true _ _ (b .0) };

@@ -7,8 +7,8 @@ use mathlib.Core.List.{List, _++_}
 use lib.ListN.{length, drop, replicate}
 use lib.Dec.{leb, ltb}
 use borrow.Author.Tests.{le-leb, lt-leb, lt-ltb, le-ltb, ne-eqb}
-use Rattle.models.specs.Limits.{MODELS, FILES}
-use Rattle.trace.specs.Questions.{firstNo}
+use Rattle.rows.specs.Limits.{MODELS, FILES}
+use Rattle.rows.specs.Questions.{firstNo}
 use Rattle.layers.specs.States.{Header, mapsLength, processLimit}
 use Rattle.layers.specs.Steps.{makingQuestions, plainMakingQuestions, madeTo}
 use Rattle.machine.specs.Makes.{madeOf}

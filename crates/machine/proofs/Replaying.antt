@@ -8,18 +8,16 @@ use lib.ListN.{length, take, drop, set, length-set, length-append, length-drop, 
 use lib.Seq.{length-take-le, take-all}
 use lib.Dec.{leb, eqb}
 use borrow.Author.Tests.{leb-true, eq-eqb, ne-eqb}
-use Rattle.fields.specs.declared.Row.{Row}
-use Rattle.trace.specs.Questions.{firstNo}
-use Rattle.order.specs.Clock.{rowIn}
-use Rattle.runs.proofs.Trips.{both}
+use Rattle.rows.specs.declared.Row.{Row}
+use Rattle.rows.specs.Questions.{firstNo}
+use Rattle.rows.specs.Rows.{rowIn}
+use Rattle.rows.proofs.Bools.{and-out}
 use Rattle.layers.specs.Steps.{Answer, refusing, done, listed, Step, answered}
 use Rattle.extents.specs.declared.Answer as extents
 use Rattle.extents.specs.declared.Answer.the-variants.{Done}
-use Rattle.asking.specs.Answers.{answerOf, refusalOf, countOf, Steps}
+use Rattle.asking.specs.Answers.{answerOf, refusalOf, countOf, Steps, putTo}
 use Rattle.machine.proofs.Keeping.{Keeps, Sound, put-sound}
-use Rattle.asking.specs.Answers.{putTo}
-use Rattle.machine.specs.Replays.{Replay, refusalIn, countIn, tried, passed, stopped, onward, after}
-use Rattle.machine.specs.Replays.{replayQuestions, started, replayBy, Replays}
+use Rattle.machine.specs.Replays.{Replay, refusalIn, countIn, tried, passed, stopped, onward, after, replayQuestions, started, replayBy, Replays}
 
 -- the code's refusal is the definition's
 refusal-told : (a : Answer) → refusalOf (answerOf a) ≡ refusalIn a
@@ -118,7 +116,7 @@ module _ {law : List ℕ → Bool} {step : List ℕ → Row → ℕ → List ℕ
   pub start : leb (6 * n) (length rows) && leb n (length counts₀) ≡ true → law maps₀ ≡ true →
       Going sound file rows first n maps₀ counts₀ out₀ maps₀ counts₀ out₀ first 0
   start fit l =
-      let b = both (leb (6 * n) (length rows)) (leb n (length counts₀)) fit in
+      let b = and-out (leb (6 * n) (length rows)) (leb n (length counts₀)) fit in
       record {
         whole = replay-is step (law maps₀) file rows first n maps₀ counts₀ out₀ fit l;
         lawful = l;

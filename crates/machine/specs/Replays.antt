@@ -5,9 +5,9 @@ use mathlib.Core.Bool.{Bool, cond, _&&_}
 use mathlib.Core.List.{List, [], _∷_, _++_}
 use lib.ListN.{length, take, drop, set}
 use lib.Dec.{leb, eqb}
-use Rattle.fields.specs.declared.Row.{Row}
-use Rattle.trace.specs.Questions.{Question, firstNo}
-use Rattle.order.specs.Clock.{rowIn}
+use Rattle.rows.specs.declared.Row.{Row}
+use Rattle.rows.specs.Questions.{Question, firstNo}
+use Rattle.rows.specs.Rows.{rowIn}
 use Rattle.layers.specs.States.{Header, lawfulState, lawfulPlain}
 use Rattle.layers.specs.Steps.{Answer, refusing, done, listed, Step, stepOf, plainStepOf}
 use Rattle.asking.specs.Answers.{putTo}

@@ -2,7 +2,7 @@
 ghost use Prim.Native.Nat.{_*_};
 ghost use mathlib.Core.Path.{_≡_};
 ghost use lib.ListN.{length};
-ghost use Rattle.trace.specs.Questions.{firstNo};
+ghost use Rattle.rows.specs.Questions.{firstNo};
 ghost use Rattle.layers.specs.States.{mapsLength};
 ghost use Rattle.layers.specs.Steps.{makingQuestions, plainMakingQuestions, madeTo, stepOf, plainStepOf};
 ghost use Rattle.asking.specs.Answers.{headerOf, Steps};
@@ -10,7 +10,7 @@ ghost use Rattle.machine.specs.Makes.{madeOf};
 ghost use Rattle.machine.specs.Replays.{replayOf, plainReplayOf, Replays};
 use asking::Machine;
 use extents::Answer;
-use fields::Row;
+use rows::Row;
 
 // A machine over the slice, or the number of the question that was answered No.
 pub enum Made {
@@ -39,7 +39,8 @@ pub fn make(machine: Machine, maps: &mut [u32]) -> Made
     if Machine::FILES <= file {
         return Made::Refused(10);
     }
-    asking::clear(maps, runs as usize * 4);
+    let end = runs as usize * 4;
+    rows::clear(&mut maps[..end]);
     Made::Made
 }
 
@@ -60,7 +61,8 @@ pub fn make_plain(plain: Machine, map: &mut [u32]) -> Made
     if Machine::FILES <= file {
         return Made::Refused(10);
     }
-    asking::clear(map, space * 4);
+    let end = space * 4;
+    rows::clear(&mut map[..end]);
     Made::Made
 }
 
@@ -122,7 +124,7 @@ pub fn replay(
     let mut k = first;
     let mut pieces = 0;
     while k < n {
-        let row = asking::row_at(rows, k as usize);
+        let row = rows::row_at(rows, k as usize);
         let at = pieces * 3;
         let answer = layered::put(machine, maps, row, k + 1, &mut out[at..]);
         let refusal = asking::refusal_in(answer);
@@ -175,7 +177,7 @@ pub fn replay_plain(
     let mut k = first;
     let mut pieces = 0;
     while k < n {
-        let row = asking::row_at(rows, k as usize);
+        let row = rows::row_at(rows, k as usize);
         let at = pieces * 3;
         let answer = plain::put(plain, map, row, k + 1, &mut out[at..]);
         let refusal = asking::refusal_in(answer);

@@ -9,7 +9,7 @@ use lib.ListN.{length, getD, take, drop, set, length-append, length-drop}
 use lib.Dec.{eqb}
 use lib.Seq.{take-at, drop-at, set-at, getD-at, drop-drop, sets-eq}
 use borrow.Author.Tests.{eq-eqb, ne-eqb}
-use Rattle.models.specs.Limits.{OFFSET-MAX}
+use Rattle.rows.specs.Limits.{OFFSET-MAX}
 use Rattle.runs.specs.Cells.{Bytes, numberIn}
 use Rattle.runs.specs.Runs.{Run, runOf, joined, runsFrom}
 use Rattle.runs.specs.Maps.{threes, runs, bytesOf}

@@ -5,10 +5,8 @@ use native.Mathlib.Omega.{arith}
 use mathlib.Core.Path.{_≡_, refl, sym, ap, _∙_}
 use mathlib.Core.Bool.{true}
 use mathlib.Core.List.{List, [], _∷_, _++_, append-assoc, append-nil}
-use lib.ListN.{length, getD, take, drop, set, replicate, length-append, length-drop, length-replicate, take-append-drop, replicate-append-replicate}
-use lib.ListN.{List·getD-append}
-use lib.Seq.{length-take-le, take-suc, drop-cons, append-snoc, take-append-le, drop-append-le, getD-append-add, getD-take, getD-drop, take-take}
-use lib.Seq.{drop-drop, set-at, take-at, drop-at, sets-eq, slice, slice-empty, slice-cons, length-slice}
+use lib.ListN.{length, getD, take, drop, set, replicate, length-append, length-drop, length-replicate, take-append-drop, replicate-append-replicate, List·getD-append}
+use lib.Seq.{length-take-le, take-suc, drop-cons, append-snoc, take-append-le, drop-append-le, getD-append-add, getD-take, getD-drop, take-take, drop-drop, set-at, take-at, drop-at, sets-eq, slice, slice-empty, slice-cons, length-slice}
 use Rattle.runs.specs.Runs.{Run, runOf}
 use Rattle.runs.specs.Maps.{fours, mapOf, spaceIn, runs, lawful}
 use Rattle.runs.proofs.Trips.{lawful-map, length-fours, fours-append, rest-at}

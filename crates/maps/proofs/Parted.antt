@@ -9,7 +9,7 @@ use mathlib.Core.List.{List, [], _∷_, _++_, append-nil, append-assoc}
 use lib.ListN.{length, getD, take, drop, take-append-drop, drop-of-length-le}
 use lib.Seq.{drop-cons}
 use borrow.Author.Tests.{eq-eqb, ne-eqb}
-use Rattle.models.specs.Limits.{OFFSET-MAX}
+use Rattle.rows.specs.Limits.{OFFSET-MAX}
 use Rattle.runs.specs.Cells.{Bytes, inRange, overwrite}
 use Rattle.runs.specs.Runs.{Run, runOf, cellAt, runsOf, Next, Rising}
 use Rattle.runs.proofs.Longest.{range-in, range-before, range-behind, cell-first, cell-before, cell-behind, mean-before, mean-first, unique-from}

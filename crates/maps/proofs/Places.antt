@@ -7,11 +7,12 @@ use mathlib.Core.Bool.{true}
 use mathlib.Core.List.{List, [], _∷_, append-nil}
 use lib.ListN.{length, getD, take, drop}
 use lib.Seq.{split-at, length-take-le, getD-drop}
-use Rattle.models.specs.Limits.{ROWS, OFFSET-MAX}
+use Rattle.rows.specs.Limits.{ROWS, OFFSET-MAX}
 use Rattle.runs.specs.Cells.{numberIn}
 use Rattle.runs.specs.Runs.{Run, runOf, Numbered}
 use Rattle.runs.specs.Maps.{spaceIn, runs, lawful}
-use Rattle.runs.proofs.Trips.{zeros, map-none, lawful-map, rest-at, run-at}
+use Rattle.runs.proofs.Trips.{map-none, lawful-map, rest-at, run-at}
+use Rattle.rows.proofs.Zeros.{zeros}
 use Rattle.maps.specs.Beside.{endOf, runNo}
 use Rattle.maps.proofs.Parted.{next-at}
 

@@ -13,7 +13,7 @@ use lib.Seq.{drop-cons, drop-drop}
 use lib.Dec.{eqb}
 use lib.Bits.{bitOr, or-zero-r, or-add-and, and-le-l}
 use borrow.Author.Tests.{not-true, not-false, eq-eqb, ne-eqb}
-use Rattle.models.specs.Limits.{ROWS, OFFSET-MAX}
+use Rattle.rows.specs.Limits.{ROWS, OFFSET-MAX}
 use Rattle.runs.specs.Cells.{numberIn}
 use Rattle.runs.specs.Runs.{Run, cellAt, Rising, Numbered}
 use Rattle.runs.specs.Maps.{runsIn, spaceIn, runs, allZero, lawfulFrom, lawful, noMarks}

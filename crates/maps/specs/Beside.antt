@@ -3,7 +3,7 @@ use Prim.Native.Nat.{ℕ, _+_, _≤_, _<_}
 use mathlib.Core.Path.{_≡_}
 use mathlib.Core.List.{List, _∷_, _++_}
 use lib.ListN.{length, getD, drop}
-use Rattle.models.specs.Limits.{OFFSET-MAX}
+use Rattle.rows.specs.Limits.{OFFSET-MAX}
 use Rattle.runs.specs.Runs.{Run, runOf, cellAt, Rising}
 use Rattle.maps.specs.Cursors.{partOf}
 use Rattle.maps.specs.declared.splice.Side.{Side}

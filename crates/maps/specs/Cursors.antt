@@ -5,7 +5,7 @@ use mathlib.Core.Bool.{cond}
 use mathlib.Core.List.{List, [], _∷_, _++_}
 use lib.ListN.{length, take, drop}
 use lib.Dec.{eqb}
-use Rattle.models.specs.Limits.{OFFSET-MAX}
+use Rattle.rows.specs.Limits.{OFFSET-MAX}
 use Rattle.runs.specs.Runs.{Run, runOf, cellAt}
 use Rattle.runs.specs.Maps.{fours, runs, bytesOf}
 use Rattle.maps.specs.declared.scan.Look.{Look}

@@ -3,7 +3,7 @@ use Prim.Native.Nat.{ℕ, _+_, _*_, _-_, _≤_}
 use mathlib.Core.Path.{_≡_}
 use mathlib.Core.List.{List, _∷_, _++_}
 use lib.ListN.{length, getD, take, drop, set}
-use Rattle.models.specs.Limits.{OFFSET-MAX}
+use Rattle.rows.specs.Limits.{OFFSET-MAX}
 use Rattle.runs.specs.Runs.{Run}
 use Rattle.runs.specs.Maps.{threes}
 

@@ -1,3 +1,2 @@
-pub mod Limits
-pub mod Operations
+pub mod Models
 pub mod Table

@@ -8,15 +8,14 @@ use mathlib.Core.List.{List, _++_}
 use lib.ListN.{length, getD, replicate}
 use lib.Dec.{leb, ltb, eqb}
 use borrow.Author.Tests.{lt-ltb, le-ltb, ltb-true, le-leb, lt-leb, leb-true, ne-eqb, eqb-true, eqb-false}
-use Rattle.models.specs.Limits.{ROWS, PROCESSES}
-use Rattle.trace.specs.Rows.{rowsIn}
-use Rattle.trace.specs.Questions.{firstNo, longEnough}
-use Rattle.trace.proofs.Laws.{all-yes}
+use Rattle.rows.specs.Limits.{ROWS, PROCESSES}
+use Rattle.rows.specs.Rows.{rowsIn, rowIn}
+use Rattle.rows.specs.Questions.{longEnough, firstNo}
+use Rattle.rows.proofs.Asking.{all-yes}
 use Rattle.order.specs.Order.{countsOf}
-use Rattle.order.specs.Clock.{rowIn}
 use Rattle.order.specs.Filling.{countLimits, processesIn, fillQuestions, filledOf, filledLeft}
 use Rattle.order.specs.declared.Filled.the-variants.{Done, Refused}
-use Rattle.order.proofs.Below.{and-out}
+use Rattle.rows.proofs.Bools.{and-out}
 use Rattle.order.proofs.Joins.{process-in}
 
 -- ---- Question 10

@@ -8,7 +8,7 @@ use mathlib.Core.Path.{_≡_, refl, sym, ap, ap₂, _∙_}
 use mathlib.Core.List.{List, [], _∷_, _++_, append-assoc}
 use lib.ListN.{length, getD, take, drop, set, length-append, length-drop, List·getD-append, take-append-drop}
 use lib.Seq.{length-take-le, take-suc, drop-cons, drop-drop, getD-append-add, getD-take, getD-drop, getD-at, set-at, take-at, drop-at}
-use Rattle.order.specs.Counting.{values}
+use Rattle.rows.specs.Counting.{values}
 
 -- ---- The values of a function
 
@@ -110,7 +110,3 @@ module _ (to n : ℕ) (l : List ℕ) (f : ℕ → ℕ) (fits : to + n ≤ length
   put-over g = λ i. take-at (take to l) (values n f ++ drop (to + n) l) to front-length i ++ (values n g ++ put-back i)
 
 -- ---- Rows of P values one after the other
-
--- a row before row j ends where row j begins, or before
-pub row-before : (P : ℕ) {k j : ℕ} → k < j → k * P + P ≤ j * P
-row-before P {k} h = rw suc-mul at (mul-le-mul-right P h)

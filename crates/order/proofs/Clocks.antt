@@ -9,11 +9,14 @@ use mathlib.Core.List.{List}
 use lib.ListN.{length}
 use lib.Dec.{ltb, eqb}
 use borrow.Author.Tests.{lt-ltb, ltb-true, eq-eqb, eqb-true, eqb-false}
-use Rattle.fields.specs.declared.Row.{Row}
-use Rattle.order.specs.Counting.{anyBelow, countBelow}
-use Rattle.order.specs.Order.{rowAt, sameProcess, delivers, edge, HB, one, more, hbWithin, hb, upTo, count}
-use Rattle.order.specs.Clock.{lastBelow, fromLast, joinedTo, clock}
-use Rattle.order.proofs.Below.{and-out, or-out, or-right, same-test, not-passed, any-in, any-out, count-same, count-below, count-cut, count-own, Closed, closed-place, unionTo, count-joined}
+use Rattle.rows.specs.declared.Row.{Row}
+use Rattle.rows.specs.Counting.{anyBelow, countBelow, lastBelow}
+use Rattle.order.specs.Order.{sameProcess, delivers, edge, HB, one, more, hbWithin, hb, upTo, count}
+use Rattle.rows.specs.Rows.{rowAt}
+use Rattle.order.specs.Clock.{lastOf, fromLast, joinedTo, clock}
+use Rattle.rows.proofs.Bools.{and-out, or-out, or-right, same-test, not-passed}
+use Rattle.rows.proofs.Below.{any-in, any-out, count-same, count-below, count-cut, count-own, Closed, closed-place}
+use Rattle.order.proofs.Unions.{unionTo, count-joined}
 
 -- ---- Happens-before over any edges that lead forward
 
@@ -136,7 +139,7 @@ upTo-closed rows p k i s l h a b u =
 
 -- ---- The last row of a process
 
--- what lastBelow says
+-- what lastOf says
 abbrev Last : (ℕ → ℕ) → ℕ → ℕ → ℕ → Type 0
 Last at q j zero = (k : ℕ) → k < j → at k ≡ q → ⊥
 Last at q j (suc l) = (l < j) × (at l ≡ q) × ((k : ℕ) → k < j → at k ≡ q → k ≤ l)
@@ -154,14 +157,14 @@ last-more at q j l o r = go l r
     go (suc l) r = (omega arith, r .1, λ k b s. r .2 k (under k b s (decLt k j)) s)
 
 -- it says so
-last-is : (at : ℕ → ℕ) (q j : ℕ) → Last at q j (lastBelow at q j)
-unfolding lastBelow
+last-is : (at : ℕ → ℕ) (q j : ℕ) → Last at q j (lastOf at q j)
+unfolding lastOf lastBelow
 last-is at q zero = λ k b s. omega arith
 last-is at q (suc j) = go (eqb (at j) q) refl (last-is at q j)
   where
-    go : (b : Bool) → eqb (at j) q ≡ b → Last at q j (lastBelow at q j) → Last at q (suc j) (cond b (suc j) (lastBelow at q j))
+    go : (b : Bool) → eqb (at j) q ≡ b → Last at q j (lastOf at q j) → Last at q (suc j) (cond b (suc j) (lastOf at q j))
     go true e r = (omega arith, eqb-true (at j) q e, λ k b s. omega arith)
-    go false e r = last-more at q j (lastBelow at q j) (eqb-false (at j) q e) r
+    go false e r = last-more at q j (lastOf at q j) (eqb-false (at j) q e) r
 
 -- ---- Counts
 
@@ -244,7 +247,7 @@ count-before : (rows : List Row) (p j : ℕ) → j < length rows →
 unfolding count clock
 count-before rows p j h =
     let isP = ofProcess rows p in
-    let l = lastBelow (λ k. rowAt rows k .process) (rowAt rows j .process) j in
+    let l = lastOf (λ k. rowAt rows k .process) (rowAt rows j .process) j in
     let r = last-is (λ k. rowAt rows k .process) (rowAt rows j .process) j in
     let sends : ℕ → Bool = λ k. delivers (rowAt rows k) (rowAt rows j) in
     count-same (length rows) _ _ (λ i b. ap (λ (x : Bool). isP i && x) (hb-union rows j h i l r))

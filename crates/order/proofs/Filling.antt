@@ -9,37 +9,23 @@ use mathlib.Core.List.{List, _++_, append-assoc}
 use lib.ListN.{length, getD, take, drop, replicate, length-append, length-replicate, replicate-append-replicate, List·getD-append}
 use lib.Seq.{take-at, drop-at, getD-append-add, drop-drop, drop-append-add}
 use lib.Dec.{eqb}
-use Rattle.fields.specs.declared.Row.{Row}
-use Rattle.trace.specs.Rows.{rowsIn, rowHere}
-use Rattle.order.specs.Counting.{values, blocks}
-use Rattle.order.specs.Order.{rowAt, delivers, count, countsOf}
-use Rattle.order.specs.Clock.{lastBelow, fromLast, joinedTo, clock, rowIn, cellIn, withRow, filledRow}
+use Rattle.rows.specs.declared.Row.{Row}
+use Rattle.rows.specs.Rows.{rowsIn, rowHere, rowAt, rowIn}
+use Rattle.rows.specs.Counting.{values, blocks, lastBelow}
+use Rattle.order.specs.Order.{delivers, count, countsOf}
+use Rattle.order.specs.Clock.{lastOf, fromLast, joinedTo, clock, cellIn, withRow, filledRow}
 use Rattle.order.proofs.Cells.{values-length, values-at, values-same}
 use Rattle.order.proofs.Joins.{last-low, joined-same}
 use Rattle.order.proofs.Clocks.{count-most, vector-clock}
+use Rattle.rows.proofs.Zeros.{zeros}
+use Rattle.rows.proofs.Slices.{length-rows, row-in}
 
 -- ---- Rows of a slice
 
--- as many as asked for
-pub length-rows : (n : ℕ) (xs : List ℕ) → length (rowsIn n xs) ≡ n
-unfolding rowsIn
-length-rows zero xs = refl
-length-rows (suc n) xs = ap suc (length-rows n (drop 6 xs))
-
--- each is the six numbers at its place
-pub row-in : (n k : ℕ) (xs : List ℕ) → k < n → rowAt (rowsIn n xs) k ≡ rowIn xs k
-unfolding rowsIn
-row-in zero k xs h = absurd (omega arith)
-row-in (suc n) zero xs h = refl
-row-in (suc n) (suc k) xs h =
-    let l : k < n = omega arith in
-    let e : 6 + k * 6 ≡ suc k * 6 = omega arith in
-    row-in n k (drop 6 xs) l ∙ ap rowHere (drop-drop (k * 6) 6 xs ∙ ap (λ (m : ℕ). drop m xs) e)
-
 -- ---- Functions that agree below a bound
 
-last-same : (f g : ℕ → ℕ) (q n : ℕ) → ((k : ℕ) → k < n → f k ≡ g k) → lastBelow f q n ≡ lastBelow g q n
-unfolding lastBelow
+last-same : (f g : ℕ → ℕ) (q n : ℕ) → ((k : ℕ) → k < n → f k ≡ g k) → lastOf f q n ≡ lastOf g q n
+unfolding lastOf lastBelow
 last-same f g q zero h = refl
 last-same f g q (suc n) h =
     let ih = last-same f g q n (λ k l. h k (omega arith)) in
@@ -77,12 +63,6 @@ module _ (P : ℕ) (g : ℕ → ℕ → ℕ) where
           ∙ getD-append-add (rowsOf j) (values P (g j) ++ z) p 0
           ∙ List·getD-append (values P (g j)) z 0 p w ∙ values-at P (g j) p l ∙ ap (λ (x : ℕ). g x p) e
 
--- 0 everywhere, and past the end
-zeros : (m i : ℕ) → _≡_ {A = ℕ} (getD (replicate m 0) i 0) 0
-zeros zero i = refl
-zeros (suc m) zero = refl
-zeros (suc m) (suc i) = zeros m i
-
 -- behind the blocks stand zeros
 pub cell-zero : (P : ℕ) (g : ℕ → ℕ → ℕ) (j m p : ℕ) → cellIn P (rowsOf P g j ++ replicate m 0) j p ≡ 0
 cell-zero P g j m p =
@@ -115,14 +95,14 @@ module _ (n P L : ℕ) (xs : List ℕ) where
 
     -- the clock of the process's last row
     start-count : (p : ℕ) → p < P →
-        fromLast (λ k. cellIn P (filledTo j) k p) (lastBelow (λ k. rowIn xs k .process) (rowIn xs j .process) j)
-        ≡ fromLast (λ k. counted k p) (lastBelow (λ k. rowAt rows k .process) (rowAt rows j .process) j)
+        fromLast (λ k. cellIn P (filledTo j) k p) (lastOf (λ k. rowIn xs k .process) (rowIn xs j .process) j)
+        ≡ fromLast (λ k. counted k p) (lastOf (λ k. rowAt rows k .process) (rowAt rows j .process) j)
     start-count p l =
-        from-same (λ k. cellIn P (filledTo j) k p) (λ k. counted k p) (lastBelow (λ k. rowIn xs k .process) (rowIn xs j .process) j) j
+        from-same (λ k. cellIn P (filledTo j) k p) (λ k. counted k p) (lastOf (λ k. rowIn xs k .process) (rowIn xs j .process) j) j
         (last-low (λ k. rowIn xs k .process) (rowIn xs j .process) j) (cells p l)
         ∙ ap (fromLast (λ k. counted k p))
         (last-same (λ k. rowIn xs k .process) (λ k. rowAt rows k .process) (rowIn xs j .process) j (λ k q. ap (λ (r : Row). r .process) (at k q))
-        ∙ ap (λ (r : Row). lastBelow (λ k. rowAt rows k .process) (r .process) j) here)
+        ∙ ap (λ (r : Row). lastOf (λ k. rowAt rows k .process) (r .process) j) here)
 
     -- joined with those of the sends
     sends-count : (p : ℕ) → p < P → (a : ℕ) →

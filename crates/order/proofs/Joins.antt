@@ -11,11 +11,13 @@ use lib.ListN.{length, getD, take, drop, set, length-set}
 use lib.Seq.{getD-drop, getD-set-same, getD-set-other, take-set-le, drop-set-lt}
 use lib.Dec.{eqb}
 use borrow.Author.Tests.{eq-eqb, ne-eqb}
-use Rattle.trace.specs.Rows.{SEND, RECV, rowHere}
-use Rattle.order.specs.Counting.{values}
+use Rattle.rows.specs.Kinds.{SEND, RECV}
+use Rattle.rows.specs.Rows.{rowHere, rowIn}
+use Rattle.rows.specs.Counting.{values, lastBelow}
 use Rattle.order.specs.Order.{delivers}
-use Rattle.order.specs.Clock.{lastBelow, fromLast, joinedTo, rowIn, cellIn, withRow, joinedRow, joinedLast, joinedSends, withOwn, filledRow}
-use Rattle.order.proofs.Cells.{put, values-same, put-same, put-at, put-before, put-behind, put-next, put-over, put-length, row-before}
+use Rattle.order.specs.Clock.{lastOf, fromLast, joinedTo, cellIn, withRow, joinedRow, joinedLast, joinedSends, withOwn, filledRow}
+use Rattle.order.proofs.Cells.{put, values-same, put-same, put-at, put-before, put-behind, put-next, put-over, put-length}
+use Rattle.rows.proofs.Products.{block-before}
 
 -- ---- Rows of a slice
 
@@ -34,34 +36,34 @@ module _ (xs : List ℕ) (k : ℕ) where
   message-in = getD-drop (k * 6) xs 5 0
 
 -- the last row of a process lies below the bound
-pub last-low : (f : ℕ → ℕ) (q n : ℕ) → lastBelow f q n ≤ n
-unfolding lastBelow
+pub last-low : (f : ℕ → ℕ) (q n : ℕ) → lastOf f q n ≤ n
+unfolding lastOf lastBelow
 last-low f q zero = omega arith
 last-low f q (suc n) = go (eqb (f n) q) (last-low f q n)
   where
-    go : (b : Bool) → lastBelow f q n ≤ n → cond b (suc n) (lastBelow f q n) ≤ suc n
+    go : (b : Bool) → lastOf f q n ≤ n → cond b (suc n) (lastOf f q n) ≤ suc n
     go true h = omega arith
     go false h = omega arith
 
 -- no row is left
-pub last-empty : (f : ℕ → ℕ) (q : ℕ) {n : ℕ} → n ≤ 0 → lastBelow f q n ≡ 0
-unfolding lastBelow
-last-empty f q {n} h = let e : n ≡ 0 = omega arith in ap (λ (i : ℕ). lastBelow f q i) e
+pub last-empty : (f : ℕ → ℕ) (q : ℕ) {n : ℕ} → n ≤ 0 → lastOf f q n ≡ 0
+unfolding lastOf lastBelow
+last-empty f q {n} h = let e : n ≡ 0 = omega arith in ap (λ (i : ℕ). lastOf f q i) e
 
 module _ (xs : List ℕ) (q n : ℕ) (h : 0 < n) where
   abbrev last : ℕ → ℕ
-  last i = lastBelow (λ k. rowIn xs k .process) q i
+  last i = lastOf (λ k. rowIn xs k .process) q i
 
   split : n ≡ suc (n - 1)
   split = omega arith
 
   -- row n - 1 is of the process, or those before it decide
   pub last-here : getD xs ((n - 1) * 6) 0 ≡ q → last n ≡ n
-  unfolding lastBelow
+  unfolding lastOf lastBelow
   last-here e = ap last split ∙ rw (process-in xs (n - 1), eq-eqb (getD xs ((n - 1) * 6) 0) q e) (sym split)
 
   pub last-before : (getD xs ((n - 1) * 6) 0 ≡ q → ⊥) → last n ≡ last (n - 1)
-  unfolding lastBelow
+  unfolding lastOf lastBelow
   last-before e = ap last split ∙ rw (process-in xs (n - 1), ne-eqb (getD xs ((n - 1) * 6) 0) q e)
 
 module _ (xs : List ℕ) (k j : ℕ) where
@@ -126,7 +128,7 @@ with-same P l j e = λ i. take (j * P) l ++ (values-same P e i ++ drop (j * P + 
 module _ (P : ℕ) (l : List ℕ) (j : ℕ) (fits : j * P + P ≤ length l) where
   -- the rows before are as they were
   pub row-kept : (f : ℕ → ℕ) {k p : ℕ} → k < j → p < P → cellIn P (withRow P l j f) k p ≡ cellIn P l k p
-  row-kept f {k} {p} h g = put-before (j * P) P l f fits (k * P + p) (omega (arith, row-before P h))
+  row-kept f {k} {p} h g = put-before (j * P) P l f fits (k * P + p) (omega (arith, block-before P h))
 
   -- the next value of row k joined
   pub join-next : {x : List ℕ} {k p r : ℕ} → k < j → p < P → x ≡ put (j * P) p l (joinedRow P l j k) → r ≡ joinedRow P x j k p →
@@ -136,7 +138,7 @@ module _ (P : ℕ) (l : List ℕ) (j : ℕ) (fits : j * P + P ≤ length l) wher
       let m : j * P + p ≤ length l = omega arith in
       let v : r ≡ f p =
       q ∙ ap (λ (y : List ℕ). joinedRow P y j k p) e
-      ∙ ap₂ max (put-behind (j * P) p l f m) (put-before (j * P) p l f m (k * P + p) (omega (arith, row-before P h))) in
+      ∙ ap₂ max (put-behind (j * P) p l f m) (put-before (j * P) p l f m (k * P + p) (omega (arith, block-before P h))) in
       (λ i. set (e i) (j * P + p) (v i)) ∙ put-next (j * P) p l f m (omega arith)
 
   -- the last row joined, or none
@@ -196,10 +198,10 @@ module _ (P : ℕ) (xs l : List ℕ) (j : ℕ) (fits : j * P + P ≤ length l) w
 abbrev joined : ℕ → List ℕ → List ℕ → ℕ → ℕ → ℕ
 joined P xs l j p =
     joinedTo (λ k. delivers (rowIn xs k) (rowIn xs j)) (λ k. cellIn P l k p)
-    (fromLast (λ k. cellIn P l k p) (lastBelow (λ k. rowIn xs k .process) (getD xs (j * 6) 0) j)) j
+    (fromLast (λ k. cellIn P l k p) (lastOf (λ k. rowIn xs k .process) (getD xs (j * 6) 0) j)) j
 
 module _ (P : ℕ) (xs l : List ℕ) (j : ℕ) (fits : j * P + P ≤ length l) (zeros : (p : ℕ) → p < P → cellIn P l j p ≡ 0)
-    {x y : List ℕ} {last : ℕ} (e : last ≡ lastBelow (λ k. rowIn xs k .process) (getD xs (j * 6) 0) j)
+    {x y : List ℕ} {last : ℕ} (e : last ≡ lastOf (λ k. rowIn xs k .process) (getD xs (j * 6) 0) j)
     (a : x ≡ withRow P l j (joinedLast P l j last)) (b : y ≡ withRow P x j (joinedSends P xs x j)) where
   -- row j is within the slice still
   kept : j * P + P ≤ length x

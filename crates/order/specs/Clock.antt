@@ -5,17 +5,16 @@ use mathlib.Core.Bool.{Bool, cond}
 use mathlib.Core.List.{List, _++_}
 use lib.ListN.{getD, take, drop}
 use lib.Dec.{eqb}
-use Rattle.fields.specs.declared.Row.{Row}
-use Rattle.trace.specs.Rows.{rowHere}
-use Rattle.order.specs.Counting.{values}
-use Rattle.order.specs.Order.{rowAt, delivers, count}
+use Rattle.rows.specs.declared.Row.{Row}
+use Rattle.rows.specs.Rows.{rowHere, rowAt, rowIn}
+use Rattle.rows.specs.Counting.{values, lastBelow}
+use Rattle.order.specs.Order.{delivers, count}
 
 -- ---- On rows
 
 -- the last row of a process below k, as its place and one; 0 where there is none
-unfoldable pub lastBelow : (ℕ → ℕ) → ℕ → ℕ → ℕ
-lastBelow processAt process zero = 0
-lastBelow processAt process (suc k) = cond (eqb (processAt k) process) (suc k) (lastBelow processAt process k)
+unfoldable pub lastOf : (ℕ → ℕ) → ℕ → ℕ → ℕ
+lastOf processAt process k = lastBelow k (λ i. eqb (processAt i) process)
 
 -- a value from a place and one; 0 where there is none
 abbrev pub fromLast : (ℕ → ℕ) → ℕ → ℕ
@@ -32,13 +31,9 @@ joinedTo sends f start (suc k) = cond (sends k) (max (joinedTo sends f start k) 
 unfoldable pub clock : List Row → ℕ → ℕ → ℕ
 clock rows p j =
     joinedTo (λ k. delivers (rowAt rows k) (rowAt rows j)) (λ k. count rows p k)
-    (fromLast (λ k. count rows p k) (lastBelow (λ k. rowAt rows k .process) (rowAt rows j .process) j)) j
+    (fromLast (λ k. count rows p k) (lastOf (λ k. rowAt rows k .process) (rowAt rows j .process) j)) j
 
 -- ---- On slices
-
--- the row at a place of the rows' slice
-abbrev pub rowIn : List ℕ → ℕ → Row
-rowIn xs k = rowHere (drop (k * 6) xs)
 
 -- the count of process p at row k in the counts' slice
 abbrev pub cellIn : ℕ → List ℕ → ℕ → ℕ → ℕ
@@ -72,4 +67,4 @@ unfoldable pub filledRow : ℕ → List ℕ → List ℕ → ℕ → ℕ → ℕ
 filledRow processLimit xs counts j =
     withOwn (rowIn xs j .process)
     (λ p. joinedTo (λ k. delivers (rowIn xs k) (rowIn xs j)) (λ k. cellIn processLimit counts k p)
-    (fromLast (λ k. cellIn processLimit counts k p) (lastBelow (λ k. rowIn xs k .process) (rowIn xs j .process) j)) j)
+    (fromLast (λ k. cellIn processLimit counts k p) (lastOf (λ k. rowIn xs k .process) (rowIn xs j .process) j)) j)

@@ -4,11 +4,10 @@ use mathlib.Core.Bool.{Bool, true, cond, _&&_}
 use mathlib.Core.List.{List, [], _∷_, _++_}
 use lib.ListN.{length, replicate}
 use lib.Dec.{leb, ltb, eqb}
-use Rattle.models.specs.Limits.{ROWS, PROCESSES}
-use Rattle.trace.specs.Rows.{rowsIn}
-use Rattle.trace.specs.Questions.{Question, longEnough}
+use Rattle.rows.specs.Limits.{ROWS, PROCESSES}
+use Rattle.rows.specs.Rows.{rowsIn, rowIn}
+use Rattle.rows.specs.Questions.{longEnough, Question}
 use Rattle.order.specs.Order.{countsOf}
-use Rattle.order.specs.Clock.{rowIn}
 use Rattle.order.specs.declared.Filled.{Filled}
 use Rattle.order.specs.declared.Filled.the-variants.{Done, Refused}
 

@@ -1,4 +1,3 @@
-pub mod Counting
 pub mod Order
 pub mod Clock
 pub mod Filling

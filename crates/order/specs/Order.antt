@@ -5,16 +5,10 @@ use mathlib.Core.Bool.{Bool, true, false, _&&_, _||_}
 use mathlib.Core.List.{List}
 use lib.ListN.{length, getD}
 use lib.Dec.{ltb, eqb}
-use Rattle.fields.specs.declared.Row.{Row}
-use Rattle.trace.specs.Rows.{SEND, RECV}
-use Rattle.order.specs.Counting.{anyBelow, countBelow, values, blocks}
-
--- the row at a place
-abbrev pub noRow : Row
-noRow = record { process = 0; kind = 0; file = 0; offset = 0; length = 0; message = 0 }
-
-abbrev pub rowAt : List Row → ℕ → Row
-rowAt rows i = getD rows i noRow
+use Rattle.rows.specs.declared.Row.{Row}
+use Rattle.rows.specs.Kinds.{SEND, RECV}
+use Rattle.rows.specs.Counting.{anyBelow, countBelow, values, blocks}
+use Rattle.rows.specs.Rows.{rowAt}
 
 -- two rows of one process
 abbrev pub sameProcess : Row → Row → Bool

@@ -2,9 +2,10 @@
 ghost use mathlib.Core.Path.{_≡_};
 ghost use Prim.Native.Nat.{ℕ, max, _+_, _*_, _-_, _<_, _≤_};
 ghost use lib.ListN.{length};
-ghost use Rattle.trace.specs.Questions.{firstNo, longEnough};
+ghost use Rattle.rows.specs.Questions.{longEnough, firstNo};
 ghost use Rattle.order.specs.Order.{delivers};
-ghost use Rattle.order.specs.Clock.{lastBelow, rowIn, cellIn, withRow, joinedRow, joinedLast, joinedSends, withOwn, filledRow};
+ghost use Rattle.order.specs.Clock.{lastOf, cellIn, withRow, joinedRow, joinedLast, joinedSends, withOwn, filledRow};
+ghost use Rattle.rows.specs.Rows.{rowIn};
 ghost use Rattle.order.specs.Filling.{processesIn, fillQuestions, filledOf, filledLeft};
 
 // The counts were filled, or the number of the question that was answered No.
@@ -23,7 +24,7 @@ pub fn fill_counts(rows: &[u32], n: u32, process_limit: u32, counts: &mut [u16])
     if no != 0 {
         return Filled::Refused(no);
     }
-    trace::clear_counts(counts);
+    rows::clear_counts(counts);
     let total = n as usize;
     let processes = process_limit as usize;
     let mut j = 0;
@@ -41,13 +42,13 @@ fn ask_rows(rows: &[u32], n: u32, process_limit: u32, counts_len: usize) -> u32
     if !slices_fit(n, process_limit, rows.len(), counts_len) {
         return 1;
     }
-    if models::ROWS < n {
+    if rows::ROWS < n {
         return 2;
     }
     if process_limit < 1 {
         return 2;
     }
-    if models::PROCESSES < process_limit {
+    if rows::PROCESSES < process_limit {
         return 2;
     }
     if !processes_in(rows, n as usize, process_limit) {
@@ -100,7 +101,7 @@ fn fill_row(rows: &[u32], j: usize, processes: usize, counts: &mut [u16])
 // The last row of the process below j, as its place and one; 0 where there is none.
 fn last_of(rows: &[u32], j: usize, process: u32) -> usize
     requires { ⌜ j * 6 ≤ length (now rows) ⌝ }
-    ensures { λ r. ⌜ r ≡ lastBelow (λ k. rowIn (now (rows .entry)) k .process) process j ⌝ }
+    ensures { λ r. ⌜ r ≡ lastOf (λ k. rowIn (now (rows .entry)) k .process) process j ⌝ }
 {
     let mut i = j;
     while 0 < i {

@@ -8,14 +8,14 @@ use lib.ListN.{length, take, drop, take-append-drop}
 use lib.Seq.{length-take-le}
 use lib.Dec.{leb, eqb}
 use borrow.Author.Tests.{le-leb, lt-leb, leb-true, lt-ltb, le-ltb, ne-eqb}
-use Rattle.models.specs.Limits.{ROWS, FILES, OFFSET-MAX}
-use Rattle.models.specs.Operations.{READ, WRITE}
-use Rattle.fields.specs.declared.Row.{Row}
-use Rattle.trace.specs.Questions.{firstNo}
+use Rattle.rows.specs.Limits.{ROWS, FILES, OFFSET-MAX}
+use Rattle.rows.specs.Kinds.{READ, WRITE}
+use Rattle.rows.specs.declared.Row.{Row}
+use Rattle.rows.specs.Questions.{firstNo}
 use Rattle.runs.specs.Cells.{Bytes, cellOf, overwrite}
 use Rattle.runs.specs.Runs.{Run, runsOf, piecesOf}
 use Rattle.runs.specs.Maps.{mapFor, threes, spaceIn, bytesOf, lawful, lawfulPublished, mapAt}
-use Rattle.runs.proofs.Trips.{both}
+use Rattle.rows.proofs.Bools.{and-out}
 use Rattle.layers.specs.Layers.{afterPlain, piecesRead}
 use Rattle.layers.specs.States.{Header, processLimit, lawfulPlain, plainIn, plainTo, plainFits}
 use Rattle.layers.specs.Steps.{Answer, done, listed, plainMakingQuestions, rowAsked, roomAsked, plainStepOf}
@@ -71,7 +71,7 @@ module _ (h : Header) (xs : List ℕ) (law : lawfulPlain h xs ≡ true) where
 
   -- it is lawful, as the first map of the slice
   here-law : lawful (mapAt (h .space) 0 xs) ≡ true
-  here-law = both (lawful (mapAt (h .space) 0 xs)) _ (plain-making h xs law .1) .0
+  here-law = and-out (lawful (mapAt (h .space) 0 xs)) _ (plain-making h xs law .1) .0
 
   -- and as it is lent
   pub map-law : lawful map ≡ true

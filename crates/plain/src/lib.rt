@@ -3,11 +3,10 @@ ghost use mathlib.Core.Path.{_≡_};
 ghost use mathlib.Core.Bool.{true};
 ghost use Rattle.layers.specs.States.{lawfulPlain};
 ghost use Rattle.layers.specs.Steps.{plainStepOf};
-ghost use Rattle.asking.specs.Answers.{headerOf, Steps};
-ghost use Rattle.asking.specs.Answers.{putTo};
+ghost use Rattle.asking.specs.Answers.{headerOf, Steps, putTo};
 use asking::Machine;
 use extents::Answer;
-use fields::Row;
+use rows::Row;
 
 // A lawful plain file: limits as for making, a slice that is long enough, and a lawful map without marks.
 pub fn is_plain(plain: Machine, map: &[u32]) -> bool

@@ -11,16 +11,18 @@ use mathlib.Core.List.{List}
 use lib.ListN.{length}
 use lib.Dec.{leb, ltb, eqb}
 use borrow.Author.Tests.{lt-ltb, ltb-true, le-leb, leb-true, eq-eqb, ne-eqb, eqb-true}
-use Rattle.models.specs.Operations.{READ, WRITE}
+use Rattle.rows.specs.Kinds.{READ, WRITE}
 use Rattle.models.specs.Table.{publishes, refreshes}
-use Rattle.fields.specs.declared.Row.{Row}
-use Rattle.order.specs.Counting.{anyBelow}
-use Rattle.order.specs.Order.{rowAt, edge, HB, one, more, hb, upTo, count}
-use Rattle.order.proofs.Below.{and-out, or-out, or-right, same-test, not-passed, count-less, count-cut}
+use Rattle.rows.specs.declared.Row.{Row}
+use Rattle.rows.specs.Counting.{anyBelow, leastFrom, lastBelow}
+use Rattle.order.specs.Order.{edge, HB, one, more, hb, upTo, count}
+use Rattle.rows.specs.Rows.{rowAt}
+use Rattle.rows.proofs.Bools.{and-out, or-out, or-right, same-test, not-passed}
+use Rattle.rows.proofs.Below.{count-less, count-cut}
 use Rattle.order.proofs.Clocks.{edge-forward, program-order, HB-less, HB-trans, hb-iff, placeOf, place-iff}
-use Rattle.races.specs.Races.{sameFile, leastFrom}
+use Rattle.races.specs.Races.{sameFile}
 use Rattle.races.specs.Marks.{publishedBy, refreshedBy, tableChain}
-use Rattle.races.specs.Search.{lastBelow, isPublish, isRefresh, publishAt, refreshAt, bestChain, countsOrder}
+use Rattle.races.specs.Search.{isPublish, isRefresh, publishAt, refreshAt, bestChain, countsOrder}
 use Rattle.races.proofs.Verdicts.{Least, least-is}
 use Rattle.races.proofs.Chains.{HB-in, HB-start, two-iff}
 

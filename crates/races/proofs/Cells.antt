@@ -9,15 +9,14 @@ use lib.ListN.{length, getD}
 use lib.Seq.{getD-drop}
 use lib.Dec.{ltb, eqb}
 use borrow.Author.Tests.{eq-eqb, ne-eqb}
-use Rattle.models.specs.Operations.{READ, WRITE}
+use Rattle.rows.specs.Kinds.{READ, WRITE}
 use Rattle.models.specs.Table.{refreshes}
-use Rattle.trace.specs.Rows.{rowHere, rowsIn}
-use Rattle.order.specs.Order.{rowAt}
-use Rattle.order.specs.Clock.{rowIn}
-use Rattle.order.proofs.Filling.{row-in}
+use Rattle.rows.specs.Rows.{rowHere, rowsIn, rowAt, rowIn}
+use Rattle.rows.proofs.Slices.{row-in}
 pub use Rattle.order.proofs.Joins.{process-in}
 use Rattle.races.specs.Races.{conflict, shareByte}
-use Rattle.races.specs.Search.{lastBelow, isRefresh, refreshAt}
+use Rattle.races.specs.Search.{isRefresh, refreshAt}
+use Rattle.rows.specs.Counting.{lastBelow}
 
 -- ---- The numbers of a row
 

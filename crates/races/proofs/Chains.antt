@@ -8,12 +8,14 @@ use mathlib.Core.List.{List}
 use lib.ListN.{length}
 use lib.Dec.{ltb, eqb}
 use borrow.Author.Tests.{lt-ltb, ltb-true, eq-eqb, eqb-true}
-use Rattle.models.specs.Operations.{COMMIT, OPEN, CLOSE, SYNC}
+use Rattle.rows.specs.Kinds.{COMMIT, OPEN, CLOSE, SYNC}
 use Rattle.models.specs.Table.{publishes, refreshes}
-use Rattle.fields.specs.declared.Row.{Row}
-use Rattle.order.specs.Counting.{anyBelow}
-use Rattle.order.specs.Order.{rowAt, sameProcess, edge, HB, one, more, hb}
-use Rattle.order.proofs.Below.{and-out, same-test, any-in, any-out}
+use Rattle.rows.specs.declared.Row.{Row}
+use Rattle.rows.specs.Counting.{anyBelow}
+use Rattle.order.specs.Order.{sameProcess, edge, HB, one, more, hb}
+use Rattle.rows.specs.Rows.{rowAt}
+use Rattle.rows.proofs.Bools.{and-out, same-test}
+use Rattle.rows.proofs.Below.{any-in, any-out}
 use Rattle.order.proofs.Clocks.{edge-forward, edge-in, HB-less, hb-iff}
 use Rattle.races.specs.Races.{sameFile, isSync, chainPosix, chainCommit, chainSession, chainMpiIo, chain}
 use Rattle.races.specs.Marks.{publishedBy, refreshedBy, tableChain}

@@ -5,10 +5,10 @@ use mathlib.Core.Logic.{_↔_, _⊎_, inl, inr}
 use mathlib.Core.Bool.{Bool, true, false, not, _&&_, _||_, or-true}
 use lib.Dec.{eqb}
 use borrow.Author.Tests.{eq-eqb, ne-eqb, eqb-true, eqb-false, not-true}
-use Rattle.models.specs.Operations.{READ, WRITE}
-use Rattle.fields.specs.declared.Row.{Row}
+use Rattle.rows.specs.Kinds.{READ, WRITE}
+use Rattle.rows.specs.declared.Row.{Row}
 use Rattle.order.specs.Order.{sameProcess}
-use Rattle.order.proofs.Below.{and-out, or-out}
+use Rattle.rows.proofs.Bools.{and-out, or-out}
 use Rattle.races.specs.Races.{isWrite, isData, sameFile, shareByte, conflict}
 use Rattle.races.proofs.Verdicts.{share-iff}
 

@@ -2,7 +2,6 @@ pub mod Verdicts
 pub mod Conflicts
 pub mod Chains
 pub mod Best
-pub mod Bench
 pub mod Scans
 pub mod Cells
 pub mod Passes

@@ -9,11 +9,13 @@ use mathlib.Core.List.{List}
 use lib.ListN.{length}
 use lib.Dec.{ltb, eqb}
 use borrow.Author.Tests.{lt-ltb, ltb-true, eq-eqb, eqb-true, not-true}
-use Rattle.models.specs.Limits.{MODELS}
-use Rattle.models.specs.Operations.{READ, WRITE, COMMIT, OPEN, CLOSE, SYNC, POSIX, COMMIT-MODEL, SESSION, MPI-IO}
-use Rattle.fields.specs.declared.Row.{Row}
-use Rattle.order.specs.Order.{rowAt, sameProcess, edge, HB}
-use Rattle.order.proofs.Below.{and-out, or-out, or-right, not-passed}
+use Rattle.rows.specs.Limits.{MODELS}
+use Rattle.rows.specs.Kinds.{READ, WRITE, COMMIT, OPEN, CLOSE, SYNC}
+use Rattle.models.specs.Models.{POSIX, COMMIT-MODEL, SESSION, MPI-IO}
+use Rattle.rows.specs.declared.Row.{Row}
+use Rattle.order.specs.Order.{sameProcess, edge, HB}
+use Rattle.rows.specs.Rows.{rowAt}
+use Rattle.rows.proofs.Bools.{and-out, or-out, or-right, not-passed}
 use Rattle.order.proofs.Clocks.{edge-forward, hb-iff}
 use Rattle.races.specs.Races.{sameFile, isSync, conflict, chain, synchronized, race, free, racing, verdictOf}
 use Rattle.races.proofs.Verdicts.{First, free-iff, racing-iff}

@@ -11,18 +11,21 @@ use lib.ListN.{length, getD, set, replicate, length-set, length-append, length-r
 use lib.Seq.{getD-drop, getD-set-same, getD-set-other}
 use lib.Dec.{leb, ltb, eqb}
 use borrow.Author.Tests.{eq-eqb, ne-eqb, lt-ltb, le-ltb}
-use Rattle.models.specs.Operations.{READ}
+use Rattle.rows.specs.Kinds.{READ}
 use Rattle.models.specs.Table.{publishes, refreshes}
-use Rattle.fields.specs.declared.Row.{Row}
-use Rattle.trace.specs.Rows.{rowsIn, rowHere}
-use Rattle.order.specs.Order.{rowAt, count, countsOf}
-use Rattle.order.specs.Clock.{rowIn, cellIn}
-use Rattle.order.proofs.Cells.{row-before}
-use Rattle.order.proofs.Filling.{length-rows, row-in, rowsOf, length-rowsOf, cell-done}
-use Rattle.races.specs.Races.{isData, conflict, leastFrom}
-use Rattle.races.specs.Search.{lastBelow, isRefresh, refreshAt}
+use Rattle.rows.specs.declared.Row.{Row}
+use Rattle.rows.specs.Rows.{rowsIn, rowHere, rowAt, rowIn}
+use Rattle.order.specs.Order.{count, countsOf}
+use Rattle.order.specs.Clock.{cellIn}
+use Rattle.rows.proofs.Products.{block-before}
+use Rattle.order.proofs.Filling.{rowsOf, length-rowsOf, cell-done}
+use Rattle.rows.proofs.Slices.{length-rows, row-in}
+use Rattle.races.specs.Races.{isData, conflict}
+use Rattle.rows.specs.Counting.{leastFrom, lastBelow}
+use Rattle.races.specs.Search.{isRefresh, refreshAt}
 use Rattle.races.specs.Scan.{noted, lastNoted, inOrder, raceAt}
 use Rattle.races.specs.Given.{Given}
+use Rattle.rows.proofs.Zeros.{zeros}
 
 -- ---- What is read
 
@@ -55,7 +58,7 @@ module _ {n P model : ℕ} {xs counts : List ℕ} (g : Given n P model xs counts
       let f : ℕ → ℕ → ℕ = λ k p. count rows p k in
       omega (
         arith,
-        row-before P h,
+        block-before P h,
         ap length (g .counted),
         length-append (rowsOf P f (length rows)) (g .rest),
         length-rowsOf P f (length rows),
@@ -165,12 +168,6 @@ unfolding lastNoted lastBelow
 last-next rows model y o p c f t =
     let one : c + 1 ≡ suc c = omega arith in
     ap (lastNoted rows model y o p) one ∙ (λ i. cond (f i && sym t i) (suc c) (lastNoted rows model y o p c))
-
--- 0 everywhere
-zeros : (m i : ℕ) → _≡_ {A = ℕ} (getD (replicate m 0) i 0) 0
-zeros zero i = refl
-zeros (suc m) zero = refl
-zeros (suc m) (suc i) = zeros m i
 
 -- no row is looked at
 pub noting-start : (rows : List Row) (model y : ℕ) {refresh : ℕ} → refresh ≡ refreshAt rows model y →

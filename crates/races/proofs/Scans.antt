@@ -7,15 +7,17 @@ use mathlib.Core.List.{List}
 use lib.ListN.{length}
 use lib.Dec.{ltb, eqb}
 use borrow.Author.Tests.{lt-ltb, ltb-true, eq-eqb, eqb-true}
-use Rattle.models.specs.Operations.{WRITE}
+use Rattle.rows.specs.Kinds.{WRITE}
 use Rattle.models.specs.Table.{publishes}
-use Rattle.fields.specs.declared.Row.{Row}
-use Rattle.order.specs.Order.{rowAt, edge, HB}
-use Rattle.order.proofs.Below.{and-out, same-test}
+use Rattle.rows.specs.declared.Row.{Row}
+use Rattle.order.specs.Order.{edge, HB}
+use Rattle.rows.specs.Rows.{rowAt}
+use Rattle.rows.proofs.Bools.{and-out, same-test}
 use Rattle.order.proofs.Clocks.{edge-forward, HB-less, hb-iff}
-use Rattle.races.specs.Races.{sameFile, conflict, synchronized, race, leastFrom, free, racing, verdictOf}
+use Rattle.races.specs.Races.{sameFile, conflict, synchronized, race, free, racing, verdictOf}
+use Rattle.rows.specs.Counting.{leastFrom, lastBelow}
 use Rattle.races.specs.Marks.{publishedBy, refreshedBy, tableChain}
-use Rattle.races.specs.Search.{lastBelow, isPublish, publishAt, refreshAt, bestChain}
+use Rattle.races.specs.Search.{isPublish, publishAt, refreshAt, bestChain}
 use Rattle.races.specs.Scan.{before, noted, lastNoted, inOrder, raceAt}
 use Rattle.races.proofs.Verdicts.{least-is, race-out, free-iff, racing-iff}
 use Rattle.races.proofs.Conflicts.{Conflict, conflict-iff}

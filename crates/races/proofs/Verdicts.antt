@@ -9,10 +9,11 @@ use mathlib.Core.List.{List}
 use lib.ListN.{length}
 use lib.Dec.{ltb, eqb}
 use borrow.Author.Tests.{lt-ltb, ltb-true, eqb-true, eqb-false}
-use Rattle.fields.specs.declared.Row.{Row}
-use Rattle.order.specs.Counting.{anyBelow}
-use Rattle.order.proofs.Below.{and-out, any-in, any-out}
-use Rattle.races.specs.Races.{shareByte, race, leastFrom, Verdict, free, racing, verdictOf}
+use Rattle.rows.specs.declared.Row.{Row}
+use Rattle.rows.specs.Counting.{anyBelow, leastFrom}
+use Rattle.rows.proofs.Bools.{and-out}
+use Rattle.rows.proofs.Below.{any-in, any-out}
+use Rattle.races.specs.Races.{shareByte, race, Verdict, free, racing, verdictOf}
 
 -- two ranges overlap exactly where some byte lies in both
 pub share-iff : (r s : Row) →

@@ -8,19 +8,20 @@ use mathlib.Core.List.{List, _++_}
 use lib.ListN.{length, replicate}
 use lib.Dec.{leb, ltb}
 use borrow.Author.Tests.{leb-true, ltb-true, lt-ltb, le-ltb, ne-eqb}
-use Rattle.models.specs.Limits.{MODELS, PROCESSES, ROWS}
-use Rattle.fields.specs.declared.Row.{Row}
-use Rattle.trace.specs.Rows.{rowsIn}
-use Rattle.trace.specs.Questions.{firstNo, longEnough}
-use Rattle.trace.proofs.Laws.{all-yes}
+use Rattle.rows.specs.Limits.{MODELS, PROCESSES, ROWS}
+use Rattle.rows.specs.declared.Row.{Row}
+use Rattle.rows.specs.Rows.{rowsIn, rowAt}
+use Rattle.rows.specs.Questions.{longEnough, firstNo}
+use Rattle.rows.proofs.Asking.{all-yes}
 use Rattle.order.specs.declared.Filled.{Filled}
 use Rattle.order.specs.declared.Filled.the-variants as filled
-use Rattle.order.specs.Order.{rowAt, countsOf}
+use Rattle.order.specs.Order.{countsOf}
 use Rattle.order.specs.Filling.{countLimits, fillQuestions, filledOf, filledLeft}
-use Rattle.order.proofs.Below.{and-out}
-use Rattle.order.proofs.Filling.{length-rows}
+use Rattle.rows.proofs.Bools.{and-out}
+use Rattle.rows.proofs.Slices.{length-rows}
 use Rattle.order.proofs.Asking.{Asked, asked, done-told, refused-told}
-use Rattle.races.specs.Races.{conflict, leastFrom, verdictOf}
+use Rattle.races.specs.Races.{conflict, verdictOf}
+use Rattle.rows.specs.Counting.{leastFrom}
 use Rattle.races.specs.Scan.{inOrder, raceAt, judgeQuestions, foundOf, answerOf}
 use Rattle.races.specs.Given.{Given}
 use Rattle.races.specs.declared.Found.{Found}

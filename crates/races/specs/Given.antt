@@ -3,9 +3,8 @@ use Prim.Native.Nat.{ℕ, _*_, _≤_, _<_}
 use mathlib.Core.Path.{_≡_}
 use mathlib.Core.List.{List, _++_}
 use lib.ListN.{length}
-use Rattle.trace.specs.Rows.{rowsIn}
+use Rattle.rows.specs.Rows.{rowsIn, rowIn}
 use Rattle.order.specs.Order.{countsOf}
-use Rattle.order.specs.Clock.{rowIn}
 
 pub record Given (n processes model : ℕ) (xs counts : List ℕ) : Type 0 where
   pub few-rows : n ≤ 4096

@@ -4,11 +4,12 @@ use mathlib.Core.Bool.{Bool, cond, _&&_}
 use mathlib.Core.List.{List}
 use lib.ListN.{length}
 use lib.Dec.{ltb, eqb}
-use Rattle.models.specs.Operations.{READ, WRITE}
+use Rattle.rows.specs.Kinds.{READ, WRITE}
 use Rattle.models.specs.Table.{publishes, refreshes}
-use Rattle.fields.specs.declared.Row.{Row}
-use Rattle.order.specs.Counting.{anyBelow}
-use Rattle.order.specs.Order.{rowAt, sameProcess, edge, hb}
+use Rattle.rows.specs.declared.Row.{Row}
+use Rattle.rows.specs.Counting.{anyBelow}
+use Rattle.order.specs.Order.{sameProcess, edge, hb}
+use Rattle.rows.specs.Rows.{rowAt}
 use Rattle.races.specs.Races.{sameFile}
 
 module _ (rows : List Row) (model : ℕ) where

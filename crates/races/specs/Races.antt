@@ -5,10 +5,12 @@ use mathlib.Core.Bool.{Bool, true, false, cond, not, _&&_, _||_}
 use mathlib.Core.List.{List}
 use lib.ListN.{length}
 use lib.Dec.{leb, ltb, eqb}
-use Rattle.models.specs.Operations.{READ, WRITE, COMMIT, OPEN, CLOSE, SYNC, POSIX, COMMIT-MODEL, SESSION, MPI-IO}
-use Rattle.fields.specs.declared.Row.{Row}
-use Rattle.order.specs.Counting.{anyBelow}
-use Rattle.order.specs.Order.{rowAt, sameProcess, edge, hb}
+use Rattle.rows.specs.Kinds.{READ, WRITE, COMMIT, OPEN, CLOSE, SYNC}
+use Rattle.models.specs.Models.{POSIX, COMMIT-MODEL, SESSION, MPI-IO}
+use Rattle.rows.specs.declared.Row.{Row}
+use Rattle.rows.specs.Counting.{anyBelow, leastFrom}
+use Rattle.order.specs.Order.{sameProcess, edge, hb}
+use Rattle.rows.specs.Rows.{rowAt}
 
 -- ---- Conflicts
 
@@ -83,11 +85,6 @@ module _ (rows : List Row) where
   -- a conflicting pair, the earlier row first, that is not properly synchronized
   unfoldable pub race : ℕ → ℕ → ℕ → Bool
   race model x y = ltb x y && (ltb y (length rows) && (conflict (row x) (row y) && not (synchronized model x y)))
-
--- the smallest number from s on that passes, among n of them; s + n where none does
-unfoldable pub leastFrom : ℕ → ℕ → (ℕ → Bool) → ℕ
-leastFrom zero s test = s
-leastFrom (suc n) s test = cond (test s) s (leastFrom n (suc s) test)
 
 -- "free", or the numbers of the earlier and the later row of a race
 pub data Verdict : Type 0 where

@@ -5,16 +5,17 @@ use mathlib.Core.Bool.{Bool, cond, not, _&&_}
 use mathlib.Core.List.{List, [], _∷_}
 use lib.ListN.{length}
 use lib.Dec.{leb, ltb, eqb}
-use Rattle.models.specs.Operations.{WRITE}
-use Rattle.models.specs.Limits.{MODELS}
+use Rattle.rows.specs.Kinds.{WRITE}
+use Rattle.rows.specs.Limits.{MODELS}
 use Rattle.models.specs.Table.{publishes}
-use Rattle.fields.specs.declared.Row.{Row}
-use Rattle.trace.specs.Rows.{rowsIn}
-use Rattle.trace.specs.Questions.{Question, longEnough}
-use Rattle.order.specs.Order.{rowAt, count}
+use Rattle.rows.specs.declared.Row.{Row}
+use Rattle.rows.specs.Rows.{rowsIn, rowAt}
+use Rattle.rows.specs.Questions.{longEnough, Question}
+use Rattle.order.specs.Order.{count}
 use Rattle.order.specs.Filling.{countLimits, processesIn}
-use Rattle.races.specs.Races.{isWrite, sameFile, conflict, leastFrom, Verdict, free, racing, verdictOf}
-use Rattle.races.specs.Search.{lastBelow, refreshAt}
+use Rattle.races.specs.Races.{isWrite, sameFile, conflict, Verdict, free, racing, verdictOf}
+use Rattle.rows.specs.Counting.{leastFrom, lastBelow}
+use Rattle.races.specs.Search.{refreshAt}
 use Rattle.races.specs.declared.Found.{Found}
 use Rattle.races.specs.declared.Found.the-variants.{Free, Race, Refused}
 

@@ -5,16 +5,13 @@ use mathlib.Core.Bool.{Bool, cond, _&&_}
 use mathlib.Core.List.{List}
 use lib.ListN.{length}
 use lib.Dec.{leb, ltb}
-use Rattle.models.specs.Operations.{READ, WRITE}
+use Rattle.rows.specs.Kinds.{READ, WRITE}
 use Rattle.models.specs.Table.{publishes, refreshes}
-use Rattle.fields.specs.declared.Row.{Row}
-use Rattle.order.specs.Order.{rowAt, sameProcess, edge, hb, count}
-use Rattle.races.specs.Races.{sameFile, leastFrom}
-
--- the last number below n that passes, as it and one; 0 where none does
-unfoldable pub lastBelow : ℕ → (ℕ → Bool) → ℕ
-lastBelow zero test = 0
-lastBelow (suc k) test = cond (test k) (suc k) (lastBelow k test)
+use Rattle.rows.specs.declared.Row.{Row}
+use Rattle.order.specs.Order.{sameProcess, edge, hb, count}
+use Rattle.rows.specs.Rows.{rowAt}
+use Rattle.races.specs.Races.{sameFile}
+use Rattle.rows.specs.Counting.{leastFrom, lastBelow}
 
 module _ (rows : List Row) (model : ℕ) where
   -- row k publishes, or refreshes, the file of row r for its process

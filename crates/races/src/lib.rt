@@ -5,10 +5,9 @@ ghost use lib.ListN.{length};
 ghost use lib.Dec.{leb, ltb, eqb};
 ghost use mathlib.Core.Bool.{_&&_};
 ghost use Rattle.models.specs.Table.{refreshes};
-ghost use Rattle.trace.specs.Rows.{rowsIn};
-ghost use Rattle.trace.specs.Questions.{firstNo};
-ghost use Rattle.order.specs.Order.{rowAt};
-ghost use Rattle.order.specs.Clock.{rowIn, cellIn};
+ghost use Rattle.rows.specs.Rows.{rowsIn, rowAt, rowIn};
+ghost use Rattle.rows.specs.Questions.{firstNo};
+ghost use Rattle.order.specs.Clock.{cellIn};
 ghost use Rattle.order.specs.Filling.{filledLeft};
 ghost use Rattle.races.specs.Races.{conflict, verdictOf};
 ghost use Rattle.races.specs.Search.{refreshAt};
@@ -29,7 +28,7 @@ pub fn verdict(rows: &[u32], n: u32, process_limit: u32, model: u32, counts: &mu
     ensures answer { λ r. ⌜ r ≡ answerOf (firstNo (judgeQuestions n «process_limit» model (now (rows .entry)) (length (now (counts .entry))))) (now (rows .entry)) n model ⌝ }
     ensures left { λ r. ⌜ now (counts .exit) ≡ filledLeft (firstNo (judgeQuestions n «process_limit» model (now (rows .entry)) (length (now (counts .entry))))) n «process_limit» (now (rows .entry)) (now (counts .entry)) ⌝ }
 {
-    if models::MODELS <= model {
+    if rows::MODELS <= model {
         if !order::slices_fit(n, process_limit, rows.len(), counts.len()) {
             return Found::Refused(1);
         }

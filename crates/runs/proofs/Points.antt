@@ -9,10 +9,11 @@ use mathlib.Core.List.{List, [], _∷_}
 use lib.ListN.{length}
 use lib.Dec.{eqb}
 use borrow.Author.Tests.{eq-eqb, ne-eqb, eqb-true, eqb-false}
-use Rattle.models.specs.Limits.{OFFSET-MAX}
+use Rattle.rows.specs.Limits.{OFFSET-MAX}
 use Rattle.runs.specs.Cells.{Bytes, numberIn}
 use Rattle.runs.specs.Runs.{Run, cellAt, joined, runsFrom, runsOf, piecesOf, Rising}
-use Rattle.runs.specs.Points.{In, starts}
+use Rattle.runs.specs.Points.{starts}
+use Rattle.rows.specs.Lists.{In}
 use Rattle.runs.proofs.Longest.{cell-first, mean-end, Joint, longer, alone, joint, rising-from, mean-in}
 
 -- ---- A byte that starts a run

@@ -11,36 +11,17 @@ use lib.ListN.{length, getD, drop, replicate, length-append, length-replicate, l
 use lib.Seq.{drop-at, getD-drop, drop-drop}
 use lib.Dec.{leb, eqb}
 use borrow.Author.Tests.{leb-true, eqb-true, eqb-false, not-true, le-leb, lt-ltb, le-ltb, eq-eqb, ne-eqb}
-use Rattle.models.specs.Limits.{ROWS, OFFSET-MAX}
+use Rattle.rows.specs.Limits.{ROWS, OFFSET-MAX}
 use Rattle.runs.specs.Cells.{cellOf, numberIn, markIn, unpublished, inRange}
 use Rattle.runs.specs.Runs.{Run, runOf, cellAt, Next, Rising, Numbered, Lawful}
 use Rattle.runs.specs.Maps.{fours, mapOf, runHere, runsIn, spaceIn, runs, bytesOf, allZero, follows, mayFollow, lawfulFrom, lawful, noMarks}
 use Rattle.runs.proofs.Longest.{cell-first, cell-behind, mean-before, lawful-unique}
+use Rattle.rows.proofs.Bools.{and-out, not-passed, not-both}
+use Rattle.rows.proofs.Zeros.{zeros}
 
 -- ---- Tests
 
--- both of two tests passed
-pub both : (x y : Bool) → x && y ≡ true → (x ≡ true) × (y ≡ true)
-both true y e = (refl, e)
-both false y e = absurd (false≢true e)
-
--- a test that does not pass
-pub not-passed : (x : Bool) → (x ≡ true → ⊥) → x ≡ false
-not-passed true f = absurd (f refl)
-not-passed false f = refl
-
--- two tests that do not both pass
-not-both : (x y : Bool) → (x ≡ true → y ≡ true → ⊥) → x && y ≡ false
-not-both true y f = not-passed y (f refl)
-not-both false y f = refl
-
 -- ---- Zeros
-
--- 0 everywhere, and past the end
-pub zeros : (n i : ℕ) → _≡_ {A = ℕ} (getD (replicate n 0) i 0) 0
-zeros zero i = refl
-zeros (suc n) zero = refl
-zeros (suc n) (suc i) = zeros n i
 
 -- zeros are all zero
 pub zeros-in : (n : ℕ) → allZero (replicate n 0) ≡ true
@@ -52,7 +33,7 @@ zeros-in (suc n) = zeros-in n
 pub zeros-out : (xs : List ℕ) → allZero xs ≡ true → xs ≡ replicate (length xs) 0
 unfolding allZero
 zeros-out [] e = refl
-zeros-out (x ∷ xs) e = let b = both (eqb x 0) (allZero xs) e in λ i. eqb-true x 0 (b .0) i ∷ zeros-out xs (b .1) i
+zeros-out (x ∷ xs) e = let b = and-out (eqb x 0) (allZero xs) e in λ i. eqb-true x 0 (b .0) i ∷ zeros-out xs (b .1) i
 
 -- ---- Writing a map
 
@@ -160,11 +141,11 @@ pub record May (end c s l n k : ℕ) : Type 0 where
 -- what follows where it passes
 pub may-out : (end c s l n k : ℕ) → follows end c s l n k ≡ true → May end c s l n k
 may-out end c s l n k e =
-    let e1 = both (leb end s) _ e in
-    let e2 = both (leb (s + l) OFFSET-MAX) _ (e1 .1) in
-    let e3 = both (leb 1 n) _ (e2 .1) in
-    let e4 = both (leb n ROWS) _ (e3 .1) in
-    let e5 = both (leb k 1) _ (e4 .1) in
+    let e1 = and-out (leb end s) _ e in
+    let e2 = and-out (leb (s + l) OFFSET-MAX) _ (e1 .1) in
+    let e3 = and-out (leb 1 n) _ (e2 .1) in
+    let e4 = and-out (leb n ROWS) _ (e3 .1) in
+    let e5 = and-out (leb k 1) _ (e4 .1) in
     record {
       rising = leb-true _ _ (e1 .0);
       inside = leb-true _ _ (e2 .0);
@@ -298,7 +279,7 @@ lawful-read (suc n) end c xs l e =
     go true q rest = read-none (suc n) end c xs l (sym (law-stop n end c xs (eqb-true (getD xs 1 0) 0 q)) ∙ e)
     go false q rest =
         let f = eqb-false (getD xs 1 0) 0 q in
-        let b = both (mayFollow end c xs) _ (sym (law-step n end c xs f) ∙ e) in
+        let b = and-out (mayFollow end c xs) _ (sym (law-step n end c xs f) ∙ e) in
         read-more n end c xs (runsIn n (drop 4 xs)) l f (b .0) (rest (b .1))
 
 -- what a lawful slice is
@@ -312,7 +293,7 @@ pub record Map (xs : List ℕ) : Type 0 where
 pub lawful-map : (xs : List ℕ) → lawful xs ≡ true → Map xs
 unfolding lawful
 lawful-map xs e =
-    let b = both (eqb (length xs % 4) 0) _ e in
+    let b = and-out (eqb (length xs % 4) 0) _ e in
     let l : length xs ≡ 4 * spaceIn xs = omega (arith, eqb-true (length xs % 4) 0 (b .0)) in
     let r = lawful-read (spaceIn xs) 0 0 xs l (b .1) in
     record { fours-in = l; lawful-runs = record { in-order = r .in-order; numbered = r .numbered }; fit = r .fit; whole = r .whole }
@@ -433,7 +414,7 @@ pub no-marks-out : (rs : List Run) → noMarks rs ≡ true → (b : ℕ) → unp
 unfolding noMarks cellAt
 no-marks-out [] e b = refl
 no-marks-out (r ∷ rs) e b =
-    let a = both (not (unpublished (r .cell))) (noMarks rs) e in
+    let a = and-out (not (unpublished (r .cell))) (noMarks rs) e in
     go (inRange (r .start) (r .length) b) (not-true (unpublished (r .cell)) (a .0)) (no-marks-out rs (a .1) b)
   where
     go : (x : Bool) → unpublished (r .cell) ≡ false → unpublished (cellAt rs b) ≡ false → unpublished (cond x (r .cell) (cellAt rs b)) ≡ false

@@ -4,7 +4,7 @@ use mathlib.Core.Bool.{Bool, true, false, cond, not, _&&_}
 use mathlib.Core.List.{List, [], _∷_, _++_}
 use lib.ListN.{length, getD, take, drop, replicate}
 use lib.Dec.{leb, eqb}
-use Rattle.models.specs.Limits.{ROWS, OFFSET-MAX}
+use Rattle.rows.specs.Limits.{ROWS, OFFSET-MAX}
 use Rattle.runs.specs.Cells.{Bytes, cellOf, numberIn, markIn, unpublished}
 use Rattle.runs.specs.Runs.{Run, runOf, runsOf, cellAt}
 

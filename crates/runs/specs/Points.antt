@@ -7,11 +7,6 @@ use mathlib.Core.List.{List, [], _∷_}
 use lib.Dec.{eqb}
 use Rattle.runs.specs.Cells.{Bytes}
 
--- a number stands in a list
-abbrev pub In : ℕ → List ℕ → Type 0
-In a [] = ⊥
-In a (b ∷ l) = (a ≡ b) ⊎ In a l
-
 -- how many bytes of n from s on start a run, behind a byte of cell c: their cell is other than 0 and than the one before
 unfoldable pub starts : ℕ → ℕ → ℕ → Bytes → ℕ
 starts zero s c f = 0

@@ -4,7 +4,7 @@ use mathlib.Core.Path.{_≡_}
 use mathlib.Core.Bool.{Bool, cond, _&&_}
 use mathlib.Core.List.{List, [], _∷_}
 use lib.Dec.{eqb}
-use Rattle.models.specs.Limits.{ROWS, OFFSET-MAX}
+use Rattle.rows.specs.Limits.{ROWS, OFFSET-MAX}
 use Rattle.runs.specs.Cells.{Bytes, numberIn, inRange}
 
 -- bytes from a start on that have one cell

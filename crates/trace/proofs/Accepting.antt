@@ -13,9 +13,10 @@ use Rattle.csv.specs.Grammar.{Text}
 use Rattle.csv.specs.Reading.{sameBytes, records, Records, Ending, all-read, at-malformed, at-limit}
 use Rattle.csv.proofs.Contents.{same-iff}
 use Rattle.csv.proofs.Grammar.{all-read-iff}
-use Rattle.fields.specs.declared.Row.{Row}
+use Rattle.rows.specs.declared.Row.{Row}
 use Rattle.trace.specs.Rows.{headerNames, sameFields, rowOf}
-use Rattle.trace.specs.Questions.{firstNo, inRowLimit, sixFields, kindKnown, filledAsUsed, numbersInRange, endInRange, messageInOrder, fieldQuestions, rowQuestions, isHeader, Outcome, refused, accepted, judgeRows, judgeHeader, readTrace, checkTrace}
+use Rattle.trace.specs.Questions.{inRowLimit, sixFields, kindKnown, filledAsUsed, numbersInRange, endInRange, messageInOrder, fieldQuestions, rowQuestions, isHeader, Outcome, refused, accepted, judgeRows, judgeHeader, readTrace, checkTrace}
+use Rattle.rows.specs.Questions.{firstNo}
 use Rattle.trace.proofs.Laws.{Legal, accepted-passed}
 use Rattle.trace.proofs.Asking.{all-asked}
 

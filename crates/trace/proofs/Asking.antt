@@ -11,19 +11,16 @@ use lib.Dec.{leb, eqb}
 use borrow.Author.Tests.{lt-ltb, le-ltb, le-leb, lt-leb, eq-eqb, ne-eqb, eqb-true, eqb-false}
 use Rattle.csv.specs.Reading.{contentOf, noSpan, sameBytes}
 use Rattle.csv.specs.declared.Span.{Span}
-use Rattle.models.specs.Limits.{MODELS, PROCESSES, ROWS}
-use Rattle.fields.specs.declared.Row.{Row}
+use Rattle.rows.specs.Limits.{MODELS, PROCESSES, ROWS}
+use Rattle.rows.specs.declared.Row.{Row}
 use Rattle.fields.specs.declared.Judged.{Judged}
 use Rattle.fields.specs.declared.Judged.the-variants.{Kept, No}
 use Rattle.trace.specs.Rows.{headerNames, sameFields, rowOf}
-use Rattle.trace.specs.Questions.{Question, firstNo, inLimits, callQuestions, fieldQuestions, messageInOrder}
+use Rattle.trace.specs.Questions.{inLimits, callQuestions, fieldQuestions, messageInOrder}
+use Rattle.rows.specs.Questions.{Question, firstNo}
 use Rattle.trace.specs.Reads.{fieldsOf, judgedBy, judgedFields, judgedRow, headed}
 
 -- ---- The questions 1 to 3
-
--- the product of two numbers of 32 bits has 64
-pub product : {a b : ℕ} → a < 2 ^ 32 → b < 2 ^ 32 → a * b < 2 ^ 64
-product {a} {b} h g = lt-of-le-of-lt (mul-le-mul-left a (le-of-lt g)) (mul-lt-mul-of-pos-right h (omega arith))
 
 module _ (header model rowLimit processLimit rowsLength countsLength : ℕ) where
   -- the first No of a call

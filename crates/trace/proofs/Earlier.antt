@@ -8,8 +8,9 @@ use mathlib.Core.List.{List, [], _∷_}
 use lib.ListN.{drop}
 use lib.Seq.{drop-drop}
 use borrow.Author.Tests.{eq-eqb, ne-eqb}
-use Rattle.fields.specs.declared.Row.{Row}
-use Rattle.trace.specs.Rows.{SEND, RECV, rowHere, rowsIn}
+use Rattle.rows.specs.declared.Row.{Row}
+use Rattle.rows.specs.Kinds.{SEND, RECV}
+use Rattle.rows.specs.Rows.{rowHere, rowsIn}
 use Rattle.trace.specs.Questions.{any, carries, messageInOrder}
 use Rattle.trace.specs.Reads.{matches}
 

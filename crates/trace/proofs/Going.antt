@@ -15,14 +15,16 @@ use Rattle.csv.specs.declared.Answer.the-variants.{End, Malformed, Limit, Recor
 use Rattle.csv.proofs.Limit.{records-next}
 use Rattle.csv.proofs.Places.{found-places}
 use Rattle.csv.proofs.Answers.{Told, tells, all-six}
-use Rattle.fields.specs.declared.Row.{Row}
+use Rattle.rows.specs.declared.Row.{Row}
 use Rattle.trace.specs.declared.Checked.the-variants.{Accepted, Refused}
 use Rattle.fields.specs.declared.Judged.{Judged}
 use Rattle.fields.specs.declared.Judged.the-variants.{Kept, No}
-use Rattle.trace.specs.Rows.{rowOf, six, numbers, rowsIn}
-use Rattle.trace.specs.Questions.{Question, firstNo, fieldQuestions, rowQuestions, messageInOrder, Outcome, refused, accepted, judgeRows, checkedOf, Holds}
+use Rattle.trace.specs.Rows.{rowOf}
+use Rattle.rows.specs.Rows.{six, numbers, rowsIn}
+use Rattle.trace.specs.Questions.{fieldQuestions, rowQuestions, messageInOrder, Outcome, refused, accepted, judgeRows, checkedOf, Holds}
+use Rattle.rows.specs.Questions.{Question, firstNo}
 use Rattle.trace.specs.Reads.{fieldsOf, judgedBy, judgedRow, judgeFrom}
-use Rattle.trace.proofs.Laws.{length-numbers, numbers-append, rows-back}
+use Rattle.rows.proofs.Slices.{length-numbers, numbers-append, rows-back}
 use Rattle.trace.proofs.Asking.{no-of, kept-of}
 
 -- the records from a place on

@@ -9,10 +9,16 @@ use lib.Seq.{take-add, append-snoc}
 use lib.Dec.{ltb, eqb}
 use borrow.Author.Tests.{leb-true, ltb-true, eqb-true, eqb-false}
 use Rattle.csv.specs.Reading.{Records, records, Ending, all-read, at-malformed, at-limit}
-use Rattle.models.specs.Limits.{PROCESSES, ROWS, FILES, MESSAGES, OFFSET-MAX}
-use Rattle.fields.specs.declared.Row.{Row}
-use Rattle.trace.specs.Rows.{KINDS, kindOf, usedBy, isPlain, value, valueFrom, isNumber, field, rowOf, numbers, six, rowHere, rowsIn}
-use Rattle.trace.specs.Questions.{Question, firstNo, callQuestions, isHeader, kindKnown, asUsed, filledAsUsed, numberIf, OFFSETS, numbersInRange, endInRange, messageInOrder, fieldQuestions, rowQuestions, Outcome, refused, accepted, judgeRows, judgeHeader, readTrace, checkTrace, rowsLeft}
+use Rattle.rows.specs.Limits.{PROCESSES, ROWS, FILES, MESSAGES, OFFSET-MAX}
+use Rattle.rows.specs.declared.Row.{Row}
+use Rattle.trace.specs.Rows.{kindOf, usedBy, isPlain, value, valueFrom, isNumber, field, rowOf}
+use Rattle.rows.specs.Kinds.{KINDS}
+use Rattle.rows.specs.Rows.{numbers, six, rowHere, rowsIn}
+use Rattle.trace.specs.Questions.{callQuestions, isHeader, kindKnown, asUsed, filledAsUsed, numberIf, OFFSETS, numbersInRange, endInRange, messageInOrder, fieldQuestions, rowQuestions, Outcome, refused, accepted, judgeRows, judgeHeader, readTrace, checkTrace, rowsLeft}
+use Rattle.rows.specs.Questions.{Question, firstNo}
+use Rattle.rows.proofs.Bools.{and-out}
+use Rattle.rows.proofs.Asking.{no-from, all-yes}
+use Rattle.rows.proofs.Slices.{rows-back}
 
 -- a field that is not used is 0
 abbrev pub Unless : Bool → ℕ → Type 0
@@ -39,46 +45,11 @@ pub data Sound (processLimit : ℕ) : List Row → Type 0 where
 
 -- ---- What the first No says of a list of questions
 
--- no question has a number below k
-abbrev pub From : ℕ → List Question → Type 0
-From k [] = Unit {0}
-From k (q ∷ qs) = (k ≤ q .number) × From k qs
-
--- every question is answered Yes
-abbrev pub AllYes : List Question → Type 0
-AllYes [] = Unit {0}
-AllYes (q ∷ qs) = (q .yes ≡ true) × AllYes qs
-
--- a first No is one of the numbers
-pub no-from : (k : ℕ) (qs : List Question) → From k qs → (firstNo qs ≡ 0 → ⊥) → k ≤ firstNo qs
-unfolding firstNo
-no-from k [] f n = absurd (n refl)
-no-from k (q ∷ qs) f n = go (no-from k qs (f .1)) (q .yes) n
-  where
-    go : ((firstNo qs ≡ 0 → ⊥) → k ≤ firstNo qs) → (b : Bool) → (cond b (firstNo qs) (q .number) ≡ 0 → ⊥) → k ≤ cond b (firstNo qs) (q .number)
-    go rest true m = rest m
-    go rest false m = f .0
-
--- without a No every answer is Yes
-pub all-yes : (qs : List Question) → From 1 qs → firstNo qs ≡ 0 → AllYes qs
-unfolding firstNo
-all-yes [] f e = tt
-all-yes (q ∷ qs) f e = go (all-yes qs (f .1)) (q .yes) refl e
-  where
-    go : (firstNo qs ≡ 0 → AllYes qs) → (b : Bool) → q .yes ≡ b → cond b (firstNo qs) (q .number) ≡ 0 → AllYes (q ∷ qs)
-    go rest true y n = (y, rest n)
-    go rest false y n = let low : 1 ≤ q .number = f .0 in absurd (omega arith)
-
--- both of two tests passed
-both : (x y : Bool) → x && y ≡ true → (x ≡ true) × (y ≡ true)
-both true y e = (refl, e)
-both false y e = absurd (false≢true e)
-
 -- ---- A row that passes its questions is well formed
 
 -- a number that passes is below its bound
 number-below : (below : ℕ) (content : List ℕ) → isNumber below content ≡ true → value content < below
-number-below below content e = ltb-true (value content) below (both (isPlain content) (ltb (value content) below) e .1)
+number-below below content e = ltb-true (value content) below (and-out (isPlain content) (ltb (value content) below) e .1)
 
 -- a field that passes the questions 9 and 10 is in its range, and 0 where it is not used
 field-in : (used : Bool) (below : ℕ) (content : List ℕ) → 0 < below → asUsed used content ≡ true → numberIf used below content ≡ true →
@@ -97,13 +68,13 @@ well-formed processLimit fields k f n e =
     let files : 0 < FILES = omega arith in
     let offsets : 0 < OFFSETS = omega arith in
     let messages : 0 < MESSAGES = omega arith in
-    let f1 = both _ _ (both (asUsed true (field fields 0)) _ f .1) in
-    let f2 = both _ _ (f1 .1) in
-    let f3 = both _ _ (f2 .1) in
-    let n0 = both _ _ n in
-    let n1 = both _ _ (n0 .1) in
-    let n2 = both _ _ (n1 .1) in
-    let n3 = both _ _ (n2 .1) in
+    let f1 = and-out _ _ (and-out (asUsed true (field fields 0)) _ f .1) in
+    let f2 = and-out _ _ (f1 .1) in
+    let f3 = and-out _ _ (f2 .1) in
+    let n0 = and-out _ _ n in
+    let n1 = and-out _ _ (n0 .1) in
+    let n2 = and-out _ _ (n1 .1) in
+    let n3 = and-out _ _ (n2 .1) in
     let file = field-in (u .file) FILES (field fields 2) files (f1 .0) (n1 .0) in
     let offset = field-in (u .range) OFFSETS (field fields 3) offsets (f2 .0) (n2 .0) in
     let size = field-in (u .range) OFFSETS (field fields 4) offsets (f3 .0) (n3 .0) in
@@ -275,11 +246,11 @@ pub legal : (header model rowLimit processLimit rowsLength countsLength : ℕ) �
 unfolding callQuestions
 legal header model rowLimit processLimit rowsLength countsLength e =
     let yes = all-yes (callQuestions header model rowLimit processLimit rowsLength countsLength) (omega arith) e in
-    let slices = both _ _ (yes .0) in
-    let model-in = both _ _ (yes .1 .0) in
-    let rows-in = both _ _ (model-in .1) in
-    let rows-up = both _ _ (rows-in .1) in
-    let processes = both _ _ (rows-up .1) in
+    let slices = and-out _ _ (yes .0) in
+    let model-in = and-out _ _ (yes .1 .0) in
+    let rows-in = and-out _ _ (model-in .1) in
+    let rows-up = and-out _ _ (rows-in .1) in
+    let processes = and-out _ _ (rows-up .1) in
     record {
       rows-fit = leb-true _ _ (slices .0);
       counts-fit = leb-true _ _ (slices .1);
@@ -306,45 +277,6 @@ accepted-passed text header model R P limit a b rows e = go (eqb first 0) refl e
     go false q e = let z : _≡_ {A = ℕ} 0 1 = cc in absurd (omega arith)
 
 -- ---- Rows and their numbers
-
--- six numbers a row
-pub length-numbers : (rows : List Row) → length (numbers rows) ≡ 6 * length rows
-unfolding numbers six
-length-numbers [] = refl
-length-numbers (r ∷ rs) = omega (arith, length-numbers rs)
-
--- numbers of rows one after the other
-pub numbers-append : (rows more : List Row) → numbers (rows ++ more) ≡ numbers rows ++ numbers more
-unfolding numbers six
-numbers-append [] more = refl
-numbers-append (r ∷ rs) more = ap (λ (l : List ℕ). six r ++ l) (numbers-append rs more)
-
--- reading back what was written, whatever stands behind it
-pub rows-back : (rows : List Row) (behind : List ℕ) → rowsIn (length rows) (numbers rows ++ behind) ≡ rows
-unfolding rowsIn rowHere numbers six
-rows-back [] behind = refl
-rows-back (r ∷ rs) behind = ap {B = List Row} (λ l. r ∷ l) (rows-back rs behind)
-
--- six numbers at the front are the row there
-six-back : (xs : List ℕ) → 6 ≤ length xs → six (rowHere xs) ≡ take 6 xs
-unfolding six rowHere
-six-back [] h = absurd (omega arith)
-six-back (a ∷ []) h = absurd (omega arith)
-six-back (a ∷ b ∷ []) h = absurd (omega arith)
-six-back (a ∷ b ∷ c ∷ []) h = absurd (omega arith)
-six-back (a ∷ b ∷ c ∷ d ∷ []) h = absurd (omega arith)
-six-back (a ∷ b ∷ c ∷ d ∷ e ∷ []) h = absurd (omega arith)
-six-back (a ∷ b ∷ c ∷ d ∷ e ∷ f ∷ xs) h = refl
-
--- writing back what was read
-pub numbers-back : (n : ℕ) (xs : List ℕ) → 6 * n ≤ length xs → numbers (rowsIn n xs) ≡ take (6 * n) xs
-unfolding rowsIn numbers
-numbers-back zero xs h = refl
-numbers-back (suc n) xs h =
-    let all : 6 + 6 * n ≡ 6 * suc n = omega arith in
-    let here : 6 ≤ length xs = omega arith in
-    let rest : 6 * n ≤ length (drop 6 xs) = simp length-drop (omega arith) in
-    (λ i. six-back xs here i ++ numbers-back n (drop 6 xs) rest i) ∙ sym (take-add 6 (6 * n) xs) ∙ ap (λ (k : ℕ). take k xs) all
 
 -- the rows of an accepted trace are read back from the slice that the call leaves
 pub rows-left-back : (rows : List Row) (xs : List ℕ) → rowsIn (length rows) (rowsLeft (accepted rows) xs) ≡ rows

@@ -6,3 +6,4 @@ pub mod Going
 pub mod Whole
 pub mod Accepting
 pub mod Refusals
+pub mod Sounds

@@ -8,11 +8,13 @@ use lib.ListN.{length, length-append}
 use lib.Dec.{eqb}
 use borrow.Author.Tests.{ltb-true, eqb-true, eqb-false}
 use Rattle.csv.specs.Reading.{Records, records, Ending, all-read, at-malformed, at-limit}
-use Rattle.models.specs.Limits.{ROWS}
-use Rattle.fields.specs.declared.Row.{Row}
+use Rattle.rows.specs.Limits.{ROWS}
+use Rattle.rows.specs.declared.Row.{Row}
 use Rattle.trace.specs.Rows.{rowOf}
-use Rattle.trace.specs.Questions.{Question, firstNo, callQuestions, isHeader, fieldQuestions, rowQuestions, Outcome, refused, accepted, judgeRows, judgeHeader, readTrace, checkTrace}
-use Rattle.trace.proofs.Laws.{all-yes, no-from, legal}
+use Rattle.trace.specs.Questions.{callQuestions, isHeader, fieldQuestions, rowQuestions, Outcome, refused, accepted, judgeRows, judgeHeader, readTrace, checkTrace}
+use Rattle.rows.specs.Questions.{Question, firstNo}
+use Rattle.trace.proofs.Laws.{legal}
+use Rattle.rows.proofs.Asking.{all-yes, no-from}
 
 -- no question has a number past m
 abbrev UpTo : ℕ → List Question → Type 0

@@ -10,24 +10,9 @@ use lib.ListN.{length, getD, take, drop, set, replicate, length-append, length-d
 use lib.Seq.{sets-eq, getD-drop}
 use lib.Dec.{eqb}
 use borrow.Author.Tests.{eq-eqb, ne-eqb}
-use Rattle.fields.specs.declared.Row.{Row}
-use Rattle.trace.specs.Rows.{six, rowHere}
+use Rattle.rows.specs.declared.Row.{Row}
+use Rattle.rows.specs.Rows.{six, rowHere}
 use Rattle.trace.specs.Reads.{matches}
-
--- a list that is 0 up to its end
-pub cleared : (d : List ℕ) {l : List ℕ} {i : ℕ} → l ≡ replicate i 0 ++ drop i d → length l ≡ length d → length l ≤ i → l ≡ replicate (length d) 0
-cleared d {l} {i} e s h =
-    let n : i ≡ length d = omega (arith, simp (length-append, length-replicate, length-drop) at (ap length e)) in
-    let m : length d ≤ i = omega arith in
-    e ∙ (λ j. replicate (n j) 0 ++ drop-of-length-le d m j) ∙ append-nil (replicate (length d) 0)
-
--- six stores lay a row down
-pub laid : (l : List ℕ) (at : ℕ) (r : Row) → at + 6 ≤ length l →
-    set (set (set (set (set (set l at (r .process)) (at + 1) (r .kind)) (at + 2) (r .file)) (at + 3) (r .offset)) (at + 4) (r .length)) (at + 5) (r .message)
-    ≡ take at l ++ (six r ++ drop (at + 6) l)
-unfolding six
-laid l at r h =
-    rw (add-one, add-two, add-three, add-four, add-five) (sets-eq (six r) l at h ∙ append-assoc (take at l) (six r) (drop (at + 6) l))
 
 module _ (rows : List ℕ) (at : ℕ) where
   -- the numbers of the row at a place

@@ -13,13 +13,16 @@ use Rattle.csv.specs.Reading.{contentOf, sameBytes, readAt, records, recordsFro
 use Rattle.csv.specs.declared.Span.{Span}
 use Rattle.csv.proofs.Limit.{records-next}
 use Rattle.csv.proofs.Answers.{all-six}
-use Rattle.fields.specs.declared.Row.{Row}
+use Rattle.rows.specs.declared.Row.{Row}
 use Rattle.trace.specs.declared.Checked.{Checked}
 use Rattle.trace.specs.declared.Checked.the-variants.{Accepted, Refused}
-use Rattle.trace.specs.Rows.{headerNames, sameFields, numbers}
-use Rattle.trace.specs.Questions.{Question, firstNo, callQuestions, longEnough, inLimits, headerWord, isHeader, Outcome, refused, accepted, judgeRows, judgeHeader, readTrace, checkTrace, checkedOf, Holds, rowsLeft, countsLeft, Leaves}
+use Rattle.trace.specs.Rows.{headerNames, sameFields}
+use Rattle.rows.specs.Rows.{numbers}
+use Rattle.trace.specs.Questions.{callQuestions, inLimits, headerWord, isHeader, Outcome, refused, accepted, judgeRows, judgeHeader, readTrace, checkTrace, checkedOf, Holds, rowsLeft, countsLeft, Leaves}
+use Rattle.rows.specs.Questions.{longEnough, Question, firstNo}
 use Rattle.trace.specs.Reads.{fieldsOf, headed, judgeFrom}
-use Rattle.trace.proofs.Laws.{length-numbers, refused-from-four}
+use Rattle.trace.proofs.Laws.{refused-from-four}
+use Rattle.rows.proofs.Slices.{length-numbers}
 
 module _ (R P : ℕ) (text : List ℕ) (limit header : ℕ) where
   -- without a header, the rows start at once

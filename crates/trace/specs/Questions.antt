@@ -7,20 +7,18 @@ use mathlib.Core.Path.{_≡_}
 use lib.ListN.{length, drop, replicate}
 use lib.Dec.{leb, ltb, eqb}
 use Rattle.csv.specs.Reading.{records, Records, Ending, all-read, at-malformed, at-limit}
-use Rattle.models.specs.Limits.{MODELS, PROCESSES, ROWS}
-use Rattle.fields.specs.declared.Row.{Row}
+use Rattle.rows.specs.Limits.{MODELS, PROCESSES, ROWS}
+use Rattle.rows.specs.declared.Row.{Row}
 use Rattle.trace.specs.declared.Checked.{Checked}
 use Rattle.trace.specs.declared.Checked.the-variants.{Accepted, Refused}
-use Rattle.trace.specs.Rows.{SEND, RECV, headerNames, sameFields, rowOf, numbers}
-pub use Rattle.fields.specs.Questions.{Question, kindKnown, asUsed, numberIf, OFFSETS, endInRange}
-unfoldable pub use Rattle.fields.specs.Questions.{firstNo, filledAsUsed, numbersInRange, fieldQuestions}
+use Rattle.trace.specs.Rows.{headerNames, sameFields, rowOf}
+use Rattle.rows.specs.Kinds.{SEND, RECV}
+use Rattle.rows.specs.Rows.{numbers}
+pub use Rattle.fields.specs.Questions.{kindKnown, asUsed, numberIf, OFFSETS, endInRange}
+unfoldable pub use Rattle.fields.specs.Questions.{filledAsUsed, numbersInRange, fieldQuestions}
+use Rattle.rows.specs.Questions.{Question, firstNo, longEnough}
 
 -- ---- First, of the caller's numbers and slices
-
--- 1. Are the lent slices long enough (6 × row limit; row limit × process limit)?
-abbrev pub longEnough : ℕ → ℕ → ℕ → ℕ → Bool
-longEnough rowLimit processLimit rowsLength countsLength =
-    leb (6 * rowLimit) rowsLength && leb (rowLimit * processLimit) countsLength
 
 -- 2. Are model 0 to 3, row limit 1 to 4,096, process limit 1 to 64?
 abbrev pub inLimits : ℕ → ℕ → ℕ → Bool

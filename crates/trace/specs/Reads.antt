@@ -6,12 +6,13 @@ use mathlib.Core.List.{List, [], _∷_, _++_}
 use lib.ListN.{length}
 use lib.Dec.{eqb}
 use Rattle.csv.specs.Reading.{recordsFrom, Records}
-use Rattle.fields.specs.declared.Row.{Row}
+use Rattle.rows.specs.declared.Row.{Row}
 use Rattle.fields.specs.declared.Judged.{Judged}
 pub use Rattle.fields.specs.Reads.{fieldsOf, numberWhere, judgedBy}
 unfoldable pub use Rattle.fields.specs.Reads.{fillsAs, judgedFields}
 use Rattle.trace.specs.Rows.{rowOf}
-use Rattle.trace.specs.Questions.{Question, firstNo, fieldQuestions, inRowLimit, messageInOrder, carries, isHeader, Outcome, judgeRows}
+use Rattle.trace.specs.Questions.{fieldQuestions, inRowLimit, messageInOrder, carries, isHeader, Outcome, judgeRows}
+use Rattle.rows.specs.Questions.{Question, firstNo}
 
 -- the questions 6 to 12 of a record of `count` fields, of which the first six are given, behind n rows
 unfoldable pub judgedRow : ℕ → ℕ → ℕ → List Row → ℕ → List (List ℕ) → Judged

@@ -1,11 +1,12 @@
 // Traces: rows of file operations, read from RFC 4180 text into slices that the caller lends, and the questions that an input is asked.
-mod rows;
+mod reading;
 
 ghost use mathlib.Core.Path.{_≡_};
 ghost use Prim.Native.Nat.{_≤_, _*_};
 ghost use lib.ListN.{length, replicate};
 ghost use Rattle.csv.specs.Reading.{records};
-ghost use Rattle.trace.specs.Questions.{firstNo, callQuestions, readTrace, checkTrace, checkedOf, Holds, Leaves};
+ghost use Rattle.trace.specs.Questions.{callQuestions, readTrace, checkTrace, checkedOf, Holds, Leaves};
+ghost use Rattle.rows.specs.Questions.{firstNo};
 ghost use Rattle.trace.specs.Reads.{fieldsOf, headed};
 use csv::Answer;
 use csv::Span;
@@ -43,15 +44,15 @@ pub fn check_trace(
     if no != 0 {
         return Checked::Refused(no, 0);
     }
-    clear_counts(counts);
+    rows::clear_counts(counts);
     match read_trace(text, header, row_limit, process_limit, byte_limit, rows) {
         Checked::Accepted(n) => {
             let end = n as usize * 6;
-            clear_rows(&mut rows[end..]);
+            rows::clear(&mut rows[end..]);
             Checked::Accepted(n)
         }
         Checked::Refused(number, place) => {
-            clear_rows(rows);
+            rows::clear(rows);
             Checked::Refused(number, place)
         }
     }
@@ -74,46 +75,25 @@ fn ask_call(
     if (counts_len as u64) < row_limit as u64 * process_limit as u64 {
         return 1;
     }
-    if models::MODELS <= model {
+    if rows::MODELS <= model {
         return 2;
     }
     if row_limit < 1 {
         return 2;
     }
-    if models::ROWS < row_limit {
+    if rows::ROWS < row_limit {
         return 2;
     }
     if process_limit < 1 {
         return 2;
     }
-    if models::PROCESSES < process_limit {
+    if rows::PROCESSES < process_limit {
         return 2;
     }
     if 1 < header {
         return 3;
     }
     0
-}
-
-fn clear_rows(rows: &mut [u32])
-    ensures { λ r. ⌜ now (rows .exit) ≡ replicate (length (now (rows .entry))) 0 ⌝ }
-{
-    let mut at = 0;
-    while at < rows.len() {
-        rows[at] = 0;
-        at += 1;
-    }
-}
-
-// Clears a slice of counts.
-pub fn clear_counts(counts: &mut [u16])
-    ensures { λ r. ⌜ now (counts .exit) ≡ replicate (length (now (counts .entry))) 0 ⌝ }
-{
-    let mut i = 0;
-    while i < counts.len() {
-        counts[i] = 0;
-        i += 1;
-    }
 }
 
 // The questions 4 to 12, the header's first where there is one.
@@ -130,7 +110,7 @@ fn read_trace(
     ensures held { λ r. ⌜ Holds (readTrace header «row_limit» «process_limit» (records (now (text .entry)) «byte_limit»)) (now (rows .entry)) (now (rows .exit)) ⌝ }
 {
     if header == 0 {
-        return rows::read_rows(text, 0, row_limit, process_limit, byte_limit, rows);
+        return reading::read_rows(text, 0, row_limit, process_limit, byte_limit, rows);
     }
     let r = csv::read_record(text, 0, byte_limit);
     let answer = r.answer;
@@ -143,7 +123,7 @@ fn read_trace(
             if !is_header(text, r.count, spans) {
                 return Checked::Refused(5, 0);
             }
-            rows::read_rows(text, r.next, row_limit, process_limit, byte_limit, rows)
+            reading::read_rows(text, r.next, row_limit, process_limit, byte_limit, rows)
         }
     }
 }

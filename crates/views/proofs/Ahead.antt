@@ -12,7 +12,8 @@ use Rattle.runs.specs.Cells.{Bytes, unpublished, refreshed}
 use Rattle.runs.specs.Runs.{Run, runOf, cellAt, Rising}
 use Rattle.runs.specs.Maps.{noMarks}
 use Rattle.runs.proofs.Longest.{cell-first, cell-behind, mean-first, mean-end}
-use Rattle.runs.proofs.Trips.{both, no-marks-out}
+use Rattle.runs.proofs.Trips.{no-marks-out}
+use Rattle.rows.proofs.Bools.{and-out}
 use Rattle.views.specs.Packing.{Marked}
 use Rattle.views.proofs.Rests.{rest, rising-earlier, rest-skip, rest-first, rest-shorter}
 
@@ -134,7 +135,7 @@ module _ (top : ℕ) (f : Bytes) where
         own = k .own;
         own-marked = k .own-marked;
         others = rising-earlier top (q .start + q .length) (q .cell) 0 qs (omega arith) (k .others .1);
-        others-plain = both (not (unpublished (q .cell))) (noMarks qs) (k .others-plain) .1;
+        others-plain = and-out (not (unpublished (q .cell))) (noMarks qs) (k .others-plain) .1;
         means =
             λ b p l. k .means b p l ∙ ap (λ (v : ℕ). cond (unpublished (cellAt us b)) (cellAt us b) v) (cell-behind q qs b (omega arith));
       }
@@ -180,7 +181,7 @@ module _ (top : ℕ) (f : Bytes) where
       meets : e ≡ gapOf top us → e < top → f e ≡ q .cell → ⊥
       meets n t w =
           let a : unpublished (f e) ≡ true = ap (λ (z : ℕ). unpublished (f z)) n ∙ gap-marked us k (omega (arith, n, t)) in
-          marks-differ a (not-true (unpublished (q .cell)) (both (not (unpublished (q .cell))) (noMarks qs) (k .others-plain) .0)) w
+          marks-differ a (not-true (unpublished (q .cell)) (and-out (not (unpublished (q .cell))) (noMarks qs) (k .others-plain) .0)) w
 
       choose : e < top → Dec (e < gapOf top us) → f e ≡ q .cell → ⊥
       choose t (yes d) w = ends (λ n. omega arith) w

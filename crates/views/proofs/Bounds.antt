@@ -8,7 +8,7 @@ use mathlib.Core.List.{List, [], _∷_}
 use lib.ListN.{length, getD, drop, drop-of-length-le}
 use lib.Seq.{drop-cons}
 use borrow.Author.Tests.{eqb-true, eqb-false}
-use Rattle.models.specs.Limits.{OFFSET-MAX}
+use Rattle.rows.specs.Limits.{OFFSET-MAX}
 use Rattle.runs.specs.Cells.{Bytes, markIn, unpublished, cleared, inRange, overwrite, settled}
 use Rattle.runs.specs.Runs.{Run, cellAt, runsFrom, runsOf, Lawful}
 use Rattle.runs.specs.Maps.{runs, bytesOf, lawful, mapAt}

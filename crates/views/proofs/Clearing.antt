@@ -9,7 +9,7 @@ use lib.ListN.{length, getD, drop, set, replicate, length-set, drop-of-length-le
 use lib.Seq.{drop-cons, set-append-left}
 use lib.Dec.{eqb}
 use borrow.Author.Tests.{eq-eqb}
-use Rattle.models.specs.Limits.{OFFSET-MAX}
+use Rattle.rows.specs.Limits.{OFFSET-MAX}
 use Rattle.runs.specs.Cells.{numberIn, markIn, cleared, inRange, settled}
 use Rattle.runs.specs.Runs.{Run, runOf, cellAt, Rising, Numbered, Lawful}
 use Rattle.runs.specs.Maps.{fours, mapOf, mapFor, spaceIn, runs, bytesOf, lawful}

@@ -7,16 +7,14 @@ use mathlib.Core.Logic.{inl, inr}
 use mathlib.Core.Bool.{Bool, true, false, cond}
 use mathlib.Core.List.{List, [], _∷_}
 use lib.ListN.{length, drop}
-use Rattle.models.specs.Limits.{OFFSET-MAX}
+use Rattle.rows.specs.Limits.{OFFSET-MAX}
 use Rattle.runs.specs.Cells.{Bytes, unpublished, cleared, inRange, overwrite, published}
 use Rattle.runs.specs.Runs.{Run, cellAt, Rising, Lawful}
-use Rattle.runs.proofs.Longest.{Fine, range-in, range-before, range-behind, cell-first, cell-behind, mean-before, mean-behind, mean-first}
-use Rattle.runs.proofs.Longest.{lawful-fine}
+use Rattle.runs.proofs.Longest.{Fine, range-in, range-before, range-behind, cell-first, cell-behind, mean-before, mean-behind, mean-first, lawful-fine}
 use Rattle.runs.proofs.Passes.{over-before}
 use Rattle.views.specs.declared.share.Stroke.{Stroke}
 use Rattle.views.specs.Strokes.{strokeOf, within, stroke, strokes, downs, taken}
-use Rattle.views.proofs.Sweeps.{over-at, over-past, over-none, Good, good-over, Rises, Drawn}
-use Rattle.views.proofs.Sweeps.{downs-before, downs-drawn, drawn-self, drawn-downs, drawn-one}
+use Rattle.views.proofs.Sweeps.{over-at, over-past, over-none, Good, good-over, Rises, Drawn, downs-before, downs-drawn, drawn-self, drawn-downs, drawn-one}
 
 -- ---- A published byte
 

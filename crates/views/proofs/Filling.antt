@@ -10,12 +10,13 @@ use mathlib.Core.List.{List, [], _∷_, _++_, append-assoc, append-nil}
 use lib.ListN.{length, getD, take, drop, replicate, length-append, length-drop, take-append-drop, drop-of-length-le}
 use lib.Seq.{length-take-le, append-snoc, drop-cons, drop-drop, drop-at, take-at, getD-take, getD-drop}
 use borrow.Author.Tests.{eqb-true, eqb-false, not-true}
-use Rattle.models.specs.Limits.{OFFSET-MAX}
+use Rattle.rows.specs.Limits.{OFFSET-MAX}
 use Rattle.runs.specs.Cells.{Bytes, markIn, unpublished}
 use Rattle.runs.specs.Runs.{Run, runOf, runsOf, runsFrom, cellAt}
 use Rattle.runs.specs.Maps.{fours, mapOf, mapFor, spaceIn, runs, lawful, noMarks}
 use Rattle.runs.proofs.Longest.{mean-first}
-use Rattle.runs.proofs.Trips.{both, length-fours, fours-append, lawful-map}
+use Rattle.runs.proofs.Trips.{length-fours, fours-append, lawful-map}
+use Rattle.rows.proofs.Bools.{and-out}
 use Rattle.views.specs.Packing.{partAt, withPart, packedIn, mergedOf, Packed}
 use Rattle.views.proofs.Spots.{Here, here-behind, here-at, here-same, noRun, putAt, put-behind, put-after, outside, zeroed, zeroed-twice}
 use Rattle.views.proofs.Rests.{rest, rest-none}
@@ -107,7 +108,7 @@ module _ {space v w all others first : ℕ} {xs₀ : List ℕ} (p : Packed space
 
   -- the published map is lawful
   below-lawful : lawful (partAt space w xs₀) ≡ true
-  below-lawful = both (lawful (partAt space w xs₀)) (noMarks ws) (p .below-law) .0
+  below-lawful = and-out (lawful (partAt space w xs₀)) (noMarks ws) (p .below-law) .0
 
   -- the published runs fit
   below-fit : length ws ≤ space
@@ -147,7 +148,7 @@ module _ {space v w all others first : ℕ} {xs₀ : List ℕ} (p : Packed space
               own = m .lawful-runs .in-order;
               own-marked = p .own-marked;
               others = lawful-map (partAt space w xs₀) below-lawful .lawful-runs .in-order;
-              others-plain = both (lawful (partAt space w xs₀)) (noMarks ws) (p .below-law) .1;
+              others-plain = and-out (lawful (partAt space w xs₀)) (noMarks ws) (p .below-law) .1;
               means = λ b h l. refl;
             };
       }
@@ -378,7 +379,7 @@ module _ {space v w all others first : ℕ} {xs₀ : List ℕ} (p : Packed space
         fill-part q =
             let r = runOf s (e - s) (next .cell) in
             let c = next .cell in
-            let plain : unpublished c ≡ false = not-true (unpublished c) (both (not (unpublished c)) (noMarks later) (stands .others-plain) .0) in
+            let plain : unpublished c ≡ false = not-true (unpublished c) (and-out (not (unpublished c)) (noMarks later) (stands .others-plain) .0) in
             record {
               done = k .done ++ (r ∷ []);
               us = k .us;

@@ -8,7 +8,7 @@ use mathlib.Core.List.{List, [], _∷_, _++_, append-assoc}
 use lib.ListN.{length, getD, take, drop, length-drop, drop-of-length-le}
 use lib.Seq.{length-take-le, take-take, take-at, drop-at, drop-cons, getD-take}
 use borrow.Author.Tests.{eq-eqb, ne-eqb, eqb-false}
-use Rattle.models.specs.Limits.{OFFSET-MAX}
+use Rattle.rows.specs.Limits.{OFFSET-MAX}
 use Rattle.runs.specs.Cells.{Bytes, markIn, unpublished, published, settled, refreshed}
 use Rattle.runs.specs.Runs.{Run, cellAt, Rising, Numbered, Lawful}
 use Rattle.runs.specs.Maps.{fours, spaceIn, runs, lawful}

@@ -8,7 +8,7 @@ use mathlib.Core.List.{List, [], _∷_}
 use lib.ListN.{length, getD, drop}
 use lib.Dec.{eqb}
 use borrow.Author.Tests.{eqb-true, eqb-false}
-use Rattle.models.specs.Limits.{OFFSET-MAX}
+use Rattle.rows.specs.Limits.{OFFSET-MAX}
 use Rattle.runs.specs.Cells.{Bytes, cellOf, numberIn, cleared, inRange, settled}
 use Rattle.runs.specs.Runs.{Run, runOf, cellAt, runsOf, Next, Rising, Numbered, Lawful}
 use Rattle.runs.proofs.Longest.{unique-from, range-in, range-before, range-behind}

@@ -7,7 +7,7 @@ use mathlib.Core.List.{List, [], _∷_}
 use lib.ListN.{length, take, drop, drop-of-length-le}
 use lib.Seq.{drop-cons}
 use borrow.Rule.Slice.PartMut.{putMid}
-use Rattle.models.specs.Limits.{OFFSET-MAX}
+use Rattle.rows.specs.Limits.{OFFSET-MAX}
 use Rattle.runs.specs.Cells.{Bytes, unpublished, cleared, overwrite, published}
 use Rattle.runs.specs.Runs.{Run, runOf, cellAt, runsOf, Lawful}
 use Rattle.runs.specs.Maps.{mapFor, spaceIn, runs, bytesOf}

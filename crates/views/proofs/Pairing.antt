@@ -16,7 +16,8 @@ use Rattle.runs.specs.Cells.{Bytes}
 use Rattle.runs.specs.Runs.{runsOf}
 use Rattle.runs.specs.Maps.{mapOf, mapFor, spaceIn, runs, bytesOf, lawful, lawfulPublished, mapAt, withMap}
 use Rattle.runs.proofs.Longest.{runs-back}
-use Rattle.runs.proofs.Trips.{both, lawful-map}
+use Rattle.runs.proofs.Trips.{lawful-map}
+use Rattle.rows.proofs.Bools.{and-out}
 use Rattle.runs.proofs.Sides.{part-is, with-part}
 use Rattle.views.specs.Pairs.{twoMaps}
 use Rattle.views.proofs.Parts.{lent, home, part-length, laid-fit}
@@ -57,15 +58,15 @@ pub record Told (space view below : ℕ) (xs : List ℕ) : Type 0 where
 module _ (space view below : ℕ) (xs : List ℕ) where
   pub two-told : twoMaps space view below xs ≡ true → Told space view below xs
   two-told e =
-      let e1 = both (not (eqb view below)) _ e in
-      let e2 = both (leb ((view + 1) * (4 * space)) (length xs)) _ (e1 .1) in
-      let e3 = both (leb ((below + 1) * (4 * space)) (length xs)) _ (e2 .1) in
-      let e4 = both (lawful (mapAt space view xs)) _ (e3 .1) in
+      let e1 = and-out (not (eqb view below)) _ e in
+      let e2 = and-out (leb ((view + 1) * (4 * space)) (length xs)) _ (e1 .1) in
+      let e3 = and-out (leb ((below + 1) * (4 * space)) (length xs)) _ (e2 .1) in
+      let e4 = and-out (lawful (mapAt space view xs)) _ (e3 .1) in
       record {
         view-in = leb-true ((view + 1) * (4 * space)) (length xs) (e2 .0);
         below-in = leb-true ((below + 1) * (4 * space)) (length xs) (e3 .0);
         view-law = e4 .0;
-        below-law = both (lawful (mapAt space below xs)) _ (e4 .1) .0;
+        below-law = and-out (lawful (mapAt space below xs)) _ (e4 .1) .0;
       }
 
   -- what is asked of the maps, of both rooms, and of the second

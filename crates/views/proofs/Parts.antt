@@ -11,7 +11,7 @@ use lib.Seq.{length-take-le, drop-drop, take-at, drop-at, take-append-le, drop-a
 use lib.Dec.{leb}
 use borrow.Author.Tests.{le-leb}
 use borrow.Rule.Slice.PartMut.{putMid}
-use Rattle.models.specs.Limits.{OFFSET-MAX}
+use Rattle.rows.specs.Limits.{OFFSET-MAX}
 use Rattle.runs.specs.Cells.{Bytes, overwrite}
 use Rattle.runs.specs.Runs.{Run, cellAt, runsOf, Lawful}
 use Rattle.runs.specs.Maps.{mapOf, mapFor, spaceIn, runs, bytesOf, lawful}

@@ -7,7 +7,7 @@ use mathlib.Core.List.{List, _∷_}
 use lib.ListN.{length, take, drop, drop-of-length-le}
 use lib.Seq.{drop-cons}
 use borrow.Rule.Slice.PartMut.{putMid}
-use Rattle.models.specs.Limits.{OFFSET-MAX}
+use Rattle.rows.specs.Limits.{OFFSET-MAX}
 use Rattle.runs.specs.Cells.{Bytes, unpublished, overwrite}
 use Rattle.runs.specs.Runs.{Run, runOf, cellAt, runsOf, Lawful}
 use Rattle.runs.specs.Maps.{mapFor, spaceIn, runs, bytesOf, lawful}
@@ -17,8 +17,7 @@ use Rattle.views.specs.declared.share.Stroke.{Stroke}
 use Rattle.views.specs.Strokes.{stroke, strokes, filled, downs, partAt, withPart, withBytes, Two, sunk, raised, Ready}
 use Rattle.views.proofs.Sweeps.{over-none, over-same, fill-same, Fits, Rises, Drawn, downs-fits, up-step, rises-later, drawn-later}
 use Rattle.views.proofs.Drawing.{clear-fine, taken-none, strokes-later, stroke-empty, downs-none, pass-rises, taken-good, taken-drawn}
-use Rattle.views.proofs.Parts.{bytes-fit, map-same, Holds, holds-same, holds-start, holds-next}
-use Rattle.views.proofs.Parts.{lent-view, lent-space, lent-bytes, lent-next}
+use Rattle.views.proofs.Parts.{bytes-fit, map-same, Holds, holds-same, holds-start, holds-next, lent-view, lent-space, lent-bytes, lent-next}
 use Rattle.views.proofs.Taking.{runAmong, fine-at, there}
 
 -- ---- The bytes after a part of a pass

@@ -8,7 +8,7 @@ use mathlib.Core.List.{List}
 use lib.ListN.{length}
 use lib.Dec.{ltb}
 use borrow.Author.Tests.{le-ltb, ltb-true, ltb-false}
-use Rattle.models.specs.Limits.{OFFSET-MAX}
+use Rattle.rows.specs.Limits.{OFFSET-MAX}
 use Rattle.runs.specs.Cells.{Bytes, numberIn, refreshed}
 use Rattle.runs.specs.Runs.{Run, runsFrom, runsOf, piecesOf}
 use Rattle.runs.specs.Maps.{runs, bytesOf, lawful}

@@ -9,11 +9,12 @@ use lib.ListN.{length, getD, take, drop, replicate, length-append, length-drop, 
 use lib.Seq.{length-take-le, append-snoc, drop-cons, drop-at, take-at, getD-append-add, getD-drop}
 use lib.Dec.{eqb}
 use borrow.Author.Tests.{eqb-true}
-use Rattle.models.specs.Limits.{OFFSET-MAX}
+use Rattle.rows.specs.Limits.{OFFSET-MAX}
 use Rattle.runs.specs.Cells.{cellOf, numberIn, markIn, settled}
 use Rattle.runs.specs.Runs.{Run, runOf, runsOf, Rising}
 use Rattle.runs.specs.Maps.{fours, mapOf, mapFor, spaceIn, runs, bytesOf, lawful}
-use Rattle.runs.proofs.Trips.{length-fours, lawful-map, rest-at, map-none, behind-there, both}
+use Rattle.runs.proofs.Trips.{length-fours, lawful-map, rest-at, map-none, behind-there}
+use Rattle.rows.proofs.Bools.{and-out}
 use Rattle.views.proofs.Gluing.{glue, glue-join, glue-apart, glue-none, glue-all, glue-last}
 use Rattle.views.proofs.Spots.{Here, noRun, here-at, here-same, putAt, put-behind, zeroed}
 
@@ -165,7 +166,7 @@ module _ (xs₀ : List ℕ) (law : lawful xs₀ ≡ true) where
           room = more-room h;
           behind = omega (arith, k .behind);
           passed = omega arith;
-          inside = omega (arith, eqb-true (start + size) (getD xs (i * 4) 0) (both _ _ (sym e ∙ t) .0), settle-inside h);
+          inside = omega (arith, eqb-true (start + size) (getD xs (i * 4) 0) (and-out _ _ (sym e ∙ t) .0), settle-inside h);
           result =
               k .result
               ∙ ap (λ (q : List Run). k .older ++ q)

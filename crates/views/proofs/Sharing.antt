@@ -11,12 +11,13 @@ use lib.ListN.{length, take, drop}
 use lib.Dec.{leb, eqb}
 use borrow.Author.Tests.{leb-true, eqb-false, not-true}
 use borrow.Rule.Slice.PartMut.{putMid}
-use Rattle.models.specs.Limits.{ROWS, OFFSET-MAX}
+use Rattle.rows.specs.Limits.{ROWS, OFFSET-MAX}
 use Rattle.runs.specs.Cells.{Bytes, cellOf, overwrite, published}
 use Rattle.runs.specs.Runs.{Run, cellAt, runsOf, Lawful}
 use Rattle.runs.specs.Maps.{mapFor, spaceIn, runs, bytesOf, lawful, mapAt, withMap}
 use Rattle.runs.proofs.Longest.{Fine, runs-same}
-use Rattle.runs.proofs.Trips.{both, lawful-map}
+use Rattle.runs.proofs.Trips.{lawful-map}
+use Rattle.rows.proofs.Bools.{and-out}
 use Rattle.views.specs.declared.share.Stroke.{Stroke}
 use Rattle.maps.specs.Mixes.{PUBLISH, mixed, mix}
 use Rattle.views.specs.Pairs.{twoMaps, viewOf, belowOf}
@@ -24,8 +25,7 @@ use Rattle.views.specs.Packing.{marked}
 use Rattle.views.specs.Strokes.{strokeOf, strokes, filled, downs, taken, partAt, withPart, Two, sunk, raised, withBytes, Ready}
 use Rattle.views.proofs.Gathering.{published-none}
 use Rattle.views.proofs.Sweeps.{over-at, over-same, fill-same, Fits, Rises, Drawn, downs-fits, downs-drawn, downs-same, up-step}
-use Rattle.views.proofs.Drawing.{taken-back, goal, lefts, rights, others, goal-good}
-use Rattle.views.proofs.Drawing.{rights-rise, others-rise, lefts-rise, rights-drawn, lefts-drawn}
+use Rattle.views.proofs.Drawing.{taken-back, goal, lefts, rights, others, goal-good, rights-rise, others-rise, lefts-rise, rights-drawn, lefts-drawn}
 use Rattle.views.proofs.Laying.{all-fits}
 use Rattle.views.proofs.Parts.{lent, lent-below, Holds, holds-start, holds-same, holds-view, holds-bytes, holds-next, lent-space, lent-bytes, lent-next}
 
@@ -286,11 +286,11 @@ map-part space k xs = let e : 4 * space ≡ space * 4 = omega arith in λ i. par
 pub two-parts : (space view below : ℕ) (xs : List ℕ) → twoMaps space view below xs ≡ true →
     Two (space * 4) (view * (space * 4)) (below * (space * 4)) xs
 two-parts space view below xs e =
-    let e1 = both (not (eqb view below)) _ e in
-    let e2 = both (leb ((view + 1) * (4 * space)) (length xs)) _ (e1 .1) in
-    let e3 = both (leb ((below + 1) * (4 * space)) (length xs)) _ (e2 .1) in
-    let e4 = both (lawful (mapAt space view xs)) _ (e3 .1) in
-    let e5 = both (lawful (mapAt space below xs)) _ (e4 .1) in
+    let e1 = and-out (not (eqb view below)) _ e in
+    let e2 = and-out (leb ((view + 1) * (4 * space)) (length xs)) _ (e1 .1) in
+    let e3 = and-out (leb ((below + 1) * (4 * space)) (length xs)) _ (e2 .1) in
+    let e4 = and-out (lawful (mapAt space view xs)) _ (e3 .1) in
+    let e5 = and-out (lawful (mapAt space below xs)) _ (e4 .1) in
     let p : 4 * space ≡ space * 4 = omega arith in
     let room : (k : ℕ) → leb ((k + 1) * (4 * space)) (length xs) ≡ true → k * (space * 4) + space * 4 ≤ length xs =
     λ k l. omega (arith, leb-true ((k + 1) * (4 * space)) (length xs) l, ap (λ (n : ℕ). (k + 1) * n) p, rows-more k (space * 4)) in

@@ -7,14 +7,13 @@ use mathlib.Core.Path.{_≡_, refl, sym, ap, subst, _∙_}
 use mathlib.Core.Logic.{_⊎_, inl, inr}
 use mathlib.Core.Bool.{true}
 use mathlib.Core.List.{List, [], _∷_, _++_, append-assoc, append-nil}
-use lib.ListN.{length, getD, take, drop, set, replicate, length-append, length-replicate, replicate-append-replicate, take-append-drop}
-use lib.ListN.{length-drop, List·getD-append}
-use lib.Seq.{length-take-le, take-at, drop-at, drop-drop, drop-append-le, getD-append-add, getD-drop, getD-take, append-snoc}
-use lib.Seq.{set-at, split-at, sets-eq, drop-cons, ext-getD}
+use lib.ListN.{length, getD, take, drop, set, replicate, length-append, length-replicate, replicate-append-replicate, take-append-drop, length-drop, List·getD-append}
+use lib.Seq.{length-take-le, take-at, drop-at, drop-drop, drop-append-le, getD-append-add, getD-drop, getD-take, append-snoc, set-at, split-at, sets-eq, drop-cons, ext-getD}
 use Rattle.runs.specs.Cells.{numberIn, markIn}
 use Rattle.runs.specs.Runs.{Run, runOf}
 use Rattle.runs.specs.Maps.{fours, mapOf, spaceIn, runs, lawful}
-use Rattle.runs.proofs.Trips.{zeros, length-fours, fours-append, run-at, lawful-map}
+use Rattle.runs.proofs.Trips.{length-fours, fours-append, run-at, lawful-map}
+use Rattle.rows.proofs.Zeros.{zeros}
 
 -- the four numbers at place p are those of a run
 pub record Here (xs : List ℕ) (p : ℕ) (r : Run) : Type 0 where

@@ -7,7 +7,7 @@ use mathlib.Core.Bool.{true, cond}
 use mathlib.Core.List.{List, [], _∷_}
 use lib.ListN.{length, take, drop, getD}
 use lib.Seq.{length-take-le, split-at}
-use Rattle.models.specs.Limits.{ROWS, OFFSET-MAX}
+use Rattle.rows.specs.Limits.{ROWS, OFFSET-MAX}
 use Rattle.runs.specs.Cells.{numberIn, markIn, unpublished, cleared}
 use Rattle.runs.specs.Runs.{Run, runOf, Rising, Numbered}
 use Rattle.runs.specs.Maps.{runs, lawful}

@@ -18,13 +18,15 @@ use Rattle.runs.specs.Cells.{refreshed}
 use Rattle.runs.specs.Runs.{Run, runsOf, cellAt, Lawful}
 use Rattle.runs.specs.Maps.{fours, mapOf, mapFor, spaceIn, runs, bytesOf, lawful, lawfulPublished, mapAt, withMap}
 use Rattle.runs.proofs.Longest.{runs-same}
-use Rattle.runs.proofs.Trips.{both, lawful-map, map-back, map-lawful}
+use Rattle.runs.proofs.Trips.{lawful-map, map-back, map-lawful}
+use Rattle.rows.proofs.Bools.{and-out}
 use Rattle.views.specs.Pairs.{twoMaps, viewOf, belowOf}
 use Rattle.views.specs.Packing.{marked, Marked, partAt, withPart, packedIn, mergedOf, Packed}
 use Rattle.views.proofs.Spots.{outside, zero-behind}
 use Rattle.views.proofs.Gathering.{marked-all, marked-lawful, marked-refresh, refreshed-none}
 use Rattle.views.proofs.Filling.{beside}
 use Rattle.views.proofs.Pairing.{two-told, two-apart, map-whole}
+use Rattle.rows.proofs.Products.{block-before}
 
 -- ---- Places
 
@@ -50,10 +52,6 @@ lent-is space k xs =
 next-place : (k size : ℕ) → (k + 1) * size ≡ k * size + size
 next-place k size = ap (λ (n : ℕ). n * size) (add-one k) ∙ suc-mul k size
 
--- two maps stand apart
-places-apart : (size : ℕ) {j k : ℕ} → j < k → j * size + size ≤ k * size
-places-apart size {j} h = rw suc-mul at (mul-le-mul-right size h)
-
 -- ---- Two maps
 
 -- both maps: apart, within the slice, and lawful
@@ -67,10 +65,10 @@ pub record Two (space view below : ℕ) (xs : List ℕ) : Type 0 where
 -- so where the test passes
 pub two-maps : (space view below : ℕ) (xs : List ℕ) → twoMaps space view below xs ≡ true → Two space view below xs
 two-maps space view below xs t =
-    let a = both (not (eqb view below)) _ t in
-    let b = both (leb ((view + 1) * (4 * space)) (length xs)) _ (a .1) in
-    let c = both (leb ((below + 1) * (4 * space)) (length xs)) _ (b .1) in
-    let d = both (lawful (mapAt space view xs)) _ (c .1) in
+    let a = and-out (not (eqb view below)) _ t in
+    let b = and-out (leb ((view + 1) * (4 * space)) (length xs)) _ (a .1) in
+    let c = and-out (leb ((below + 1) * (4 * space)) (length xs)) _ (b .1) in
+    let d = and-out (lawful (mapAt space view xs)) _ (c .1) in
     record {
       apart = go (eqb-false view below (not-true (eqb view below) (a .0))) (decLt view below);
       view-in = omega (arith, leb-true ((view + 1) * (4 * space)) (length xs) (b .0), next-place view (4 * space), place-is space view);
@@ -81,10 +79,10 @@ two-maps space view below xs t =
   where
     go : (view ≡ below → ⊥) → Dec (view < below) →
         (placeOf space below + 4 * space ≤ placeOf space view) ⊎ (placeOf space view + 4 * space ≤ placeOf space below)
-    go n (yes h) = inr (omega (arith, places-apart (4 * space) h, place-is space view, place-is space below))
+    go n (yes h) = inr (omega (arith, block-before (4 * space) h, place-is space view, place-is space below))
     go n (no h) =
         let l : below < view = omega arith in
-        inl (omega (arith, places-apart (4 * space) l, place-is space view, place-is space below))
+        inl (omega (arith, block-before (4 * space) l, place-is space view, place-is space below))
 
 -- ---- The view packed
 

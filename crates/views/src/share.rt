@@ -6,7 +6,7 @@ ghost use mathlib.Core.Path.{_≡_};
 ghost use mathlib.Core.Bool.{true};
 ghost use mathlib.Core.Logic.{_⊎_};
 ghost use lib.ListN.{length, getD};
-ghost use Rattle.models.specs.Limits.{ROWS};
+ghost use Rattle.rows.specs.Limits.{ROWS};
 ghost use Rattle.runs.specs.Cells.{numberIn, cellOf, unpublished, overwrite, published};
 ghost use Rattle.runs.specs.Runs.{runOf, runsOf};
 ghost use Rattle.runs.specs.Maps.{mapFor, spaceIn, runs, bytesOf, lawful, mapAt, withMap};

@@ -1,7 +1,7 @@
 -- `fields::digits` meets its contract. Assumes nothing.
 use borrow.Author.Needs.{needs}
 use Rattle.fields.specs.Rows.{numberBelow}
-use Rattle.fields.proofs.Judging.{refused, passed}
+use Rattle.rows.proofs.Bools.{refused, passed}
 use Rattle.fields.proofs.Numbers.{numberFrom, plain-some, number-start, number-none, digit-low, digit-high, digit-on, digit-past, digits-end}
 use Prim.Native.Nat.{_-_, _≤_, _<_}
 use native.Mathlib.Omega.{arith}

@@ -1,6 +1,7 @@
 -- `fields::filled_as_used` meets its contract. Assumes nothing.
 use borrow.Author.Needs.{needs}
-use Rattle.fields.proofs.Judging.{refused, passed, fills-not-process, fills-not-file, fills-not-offset, fills-not-length, fills-message}
+use Rattle.fields.proofs.Judging.{fills-not-process, fills-not-file, fills-not-offset, fills-not-length, fills-message}
+use Rattle.rows.proofs.Bools.{refused, passed}
 use denote.Ref.{now}
 use mathlib.Core.Path.{_∙_}
 use Rattle.fields.proofs.filled_as_used.Statement.{statement}

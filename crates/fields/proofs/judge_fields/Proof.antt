@@ -1,7 +1,7 @@
 -- `fields::judge_fields` meets its contract. Assumes nothing.
 use borrow.Author.Needs.{needs}
-use Rattle.fields.proofs.Judging.{refused, passed, Known, Filled, Numbered, no-kind, no-filled, no-end, kept}
-use Rattle.fields.proofs.Judging.{no-process, no-file, no-offset, no-length, no-message}
+use Rattle.fields.proofs.Judging.{Known, Filled, Numbered, no-kind, no-filled, no-end, kept, no-process, no-file, no-offset, no-length, no-message}
+use Rattle.rows.proofs.Bools.{refused, passed}
 use denote.Ref.{now}
 use mathlib.Core.Path.{sym, _∙_}
 use Rattle.fields.proofs.judge_fields.Statement.{statement}

@@ -10,7 +10,7 @@ use Prim.Native.Nat.{ℕ, suc, _*_, _-_, _≤_}
 use mathlib.Core.Bool.{true}
 use lib.ListN.{take, drop}
 use Rattle.runs.specs.Maps.{lawful}
-use Rattle.layers.specs.States.{allBelow}
+use Rattle.rows.specs.Counting.{allBelow}
 use Rattle.layered.proofs.are_lawful.Statement.{statement}
 use Rattle.layered.proofs.are_lawful.Tie as tie
 

@@ -4,6 +4,9 @@ use native.Mathlib.Omega.{arith}
 use Prim.Native.Nat.{_+_, _*_, _≤_}
 use mathlib.Core.Path.{_≡_, sym, _∙_}
 use denote.Ref.{now}
+use lib.ListN.{length}
+use lib.Seq.{length-take-le}
+use Rattle.rows.proofs.Zeros.{first-cleared}
 use borrow.Author.Tests.{not-true, not-false}
 use Rattle.asking.specs.Answers.{headerOf}
 use Rattle.layers.specs.States.{mapsLength}
@@ -63,15 +66,25 @@ returns-4 c =
     make-file (headerOf (a .machine)) (now (a .maps)) (p4 .if1 .left) (p3 .if2 .left)
     (sym (q .ensures) ∙ not-false (q .result) (c .before .if3 .left)) (c .if4 .taken)
 
-mul-clear : tie.Need-mul-clear
-mul-clear c =
+mul-end : tie.Need-mul-end
+mul-end c =
+    let p4 = c .before .before .before .before in
+    record { fits = omega (arith, p4 .if1 .left) }
+
+slice-relend-prefix-clear : tie.Need-slice-relend-prefix-clear
+slice-relend-prefix-clear c =
+    let p4 = c .before .before .before .before in
+    omega (arith, p4 .if1 .left)
+
+slice-aggregate-clear : tie.Need-slice-aggregate-clear
+slice-aggregate-clear c =
     let p5 = c .before .before .before .before .before in
-    record { fits = omega (arith, p5 .if1 .left) }
+    let a = p5 .before .before .before .args in
+    let room : a .machine .«map_space» * (a .machine .«process_limit» + 1) * 4 ≤ length (now (a .maps)) = omega (arith, p5 .if1 .left) in
+    sym (length-take-le _ (now (a .maps)) room)
 
 clear-requires : tie.Need-clear-requires
-clear-requires c κs =
-    let p5 = c .before .before .before .before .before in
-    omega (arith, p5 .if1 .left)
+clear-requires c κs = search needs
 
 same-length : tie.Need-same-length
 same-length c = search needs
@@ -88,9 +101,10 @@ returns-5 c =
     let a = p11 .args in
     let h = headerOf (a .machine) in
     let q = p6 .is-process-limit in
+    let room : h .space * (h .processes + 1) * 4 ≤ length (now (a .maps)) = omega (arith, p8 .if1 .left) in
     let all : h .space * (h .processes + 1) * 4 ≡ mapsLength h = omega arith in
     make-made h (now (a .maps)) (p8 .if1 .left) (p7 .if2 .left) (sym (q .ensures) ∙ not-false (q .result) (p5 .if3 .left)) (p4 .if4 .left) all
-    (p2 .clear .ensures)
+    (first-cleared _ (now (a .maps)) room (p2 .clear .ensures))
 
 pub make-spec : {M : Type 1} → statement M
 make-spec =
@@ -105,7 +119,9 @@ make-spec =
     is-process-limit-requires
     returns-3
     returns-4
-    mul-clear
+    mul-end
+    slice-relend-prefix-clear
+    slice-aggregate-clear
     clear-requires
     same-length
     returns-5)

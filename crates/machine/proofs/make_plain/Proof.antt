@@ -1,9 +1,12 @@
 -- `machine::make_plain` meets its contract. Assumes nothing.
 use borrow.Author.Needs.{needs}
 use native.Mathlib.Omega.{arith}
-use Prim.Native.Nat.{_*_}
+use Prim.Native.Nat.{_*_, _≤_}
 use mathlib.Core.Path.{_≡_, sym, _∙_}
 use denote.Ref.{now}
+use lib.ListN.{length}
+use lib.Seq.{length-take-le}
+use Rattle.rows.proofs.Zeros.{first-cleared}
 use borrow.Author.Tests.{not-true, not-false}
 use Rattle.asking.specs.Answers.{headerOf}
 use Rattle.machine.proofs.Making.{plain-short, plain-limit, plain-file, plain-made}
@@ -39,13 +42,23 @@ returns-3 c =
     let q = p2 .is-process-limit in
     plain-file (headerOf (a .plain)) (now (a .map)) (p3 .if1 .left) (sym (q .ensures) ∙ not-false (q .result) (c .before .if2 .left)) (c .if3 .taken)
 
-mul-clear : tie.Need-mul-clear
-mul-clear c = search needs
+mul-end : tie.Need-mul-end
+mul-end c = search needs
+
+slice-relend-prefix-clear : tie.Need-slice-relend-prefix-clear
+slice-relend-prefix-clear c =
+    let p3 = c .before .before .before in
+    omega (arith, p3 .if1 .left)
+
+slice-aggregate-clear : tie.Need-slice-aggregate-clear
+slice-aggregate-clear c =
+    let p4 = c .before .before .before .before in
+    let a = p4 .before .before .before .args in
+    let room : a .plain .«map_space» * 4 ≤ length (now (a .map)) = omega (arith, p4 .if1 .left) in
+    sym (length-take-le _ (now (a .map)) room)
 
 clear-requires : tie.Need-clear-requires
-clear-requires c κs =
-    let p4 = c .before .before .before .before in
-    omega (arith, p4 .if1 .left)
+clear-requires c κs = search needs
 
 same-length : tie.Need-same-length
 same-length c = search needs
@@ -61,8 +74,10 @@ returns-4 c =
     let a = p10 .args in
     let h = headerOf (a .plain) in
     let q = p6 .is-process-limit in
+    let room : h .space * 4 ≤ length (now (a .map)) = omega (arith, p7 .if1 .left) in
     let all : h .space * 4 ≡ 4 * h .space = omega arith in
-    plain-made h (now (a .map)) (p7 .if1 .left) (sym (q .ensures) ∙ not-false (q .result) (p5 .if2 .left)) (p4 .if3 .left) all (p2 .clear .ensures)
+    plain-made h (now (a .map)) (p7 .if1 .left) (sym (q .ensures) ∙ not-false (q .result) (p5 .if2 .left)) (p4 .if3 .left) all
+    (first-cleared _ (now (a .map)) room (p2 .clear .ensures))
 
 pub make-plain-spec : {M : Type 1} → statement M
 make-plain-spec =
@@ -73,7 +88,9 @@ make-plain-spec =
     is-process-limit-requires
     returns-2
     returns-3
-    mul-clear
+    mul-end
+    slice-relend-prefix-clear
+    slice-aggregate-clear
     clear-requires
     same-length
     returns-4)

@@ -6,8 +6,7 @@ use lib.ListN.{length}
 use Prim.Native.Nat.{_*_}
 use native.Mathlib.Omega.{arith}
 use denote.Ref.{now}
-use Rattle.fields.proofs.Judging.{refused, passed}
-use Rattle.order.proofs.Below.{and-out}
+use Rattle.rows.proofs.Bools.{refused, passed, and-out}
 use Rattle.order.proofs.Asking.{short-slice, many-rows, no-processes, many-processes, process-out, all-in}
 use Rattle.order.proofs.ask_rows.Statement.{statement}
 use Rattle.order.proofs.ask_rows.Tie as tie

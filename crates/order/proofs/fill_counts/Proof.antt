@@ -6,7 +6,7 @@ use lib.ListN.{length, replicate}
 use mathlib.Core.List.{List}
 use native.Mathlib.Numerals.{add-one}
 use Rattle.order.specs.Clock.{withRow, filledRow}
-use Rattle.order.proofs.Cells.{row-before}
+use Rattle.rows.proofs.Products.{block-before}
 use native.Mathlib.Omega.{arith}
 use denote.Ref.{now}
 use Rattle.order.proofs.Filling.{filledTo, none-filled, all-filled, row-filled, row-empty, cells-small}
@@ -57,7 +57,7 @@ fill-row-requires c κs =
     let size = c .before .before .before .before .before .clear-counts .kept .0 in
     let s = length (c .before .before .before .before .before .clear-counts .last .0) in
     let e = l .inv .1 .1 .1 .1 in
-    let before = row-before (a .process-limit) (c .before .loop-test .taken) in
+    let before = block-before (a .process-limit) (c .before .loop-test .taken) in
     let room : l .j * a .process-limit + a .process-limit ≤ s = omega (arith, before, t .counts-fit, size) in (
       (
         omega (arith, t .rows-fit, c .before .loop-test .taken),
@@ -85,7 +85,7 @@ loop-again c =
     let size = c .before .before .before .before .before .before .before .before .clear-counts .kept .0 in
     let s = length (c .before .before .before .before .before .before .before .before .clear-counts .last .0) in
     let e = l .inv .1 .1 .1 .1 in
-    let before = row-before (a .process-limit) (c .before .before .before .before .loop-test .taken) in
+    let before = block-before (a .process-limit) (c .before .before .before .before .loop-test .taken) in
     let room : l .j * a .process-limit + a .process-limit ≤ s = omega (arith, before, t .counts-fit, size) in (
       refl,
       (

@@ -1,7 +1,8 @@
 -- `order::join` meets its contract. Assumes nothing.
 use borrow.Author.Needs.{needs}
 use Rattle.order.specs.Clock.{joinedRow}
-use Rattle.order.proofs.Cells.{put, put-none, row-before}
+use Rattle.order.proofs.Cells.{put, put-none}
+use Rattle.rows.proofs.Products.{block-before}
 use Rattle.order.proofs.Joins.{join-next}
 use lib.ListN.{length, length-set}
 use mathlib.Core.Path.{_≡_, refl, _∙_}
@@ -19,7 +20,7 @@ abbrev μ-loop : tie.MeasureT-loop
 μ-loop counts₀ k j processes from to p₀ counts p = processes - p
 
 mul-from : tie.Need-mul-from Inv-loop μ-loop
-mul-from c = omega (arith, row-before (c .before .args .processes) (c .before .pre .0))
+mul-from c = omega (arith, block-before (c .before .args .processes) (c .before .pre .0))
 
 mul-to : tie.Need-mul-to Inv-loop μ-loop
 mul-to c = search needs
@@ -39,13 +40,13 @@ slice-read-larger : tie.Need-slice-read-larger Inv-loop μ-loop
 slice-read-larger c = search needs
 
 add-larger-2 : tie.Need-add-larger-2 Inv-loop μ-loop
-add-larger-2 c = let s = c .before .before .before .before in omega (arith, row-before (s .args .processes) (s .pre .0))
+add-larger-2 c = let s = c .before .before .before .before in omega (arith, block-before (s .args .processes) (s .pre .0))
 
 mul-larger-2 : tie.Need-mul-larger-2 Inv-loop μ-loop
-mul-larger-2 c = let s = c .before .before .before .before in omega (arith, row-before (s .args .processes) (s .pre .0))
+mul-larger-2 c = let s = c .before .before .before .before in omega (arith, block-before (s .args .processes) (s .pre .0))
 
 slice-read-larger-2 : tie.Need-slice-read-larger-2 Inv-loop μ-loop
-slice-read-larger-2 c = let s = c .before .before .before .before .before in omega (arith, row-before (s .args .processes) (s .pre .0))
+slice-read-larger-2 c = let s = c .before .before .before .before .before in omega (arith, block-before (s .args .processes) (s .pre .0))
 
 larger-requires : tie.Need-larger-requires Inv-loop μ-loop
 larger-requires c κs = search needs

@@ -1,6 +1,7 @@
 -- `order::last_of` meets its contract. Assumes nothing.
 use borrow.Author.Needs.{needs}
-use Rattle.order.specs.Clock.{lastBelow, rowIn}
+use Rattle.order.specs.Clock.{lastOf}
+use Rattle.rows.specs.Rows.{rowIn}
 use Rattle.order.proofs.Joins.{last-here, last-before, last-empty}
 use mathlib.Core.Path.{_≡_, refl, sym, _∙_}
 use Prim.Native.Nat.{_≤_}
@@ -11,7 +12,7 @@ use Rattle.order.proofs.last_of.Tie as tie
 
 abbrev Inv-loop : tie.InvT-loop
 Inv-loop rows j process i₀ i =
-    let last = lastBelow (λ k. rowIn rows k .process) process in
+    let last = lastOf (λ k. rowIn rows k .process) process in
     (i ≤ j) × (last j ≡ last i)
 
 abbrev μ-loop : tie.MeasureT-loop
@@ -51,7 +52,9 @@ loop-again c =
     (omega arith, l .inv .1 ∙ last-before (now (a .rows)) (a .process) (l .i) (c .before .before .loop-test .taken) (c .if1 .left))
 
 returns-2 : tie.Need-returns-2 Inv-loop μ-loop
-returns-2 c = sym (c .before .loop .inv .1 ∙ last-empty _ _ (c .loop-test .left))
+returns-2 c =
+    let a = c .before .before .args in
+    sym (c .before .loop .inv .1 ∙ last-empty (λ k. rowIn (now (a .rows)) k .process) (a .process) (c .loop-test .left))
 
 pub last-of-spec : {M : Type 1} → statement M
 last-of-spec =

@@ -3,7 +3,7 @@ use borrow.Author.Needs.{needs}
 use borrow.Author.Tests.{le-leb, lt-leb}
 use Prim.Native.Nat.{_*_, _≤_, _<_}
 use native.Mathlib.Omega.{arith}
-use Rattle.trace.proofs.Asking.{product}
+use Rattle.rows.proofs.Products.{product}
 use Rattle.order.proofs.slices_fit.Statement.{statement}
 use Rattle.order.proofs.slices_fit.Tie as tie
 

@@ -4,7 +4,7 @@ use Prim.Native.Nat.{ℕ, _-_, _≤_, _<_}
 use native.Mathlib.Omega.{arith}
 use mathlib.Core.Path.{_≡_, sym, _∙_}
 use denote.Ref.{now}
-use Rattle.trace.specs.Rows.{rowsIn}
+use Rattle.rows.specs.Rows.{rowsIn}
 use Rattle.races.specs.Scan.{raceAt}
 use Rattle.races.proofs.Whole.{answer-free, answer-race, race-bound, below-more, zero-of}
 use Rattle.races.proofs.first_race.Statement.{statement}

@@ -7,9 +7,8 @@ use Prim.Native.Nat.{_-_, _*_, _<_}
 use lib.ListN.{getD}
 use mathlib.Core.Logic.{⊎-elim, inl, inr}
 use mathlib.Core.Path.{sym, _∙_}
-use Rattle.trace.specs.Rows.{rowsIn}
-use Rattle.races.proofs.Passes.{process-at, kind-at, process-low, conflict-in, Noting, noting-start, refresh-in, noting-next, noting-done}
-use Rattle.races.proofs.Passes.{no-data, Looking, looking-start, looking-next, looking-found, looking-none}
+use Rattle.rows.specs.Rows.{rowsIn}
+use Rattle.races.proofs.Passes.{process-at, kind-at, process-low, conflict-in, Noting, noting-start, refresh-in, noting-next, noting-done, no-data, Looking, looking-start, looking-next, looking-found, looking-none}
 use Rattle.races.proofs.race_at.Statement.{statement}
 use Rattle.races.proofs.race_at.Tie as tie
 use Rattle.races.proofs.race_at.Reads as reads

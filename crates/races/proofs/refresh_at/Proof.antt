@@ -1,6 +1,6 @@
 -- `races::refresh_at` meets its contract. Assumes nothing.
 use borrow.Author.Needs.{needs}
-use Rattle.races.specs.Search.{lastBelow}
+use Rattle.rows.specs.Counting.{lastBelow}
 use Rattle.races.proofs.Cells.{last-none, refreshing, refresh-here, refresh-before, refresh-own, refresh-earlier}
 use mathlib.Core.Path.{_≡_, refl, sym, _∙_}
 use Prim.Native.Nat.{_≤_}

@@ -2,7 +2,7 @@
 use borrow.Author.Needs.{needs}
 use native.Mathlib.Omega.{arith}
 use denote.Ref.{now}
-use Rattle.fields.proofs.Judging.{refused, passed}
+use Rattle.rows.proofs.Bools.{refused, passed}
 use Rattle.races.proofs.Whole.{refuses, no-slice, no-model, fill-refuses, given-filled, judges}
 use Rattle.races.proofs.verdict.Statement.{statement}
 use Rattle.races.proofs.verdict.Tie as tie

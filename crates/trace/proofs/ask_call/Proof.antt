@@ -1,6 +1,7 @@
 -- `trace::ask_call` meets its contract. Assumes nothing.
 use borrow.Author.Needs.{needs}
-use Rattle.trace.proofs.Asking.{product, few-rows, few-counts, bad-model, no-rows, many-rows, no-processes, many-processes, bad-header, all-asked}
+use Rattle.trace.proofs.Asking.{few-rows, few-counts, bad-model, no-rows, many-rows, no-processes, many-processes, bad-header, all-asked}
+use Rattle.rows.proofs.Products.{product}
 use Rattle.trace.proofs.ask_call.Statement.{statement}
 use Rattle.trace.proofs.ask_call.Tie as tie
 

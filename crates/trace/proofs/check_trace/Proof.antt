@@ -52,8 +52,8 @@ mul-end c =
     let h : Holds o (now (a .rows)) ys = rw p (c .before .before .before .before .before .read-trace .ensures .1) in
     omega (arith, rows-in (now (a .rows)) (now (a .counts)) ys t h)
 
-mul-clear-rows : tie.Need-mul-clear-rows
-mul-clear-rows c =
+mul-clear : tie.Need-mul-clear
+mul-clear c =
     let a = c .before .before .before .before .before .before .before .before .before .before .before .before .before .before .before .before .args in
     let p = call-passed (now (a .text)) (a .header) (a .model) (a .row-limit) (a .process-limit) (a .byte-limit) (length (now (a .rows)))
     (length (now (a .counts))) (c .before .before .before .before .before .before .before .before .before .before .before .before .ask-call .ensures) (c .before .before .before .before .before .before .before .before .before .before .before .if1 .left) in
@@ -65,8 +65,8 @@ mul-clear-rows c =
     let h : Holds o (now (a .rows)) ys = rw p (c .before .before .before .before .before .read-trace .ensures .1) in
     omega (arith, rows-in (now (a .rows)) (now (a .counts)) ys t h)
 
-sub-clear-rows : tie.Need-sub-clear-rows
-sub-clear-rows c =
+sub-clear : tie.Need-sub-clear
+sub-clear c =
     let a = c .before .before .before .before .before .before .before .before .before .before .before .before .before .before .before .before .args in
     let p = call-passed (now (a .text)) (a .header) (a .model) (a .row-limit) (a .process-limit) (a .byte-limit) (length (now (a .rows)))
     (length (now (a .counts))) (c .before .before .before .before .before .before .before .before .before .before .before .before .ask-call .ensures) (c .before .before .before .before .before .before .before .before .before .before .before .if1 .left) in
@@ -78,8 +78,8 @@ sub-clear-rows c =
     let h : Holds o (now (a .rows)) ys = rw p (c .before .before .before .before .before .read-trace .ensures .1) in
     omega (arith, rows-in (now (a .rows)) (now (a .counts)) ys t h)
 
-part-clear-rows-start : tie.Need-part-clear-rows-start
-part-clear-rows-start c =
+part-clear-start : tie.Need-part-clear-start
+part-clear-start c =
     let a = c .before .before .before .before .before .before .before .before .before .before .before .before .before .before .before .before .args in
     let p = call-passed (now (a .text)) (a .header) (a .model) (a .row-limit) (a .process-limit) (a .byte-limit) (length (now (a .rows)))
     (length (now (a .counts))) (c .before .before .before .before .before .before .before .before .before .before .before .before .ask-call .ensures) (c .before .before .before .before .before .before .before .before .before .before .before .if1 .left) in
@@ -91,17 +91,17 @@ part-clear-rows-start c =
     let h : Holds o (now (a .rows)) ys = rw p (c .before .before .before .before .before .read-trace .ensures .1) in
     omega (arith, rows-in (now (a .rows)) (now (a .counts)) ys t h)
 
-part-clear-rows-end : tie.Need-part-clear-rows-end
-part-clear-rows-end c = search needs
+part-clear-end : tie.Need-part-clear-end
+part-clear-end c = search needs
 
-clear-rows-requires : tie.Need-clear-rows-requires
-clear-rows-requires c κs = search needs
+clear-requires : tie.Need-clear-requires
+clear-requires c κs = search needs
 
 enum-known-number : tie.Need-enum-known-number
 enum-known-number c = search needs
 
-clear-rows-requires-2 : tie.Need-clear-rows-requires-2
-clear-rows-requires-2 c κs = search needs
+clear-requires-2 : tie.Need-clear-requires-2
+clear-requires-2 c κs = search needs
 
 same-length : tie.Need-same-length
 same-length c = search needs
@@ -120,7 +120,7 @@ returns-2 c =
     let t = accepted-told o (sym (c .before .before .before .before .before .n .given .1)
     ∙ c .before .before .before .before .before .before .before .before .before .read-trace .ensures .0 ∙ ap checkedOf (sym p)) in
     let h : Holds o (now (a .rows)) ys = rw p (c .before .before .before .before .before .before .before .before .before .read-trace .ensures .1) in
-    leaves-rows (now (a .rows)) (now (a .counts)) ys t h (c .before .before .clear-rows .ensures)
+    leaves-rows (now (a .rows)) (now (a .counts)) ys t h (c .before .before .clear .ensures)
     (c .before .before .before .before .before .before .before .before .before .before .before .before .before .clear-counts .ensures)
 
 same-length-3 : tie.Need-same-length-3
@@ -139,7 +139,7 @@ returns-3 c =
     let e = refused-told o (sym (c .before .before .before .before .before .number .given .1)
     ∙ c .before .before .before .before .before .before .before .before .before .read-trace .ensures .0 ∙ ap checkedOf (sym p)) in
     let four = refused-from-four (a .header) (a .row-limit) (a .process-limit) (records (now (a .text)) (a .byte-limit)) _ _ (sym p ∙ e) in
-    leaves-none (now (a .rows)) (now (a .counts)) e four (c .before .before .clear-rows2 .ensures ∙ ap (λ (k : ℕ). replicate k 0)
+    leaves-none (now (a .rows)) (now (a .counts)) e four (c .before .before .clear2 .ensures ∙ ap (λ (k : ℕ). replicate k 0)
     (c .before .before .before .before .before .before .before .before .before .read-trace .kept .1 .1 .1 .1 .1 .0))
     (c .before .before .before .before .before .before .before .before .before .before .before .before .before .clear-counts .ensures)
 
@@ -154,13 +154,13 @@ check-trace-spec =
     enum-known-n
     cast-end
     mul-end
-    mul-clear-rows
-    sub-clear-rows
-    part-clear-rows-start
-    part-clear-rows-end
-    clear-rows-requires
+    mul-clear
+    sub-clear
+    part-clear-start
+    part-clear-end
+    clear-requires
     enum-known-number
-    clear-rows-requires-2
+    clear-requires-2
     same-length
     same-length-2
     returns-2

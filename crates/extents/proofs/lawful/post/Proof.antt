@@ -1,12 +1,9 @@
 -- `extents::lawful::post` meets its contract. Assumes nothing.
 use borrow.Author.Needs.{needs}
-use Rattle.extents.proofs.Doubles.{view-in-posted, view-law-posted, own-posted, view-in-settled, view-law-settled, post-lay, post-done, post-empty}
-use Rattle.extents.proofs.Doubles.{post-enough, post-short, settle-enough, settle-short}
-use Rattle.extents.proofs.Doubles.{cell-zero, post-low, post-high, post-past, post-full, post-view-full, post-share}
-use Rattle.extents.proofs.Entering.{cell-fine}
+use Rattle.extents.proofs.Doubles.{view-in-posted, view-law-posted, own-posted, view-in-settled, view-law-settled, post-lay, post-done, post-empty, post-enough, post-short, settle-enough, settle-short, cell-zero, post-low, post-high, post-past, post-full, post-view-full, post-share}
+use Rattle.extents.proofs.Entering.{cell-fine, refused}
 use Rattle.extents.specs.Entries.{postedMaps}
 use mathlib.Core.Bool.{false}
-use Rattle.extents.proofs.Entering.{refused}
 use Rattle.extents.specs.declared.Answer.the-variants.{Done}
 use denote.Ref.{now}
 use native.Mathlib.Omega.{arith}

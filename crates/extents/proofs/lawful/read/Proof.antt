@@ -1,7 +1,6 @@
 -- `extents::lawful::read` meets its contract. Assumes nothing.
 use borrow.Author.Needs.{needs}
-use Rattle.extents.proofs.Doubles.{view-in-fresh, view-law-fresh, pieces-fresh}
-use Rattle.extents.proofs.Doubles.{refused-both, refresh-enough, refresh-short, read-past, read-full, read-long, read-done}
+use Rattle.extents.proofs.Doubles.{view-in-fresh, view-law-fresh, pieces-fresh, refused-both, refresh-enough, refresh-short, read-past, read-full, read-long, read-done}
 use Rattle.extents.proofs.Entering.{pieces-most}
 use Rattle.views.proofs.Rooms.{slice-short, slice-enough}
 use Rattle.maps.specs.Pieces.{listedIn}

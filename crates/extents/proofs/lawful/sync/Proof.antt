@@ -1,7 +1,6 @@
 -- `extents::lawful::sync` meets its contract. Assumes nothing.
 use borrow.Author.Needs.{needs}
-use Rattle.extents.proofs.Doubles.{publish-enough, publish-short, sync-full, share-fits, sync-done}
-use Rattle.extents.proofs.Doubles.{view-in-after, below-in-after, view-law-after, below-law-after}
+use Rattle.extents.proofs.Doubles.{publish-enough, publish-short, sync-full, share-fits, sync-done, view-in-after, below-in-after, view-law-after, below-law-after}
 use Rattle.extents.specs.Entries.{syncedMaps}
 use Rattle.extents.proofs.Entering.{refused}
 use Rattle.extents.specs.declared.Answer.the-variants.{Done}

@@ -6,7 +6,7 @@ use mathlib.Core.Path.{_∙_}
 use lib.Dec.{eqb}
 use borrow.Author.Tests.{eqb-false, not-true}
 use denote.Ref.{now}
-use Rattle.models.specs.Limits.{OFFSET-MAX}
+use Rattle.rows.specs.Limits.{OFFSET-MAX}
 use Rattle.runs.specs.Runs.{Rising}
 use Rattle.runs.specs.Maps.{runs}
 use Rattle.runs.proofs.Trips.{lawful-map}

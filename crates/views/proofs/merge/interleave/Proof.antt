@@ -2,9 +2,8 @@
 use Prim.Native.Nat.{_+_, _-_}
 use native.Mathlib.Omega.{arith}
 use mathlib.Core.Path.{_∙_}
-use Rattle.models.specs.Limits.{OFFSET-MAX}
-use Rattle.views.proofs.Filling.{Filling, fill-start, fill-length, fill-room, next-room, next-inside, gap-bounds, fill-done}
-use Rattle.views.proofs.Filling.{fill-wait, fill-pass, part-room, part-bounds, fill-part, own-room, own-bounds, fill-take, fill-end}
+use Rattle.rows.specs.Limits.{OFFSET-MAX}
+use Rattle.views.proofs.Filling.{Filling, fill-start, fill-length, fill-room, next-room, next-inside, gap-bounds, fill-done, fill-wait, fill-pass, part-room, part-bounds, fill-part, own-room, own-bounds, fill-take, fill-end}
 use Rattle.views.proofs.merge.interleave.Statement.{statement}
 use Rattle.views.proofs.merge.interleave.Tie as tie
 

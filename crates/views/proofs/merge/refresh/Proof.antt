@@ -4,7 +4,7 @@ use native.Mathlib.Omega.{arith}
 use mathlib.Core.Path.{ap, _∙_}
 use denote.Ref.{now}
 use Rattle.runs.specs.Maps.{lawful}
-use Rattle.runs.proofs.Trips.{both}
+use Rattle.rows.proofs.Bools.{and-out}
 use Rattle.views.proofs.Viewing.{two-maps, lent-is, view-packed, packed-length, view-refreshed, copy-ready, view-copied}
 use Rattle.views.proofs.merge.refresh.Statement.{statement}
 use Rattle.views.proofs.merge.refresh.Tie as tie
@@ -114,7 +114,7 @@ runs-in-requires-2 : tie.Need-runs-in-requires-2
 runs-in-requires-2 c κs =
     let p7 = c .before .before .before .before .before .before .before in
     let m = two-maps (p7 .args .space) (p7 .args .view) (p7 .args .below) (now (p7 .args .maps)) (p7 .pre .0) in
-    ap lawful (lent-is (p7 .args .space) (p7 .args .below) (now (p7 .args .maps))) ∙ both _ _ (m .below-law) .0
+    ap lawful (lent-is (p7 .args .space) (p7 .args .below) (now (p7 .args .maps))) ∙ and-out _ _ (m .below-law) .0
 
 add-pack : tie.Need-add-pack
 add-pack c =

@@ -5,8 +5,7 @@ use mathlib.Core.Path.{refl, sym, _∙_}
 use lib.ListN.{length}
 use denote.Ref.{now}
 use Rattle.runs.specs.Maps.{runs}
-use Rattle.views.proofs.Settling.{Settling, fit, settle-none, settle-start, settle-length, settle-room, settle-last}
-use Rattle.views.proofs.Settling.{settle-join, settle-put, settle-end}
+use Rattle.views.proofs.Settling.{Settling, fit, settle-none, settle-start, settle-length, settle-room, settle-last, settle-join, settle-put, settle-end}
 use Rattle.views.proofs.merge.settle_all.Statement.{statement}
 use Rattle.views.proofs.merge.settle_all.Tie as tie
 

@@ -3,8 +3,7 @@ use borrow.Author.Needs.{needs}
 use native.Mathlib.Omega.{arith}
 use denote.Ref.{now}
 use Rattle.views.proofs.Parts.{holds-start, holds-two, lent-below}
-use Rattle.views.proofs.Sharing.{two-parts, shared, own-part, own-room, below-few, out-none, out-laid, alone-fit, alone-end, down-right, down-range, down-left, ready-left, up-left}
-use Rattle.views.proofs.Sharing.{range-fit, up-range, ready-right, up-right, shared-end}
+use Rattle.views.proofs.Sharing.{two-parts, shared, own-part, own-room, below-few, out-none, out-laid, alone-fit, alone-end, down-right, down-range, down-left, ready-left, up-left, range-fit, up-range, ready-right, up-right, shared-end}
 use Rattle.views.proofs.Bounds.{marked-room}
 use Rattle.views.proofs.share.share.Statement.{statement}
 use Rattle.views.proofs.share.share.Tie as tie

@@ -1,0 +1,37 @@
+-- What the first No says of a list of questions. Assumes nothing.
+use Prim.Native.Nat.{ℕ, _≤_}
+use native.Mathlib.Omega.{arith}
+use mathlib.Core.Path.{_≡_, refl}
+use mathlib.Core.Bool.{Bool, true, false, cond}
+use mathlib.Core.List.{List, [], _∷_}
+use Rattle.rows.specs.Questions.{Question, firstNo}
+
+-- no question has a number below k
+abbrev pub From : ℕ → List Question → Type 0
+From k [] = Unit {0}
+From k (q ∷ qs) = (k ≤ q .number) × From k qs
+
+-- every question is answered Yes
+abbrev pub AllYes : List Question → Type 0
+AllYes [] = Unit {0}
+AllYes (q ∷ qs) = (q .yes ≡ true) × AllYes qs
+
+-- a first No is one of the numbers
+pub no-from : (k : ℕ) (qs : List Question) → From k qs → (firstNo qs ≡ 0 → ⊥) → k ≤ firstNo qs
+unfolding firstNo
+no-from k [] f n = absurd (n refl)
+no-from k (q ∷ qs) f n = go (no-from k qs (f .1)) (q .yes) n
+  where
+    go : ((firstNo qs ≡ 0 → ⊥) → k ≤ firstNo qs) → (b : Bool) → (cond b (firstNo qs) (q .number) ≡ 0 → ⊥) → k ≤ cond b (firstNo qs) (q .number)
+    go rest true m = rest m
+    go rest false m = f .0
+
+-- without a No every answer is Yes
+pub all-yes : (qs : List Question) → From 1 qs → firstNo qs ≡ 0 → AllYes qs
+unfolding firstNo
+all-yes [] f e = tt
+all-yes (q ∷ qs) f e = go (all-yes qs (f .1)) (q .yes) refl e
+  where
+    go : (firstNo qs ≡ 0 → AllYes qs) → (b : Bool) → q .yes ≡ b → cond b (firstNo qs) (q .number) ≡ 0 → AllYes (q ∷ qs)
+    go rest true y n = (y, rest n)
+    go rest false y n = let low : 1 ≤ q .number = f .0 in absurd (omega arith)

@@ -1,0 +1,6 @@
+pub mod Bools
+pub mod Zeros
+pub mod Below
+pub mod Asking
+pub mod Slices
+pub mod Products

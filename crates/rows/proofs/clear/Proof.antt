@@ -1,0 +1,61 @@
+-- `rows::clear` meets its contract. Assumes nothing.
+use borrow.Author.Needs.{needs}
+use Rattle.rows.proofs.Zeros.{cleared}
+use borrow.Author.Fill.{fill-none, fill-more}
+use lib.ListN.{length, drop, set, replicate, length-set}
+use mathlib.Core.List.{List, _++_}
+use mathlib.Core.Path.{_≡_, refl, ap, _∙_}
+use Prim.Native.Nat.{ℕ, _-_, _<_}
+use native.Mathlib.Omega.{arith}
+use denote.Ref.{now}
+use Rattle.rows.proofs.clear.Statement.{statement}
+use Rattle.rows.proofs.clear.Tie as tie
+
+abbrev Inv-loop : tie.InvT-loop
+Inv-loop numbers₀ i₀ numbers i = (length numbers ≡ length numbers₀) × (numbers ≡ replicate i 0 ++ drop i numbers₀)
+
+abbrev μ-loop : tie.MeasureT-loop
+μ-loop numbers₀ i₀ numbers i = length numbers - i
+
+loop-holds : tie.Need-loop-holds Inv-loop μ-loop
+loop-holds c = (refl, fill-none _ 0)
+
+mul-numbers : tie.Need-mul-numbers Inv-loop μ-loop
+mul-numbers c = search needs
+
+slice-write-numbers : tie.Need-slice-write-numbers Inv-loop μ-loop
+slice-write-numbers c = search needs
+
+add-i : tie.Need-add-i Inv-loop μ-loop
+add-i c = search needs
+
+loop-less : tie.Need-loop-less Inv-loop μ-loop
+loop-less c = omega (arith, length-set (c .before .loop .numbers) (c .before .loop .i) 0)
+
+loop-again : tie.Need-loop-again Inv-loop μ-loop
+loop-again c =
+    let d = now (c .before .before .args .numbers) in
+    let l = c .before .loop in
+    let h : l .i < length d = omega arith in
+    (length-set (l .numbers) (l .i) 0 ∙ l .inv .0, ap (λ (x : List ℕ). set x (l .i) 0) (l .inv .1) ∙ fill-more (l .i) 0 d h)
+
+same-length : tie.Need-same-length Inv-loop μ-loop
+same-length c = c .before .loop .inv .0
+
+returns : tie.Need-returns Inv-loop μ-loop
+returns c = cleared _ (c .before .loop .inv .1) (c .before .loop .inv .0) (c .loop-test .left)
+
+pub clear-spec : {M : Type 1} → statement M
+clear-spec =
+    tie.close
+    (tie.spec
+    Inv-loop
+    μ-loop
+    loop-holds
+    mul-numbers
+    slice-write-numbers
+    add-i
+    loop-less
+    loop-again
+    same-length
+    returns)

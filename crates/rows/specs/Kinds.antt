@@ -1,0 +1,30 @@
+-- The kinds of rows by their numbers.
+use Prim.Native.Nat.{ℕ}
+
+abbrev pub READ : ℕ
+READ = 0
+
+abbrev pub WRITE : ℕ
+WRITE = 1
+
+abbrev pub COMMIT : ℕ
+COMMIT = 2
+
+abbrev pub OPEN : ℕ
+OPEN = 3
+
+abbrev pub CLOSE : ℕ
+CLOSE = 4
+
+abbrev pub SYNC : ℕ
+SYNC = 5
+
+abbrev pub SEND : ℕ
+SEND = 6
+
+abbrev pub RECV : ℕ
+RECV = 7
+
+-- how many kinds there are
+abbrev pub KINDS : ℕ
+KINDS = 8

@@ -1,0 +1,6 @@
+pub mod Limits
+pub mod Kinds
+pub mod Rows
+pub mod Questions
+pub mod Counting
+pub mod Lists

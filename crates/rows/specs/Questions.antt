@@ -1,0 +1,20 @@
+-- Questions that are put to an input. The first No decides.
+use Prim.Native.Nat.{ℕ, _*_}
+use mathlib.Core.Bool.{Bool, cond, _&&_}
+use mathlib.Core.List.{List, [], _∷_}
+use lib.Dec.{leb}
+
+-- a question's number and its answer
+pub record Question : Type 0 where
+  pub number : ℕ
+  pub yes : Bool
+
+-- the number of the first No, and 0 where every answer is Yes
+unfoldable pub firstNo : List Question → ℕ
+firstNo [] = 0
+firstNo (q ∷ qs) = cond (q .yes) (firstNo qs) (q .number)
+
+-- 1. Are the lent slices long enough (6 × row limit; row limit × process limit)?
+abbrev pub longEnough : ℕ → ℕ → ℕ → ℕ → Bool
+longEnough rowLimit processLimit rowsLength countsLength =
+    leb (6 * rowLimit) rowsLength && leb (rowLimit * processLimit) countsLength

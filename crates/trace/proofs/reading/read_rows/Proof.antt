@@ -1,0 +1,165 @@
+-- `trace::reading::read_rows` meets its contract. Assumes nothing.
+use borrow.Author.Needs.{needs}
+use Rattle.trace.proofs.Going.{Going, begin, at-end, end-held, at-malformed, at-limit, refusal, no-row, row-room, next-row, onward}
+use Rattle.rows.proofs.Slices.{with-room}
+use Rattle.csv.proofs.Answers.{tells}
+use Rattle.csv.specs.Reading.{readAt}
+use denote.Ref.{now}
+use lib.ListN.{length}
+use Prim.Native.Nat.{_+_, _*_, _-_, _≤_}
+use native.Mathlib.Omega.{arith}
+use mathlib.Core.Path.{_≡_, refl, _∙_}
+use Rattle.trace.proofs.reading.read_rows.Statement.{statement}
+use Rattle.trace.proofs.reading.read_rows.Tie as tie
+
+abbrev Inv-loop : tie.InvT-loop
+Inv-loop text start row-limit process-limit byte-limit rows₀ at₀ n₀ rows at n = Going row-limit process-limit text byte-limit start rows₀ at n rows × (length rows ≡ length rows₀)
+
+abbrev μ-loop : tie.MeasureT-loop
+μ-loop text start row-limit process-limit byte-limit rows₀ at₀ n₀ rows at n = length text - at
+
+loop-holds : tie.Need-loop-holds Inv-loop μ-loop
+loop-holds c =
+    let a = c .before .before .args in
+    (begin (a .row-limit) (a .process-limit) (now (a .text)) (a .byte-limit) (a .start) (now (a .rows)), refl)
+
+read-record-requires : tie.Need-read-record-requires Inv-loop μ-loop
+read-record-requires c κs = search needs
+
+cast-place : tie.Need-cast-place Inv-loop μ-loop
+cast-place c = omega (arith, c .before .loop .inv .0 .few, c .before .before .before .before .pre .0)
+
+add-place : tie.Need-add-place Inv-loop μ-loop
+add-place c = omega (arith, c .before .loop .inv .0 .few, c .before .before .before .before .pre .0)
+
+enum-told : tie.Need-enum-told Inv-loop μ-loop
+enum-told c = search needs
+
+cast-t16 : tie.Need-cast-t16 Inv-loop μ-loop
+cast-t16 c = omega (arith, c .before .before .before .loop .inv .0 .few, c .before .before .before .before .before .before .pre .0)
+
+same-length : tie.Need-same-length Inv-loop μ-loop
+same-length c = c .before .before .before .loop .inv .1
+
+returns : tie.Need-returns Inv-loop μ-loop
+returns c =
+    let a = c .before .before .before .before .before .before .args in
+    let l = c .before .before .before .loop in
+    let text = now (a .text) in (
+      at-end (l .inv .0) (tells (readAt text (l .at) (a .byte-limit)) (c .before .before .read-record .result)
+          (c .before .before .read-record .ensures) (c .enum-told .given .1)),
+      end-held (l .inv .0)
+          (tells (readAt text (l .at) (a .byte-limit)) (c .before .before .read-record .result) (c .before .before .read-record .ensures)
+          (c .enum-told .given .1)),
+    )
+
+enum-told-2 : tie.Need-enum-told-2 Inv-loop μ-loop
+enum-told-2 c = search needs
+
+same-length-2 : tie.Need-same-length-2 Inv-loop μ-loop
+same-length-2 c = c .before .before .before .loop .inv .1
+
+returns-2 : tie.Need-returns-2 Inv-loop μ-loop
+returns-2 c =
+    let a = c .before .before .before .before .before .before .args in
+    let l = c .before .before .before .loop in
+    let rows = now (a .rows) in
+    let text = now (a .text) in
+    refusal rows (l .rows) (at-malformed (l .inv .0) (tells (readAt text (l .at) (a .byte-limit)) (c .before .before .read-record .result)
+    (c .before .before .read-record .ensures) (c .enum-told2 .given .1)))
+
+enum-told-3 : tie.Need-enum-told-3 Inv-loop μ-loop
+enum-told-3 c = search needs
+
+same-length-3 : tie.Need-same-length-3 Inv-loop μ-loop
+same-length-3 c = c .before .before .before .loop .inv .1
+
+returns-3 : tie.Need-returns-3 Inv-loop μ-loop
+returns-3 c =
+    let a = c .before .before .before .before .before .before .args in
+    let l = c .before .before .before .loop in
+    let rows = now (a .rows) in
+    let text = now (a .text) in
+    refusal rows (l .rows) (at-limit (l .inv .0) (tells (readAt text (l .at) (a .byte-limit)) (c .before .before .read-record .result)
+    (c .before .before .read-record .ensures) (c .enum-told3 .given .1)))
+
+enum-told-4 : tie.Need-enum-told-4 Inv-loop μ-loop
+enum-told-4 c = search needs
+
+judge-row-requires : tie.Need-judge-row-requires Inv-loop μ-loop
+judge-row-requires c κs =
+    let l = c .before .before .before .before .before .loop in
+    omega (arith, l .inv .0 .few, l .inv .1, c .before .before .before .before .before .before .before .before .pre .1)
+
+enum-known-k : tie.Need-enum-known-k Inv-loop μ-loop
+enum-known-k c = search needs
+
+same-length-4 : tie.Need-same-length-4 Inv-loop μ-loop
+same-length-4 c = c .before .before .before .before .before .before .before .before .before .loop .inv .1
+
+returns-4 : tie.Need-returns-4 Inv-loop μ-loop
+returns-4 c =
+    let a = c .before .before .before .before .before .before .before .before .before .before .before .before .args in
+    let l = c .before .before .before .before .before .before .before .before .before .loop in
+    let rows = now (a .rows) in
+    refusal rows (l .rows) (no-row (l .inv .0) (c .before .before .before .before .before .before .before .before .read-record .ensures)
+    (c .before .before .before .before .before .before .enum-told4 .given .1) (c .before .before .before .judge-row .ensures)
+    (c .before .k .given .1))
+
+enum-known-row : tie.Need-enum-known-row Inv-loop μ-loop
+enum-known-row c = search needs
+
+put-row-requires : tie.Need-put-row-requires Inv-loop μ-loop
+put-row-requires c κs = search needs
+
+add-n : tie.Need-add-n Inv-loop μ-loop
+add-n c = omega (arith, c .before .before .before .before .before .before .before .before .before .before .before .before .before .loop .inv .0 .few, c .before .before .before .before .before .before .before .before .before .before .before .before .before .before .before .before .pre .0)
+
+loop-less : tie.Need-loop-less Inv-loop μ-loop
+loop-less c =
+    let l = c .before .before .before .before .before .before .before .before .before .before .before .before .before .loop in
+    omega (arith, onward (l .inv .0) (c .before .before .before .before .before .before .before .before .before .before .before .before .read-record .ensures) (c .before .before .before .before .before .before .before .before .before .before .enum-told4 .given .1))
+
+loop-again : tie.Need-loop-again Inv-loop μ-loop
+loop-again c =
+    let b = c .before .before .before in
+    let l = b .before .before .before .before .before .before .before .before .before .before .loop in
+    let read = b .before .before .before .before .before .before .before .before .before .read-record .ensures in
+    let told = b .before .before .before .before .before .before .before .enum-told4 .given .1 in
+    let judged = b .before .before .before .before .judge-row .ensures in
+    let kept = b .before .before .row .given .1 in
+    let limits = b .before .before .before .before .before .before .before .before .before .before .before .before .before .pre in
+    let room : l .n * 6 + 6 ≤ length (l .rows) = omega (arith, row-room (l .inv .0) read told judged kept, l .inv .1, limits .1) in
+    let put = c .before .before .put-row .ensures ∙ with-room (l .n) (b .before .before .row .given .0 .0) (l .rows) room in
+    (next-row (l .inv .0) read told judged kept put, c .before .before .put-row .kept .0 ∙ l .inv .1)
+
+pub read-rows-spec : {M : Type 1} → statement M
+read-rows-spec =
+    tie.close
+    (tie.spec
+    Inv-loop
+    μ-loop
+    loop-holds
+    read-record-requires
+    cast-place
+    add-place
+    enum-told
+    cast-t16
+    same-length
+    returns
+    enum-told-2
+    same-length-2
+    returns-2
+    enum-told-3
+    same-length-3
+    returns-3
+    enum-told-4
+    judge-row-requires
+    enum-known-k
+    same-length-4
+    returns-4
+    enum-known-row
+    put-row-requires
+    add-n
+    loop-less
+    loop-again)

@@ -1,0 +1,141 @@
+// Row after row, in a slice of six numbers each.
+ghost use mathlib.Core.Path.{_≡_};
+ghost use mathlib.Core.List.{_++_};
+ghost use Prim.Native.Nat.{_+_, _*_, _≤_};
+ghost use lib.ListN.{length, take, drop};
+ghost use Rattle.rows.specs.Rows.{six, rowHere, rowsIn};
+ghost use Rattle.trace.specs.Questions.{any, messageInOrder, checkedOf, Holds};
+ghost use Rattle.trace.specs.Reads.{fieldsOf, matches, judgedRow, judgeFrom};
+use crate::Checked;
+use csv::Answer;
+use csv::Span;
+use fields::Judged;
+use rows::Row;
+
+// The row at a place has this kind and message and, where another process's is asked for, not this process.
+fn row_matches(rows: &[u32], at: usize, kind: u32, message: u32, process: u32, other: bool) -> bool
+    requires { ⌜ at + 6 ≤ length (now rows) ⌝ }
+    ensures { λ r. ⌜ r ≡ matches kind message process other (rowHere (drop at (now (rows .entry)))) ⌝ }
+{
+    if rows[at + 1] != kind {
+        return false;
+    }
+    if rows[at + 5] != message {
+        return false;
+    }
+    if !other {
+        return true;
+    }
+    rows[at] != process
+}
+
+// Some of the first n rows matches.
+fn some_row(rows: &[u32], n: usize, kind: u32, message: u32, process: u32, other: bool) -> bool
+    requires { ⌜ n * 6 ≤ length (now rows) ⌝ }
+    ensures { λ r. ⌜ r ≡ any (matches kind message process other) (rowsIn n (now (rows .entry))) ⌝ }
+{
+    let mut i = 0;
+    while i < n {
+        if row_matches(rows, i * 6, kind, message, process, other) {
+            return true;
+        }
+        i += 1;
+    }
+    false
+}
+
+// Question 12.
+fn in_order(rows: &[u32], n: usize, row: Row) -> bool
+    requires { ⌜ n * 6 ≤ length (now rows) ⌝ }
+    ensures { λ r. ⌜ r ≡ messageInOrder (rowsIn n (now (rows .entry))) row ⌝ }
+{
+    let kind = row.kind;
+    match kind {
+        // send
+        6 => !some_row(rows, n, 6, row.message, row.process, false),
+        // recv
+        7 => {
+            if !some_row(rows, n, 6, row.message, row.process, true) {
+                return false;
+            }
+            !some_row(rows, n, 7, row.message, row.process, false)
+        }
+        _ => true,
+    }
+}
+
+// The questions 6 to 12 of the record behind the first n rows.
+fn judge_row(
+    text: &[u8],
+    count: usize,
+    spans: [Span; 6],
+    rows: &[u32],
+    n: usize,
+    row_limit: u32,
+    process_limit: u32,
+) -> Judged
+    requires { ⌜ n * 6 ≤ length (now rows) ⌝ }
+    ensures { λ r. ⌜ r ≡ judgedRow «row_limit» «process_limit» n (rowsIn n (now (rows .entry))) count (fieldsOf (now (text .entry)) spans) ⌝ }
+{
+    if row_limit as usize <= n {
+        return Judged::No(6);
+    }
+    if count != 6 {
+        return Judged::No(7);
+    }
+    match fields::judge_fields(text, spans, process_limit) {
+        Judged::No(k) => Judged::No(k),
+        Judged::Kept(row) => {
+            if !in_order(rows, n, row) {
+                return Judged::No(12);
+            }
+            Judged::Kept(row)
+        }
+    }
+}
+
+// Reads rows from a place of the text on, up to its end or the first No.
+pub(crate) fn read_rows(
+    text: &[u8],
+    start: usize,
+    row_limit: u32,
+    process_limit: u32,
+    byte_limit: usize,
+    rows: &mut [u32],
+) -> Checked
+    requires { ⌜ («row_limit» ≤ 4096) × (6 * «row_limit» ≤ length (now rows)) ⌝ }
+    ensures answer { λ r. ⌜ r ≡ checkedOf (judgeFrom «row_limit» «process_limit» (now (text .entry)) «byte_limit» start) ⌝ }
+    ensures held { λ r. ⌜ Holds (judgeFrom «row_limit» «process_limit» (now (text .entry)) «byte_limit» start) (now (rows .entry)) (now (rows .exit)) ⌝ }
+{
+    let mut at = start;
+    let mut n: usize = 0;
+    loop {
+        let r = csv::read_record(text, at, byte_limit);
+        let place = n as u32 + 1;
+        let answer = r.answer;
+        match answer {
+            Answer::End => {
+                return Checked::Accepted(n as u32);
+            }
+            Answer::Malformed => {
+                return Checked::Refused(4, place);
+            }
+            Answer::Limit => {
+                return Checked::Refused(6, place);
+            }
+            Answer::Record => {
+                let spans = r.spans;
+                match judge_row(text, r.count, spans, rows, n, row_limit, process_limit) {
+                    Judged::No(k) => {
+                        return Checked::Refused(k, place);
+                    }
+                    Judged::Kept(row) => {
+                        rows::put_row(rows, n, row);
+                        n += 1;
+                        at = r.next;
+                    }
+                }
+            }
+        }
+    }
+}
