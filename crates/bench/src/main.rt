@@ -1,8 +1,8 @@
 // The bench lines that are not theorems: what the whole call answers to each text. What it writes is held to the file stdout.
-use asking::Machine;
 use checker::Judged;
 use extents::Answer;
 use machine::Made;
+use machine_state::Machine;
 use rows::Row;
 
 fn put(text: &[u8]) {

@@ -16,9 +16,9 @@ use Rattle.rows.specs.Questions.{firstNo}
 use Rattle.trace.proofs.Laws.{accepted-passed, accepted-sound, rows-left-back}
 use Rattle.rows.proofs.Slices.{length-numbers, row-in}
 use Rattle.trace.proofs.Whole.{accepted-told, refused-told}
-use Rattle.order.specs.Order.{countsOf}
-use Rattle.order.specs.Filling.{fillQuestions, filledLeft}
-use Rattle.order.proofs.Asking.{all-asked}
+use Rattle.happens_before.specs.Order.{countsOf}
+use Rattle.happens_before.specs.Filling.{fillQuestions, filledLeft}
+use Rattle.happens_before.proofs.Asking.{all-asked}
 use Rattle.trace.proofs.Sounds.{sound-row}
 use Rattle.races.specs.declared.Found.{Found}
 use Rattle.races.specs.declared.Found.the-variants as found

@@ -11,13 +11,13 @@ use borrow.Author.Tests.{leb-true, ltb-true}
 use Rattle.rows.specs.Kinds.{READ}
 use Rattle.rows.specs.declared.Row.{Row}
 use Rattle.rows.proofs.Bools.{and-out}
-use Rattle.runs.specs.Cells.{Bytes, numberIn, inRange}
-use Rattle.runs.specs.Runs.{piecesOf}
-use Rattle.runs.specs.Maps.{threes}
-use Rattle.runs.proofs.Longest.{range-in, pieces-same, pieces-tell}
-use Rattle.runs.proofs.Threes.{pieces-told}
-use Rattle.layers.specs.Layers.{piecesRead}
-use Rattle.layers.specs.Steps.{refusing, done, listed, answered}
+use Rattle.extents_meaning.specs.Cells.{Bytes, numberIn, inRange}
+use Rattle.extents_meaning.specs.Runs.{piecesOf}
+use Rattle.extents_meaning.specs.Maps.{threes}
+use Rattle.extents_meaning.proofs.Longest.{range-in, pieces-same, pieces-tell}
+use Rattle.extents_meaning.proofs.Threes.{pieces-told}
+use Rattle.machine_meaning.specs.Layers.{piecesRead}
+use Rattle.machine_meaning.specs.Steps.{refusing, done, listed, answered}
 use Rattle.consistency.specs.Files.{Same}
 
 -- an answer is no refusal

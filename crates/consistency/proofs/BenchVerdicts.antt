@@ -7,7 +7,7 @@ use Rattle.trace.specs.Rows.{wordOf, sameFields, usedBy, allDigits, startsPlain
 use Rattle.trace.specs.Questions.{callQuestions, filledAsUsed, numbersInRange, any, messageInOrder, fieldQuestions, rowQuestions, judgeRows, judgeHeader, readTrace, checkTrace, Outcome, refused, accepted}
 use Rattle.rows.specs.Questions.{firstNo}
 use Rattle.rows.specs.Counting.{anyBelow, leastFrom}
-use Rattle.order.specs.Order.{edge, hbWithin}
+use Rattle.happens_before.specs.Order.{edge, hbWithin}
 use Rattle.races.specs.Races.{shareByte, conflict, chainPosix, chainCommit, chainSession, chainMpiIo, chain, synchronized, race, Verdict, free, racing, verdictOf}
 
 -- ---- Lines, without their line ends

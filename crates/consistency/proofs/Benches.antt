@@ -13,17 +13,17 @@ use Rattle.trace.specs.Rows.{wordOf, usedBy, allDigits, startsPlain, valueFrom,
 use Rattle.trace.specs.Questions.{callQuestions, filledAsUsed, numbersInRange, messageInOrder, fieldQuestions, rowQuestions, judgeRows, readTrace, checkTrace, accepted}
 use Rattle.rows.specs.Questions.{firstNo}
 use Rattle.rows.specs.Counting.{anyBelow, leastFrom}
-use Rattle.order.specs.Order.{edge, hbWithin}
+use Rattle.happens_before.specs.Order.{edge, hbWithin}
 use Rattle.consistency.proofs.BenchVerdicts.{judged, traces, expected, bench-verdicts}
 use Rattle.races.specs.Races.{shareByte, conflict, chainCommit, chain, synchronized, race, racing, verdictOf}
-use Rattle.runs.specs.Cells.{Bytes, cellOf}
-use Rattle.runs.specs.Runs.{Run, runOf, cellAt, Lawful}
-use Rattle.runs.specs.Maps.{mapOf, mapFor, mapAt}
-use Rattle.runs.proofs.Longest.{range-in, range-before, range-behind, runs-unique}
-use Rattle.layers.specs.Layers.{fresh, nothing, afterRow, afterPlain}
-use Rattle.layers.specs.States.{Header}
-use Rattle.layers.proofs.Points.{fresh-pointed, plain-pointed}
-use Rattle.layers.proofs.Slices.{to-shared, plain-first, layers-held, plain-held}
+use Rattle.extents_meaning.specs.Cells.{Bytes, cellOf}
+use Rattle.extents_meaning.specs.Runs.{Run, runOf, cellAt, Lawful}
+use Rattle.extents_meaning.specs.Maps.{mapOf, mapFor, mapAt}
+use Rattle.extents_meaning.proofs.Longest.{range-in, range-before, range-behind, runs-unique}
+use Rattle.machine_meaning.specs.Layers.{fresh, nothing, afterRow, afterPlain}
+use Rattle.machine_meaning.specs.States.{Header}
+use Rattle.machine_meaning.proofs.Points.{fresh-pointed, plain-pointed}
+use Rattle.machine_meaning.proofs.Slices.{to-shared, plain-first, layers-held, plain-held}
 use Rattle.consistency.specs.Orders.{placesBelow, traceOrder}
 use Rattle.consistency.specs.Files.{Numbered, rowsFor, runFrom, plainRunFrom, writesIn, headerFor, Lent, freshMachine, freshPlain}
 use Rattle.consistency.proofs.Meaning.{layersRun, plainRun}

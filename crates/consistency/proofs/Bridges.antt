@@ -14,12 +14,12 @@ use Rattle.rows.specs.Kinds.{READ, WRITE, COMMIT, SEND}
 use Rattle.models.specs.Models.{COMMIT-MODEL}
 use Rattle.models.specs.Table.{publishes, refreshes}
 use Rattle.rows.specs.declared.Row.{Row}
-use Rattle.order.specs.Order.{edge, hb}
+use Rattle.happens_before.specs.Order.{edge, hb}
 use Rattle.rows.specs.Rows.{rowAt}
 use Rattle.rows.proofs.Bools.{and-out}
-use Rattle.order.proofs.Clocks.{edge-forward, hb-iff}
-use Rattle.runs.specs.Cells.{inRange}
-use Rattle.layers.specs.Layers.{ofFile}
+use Rattle.happens_before.proofs.Clocks.{edge-forward, hb-iff}
+use Rattle.extents_meaning.specs.Cells.{inRange}
+use Rattle.machine_meaning.specs.Layers.{ofFile}
 use Rattle.races.specs.Races.{conflict, chain, synchronized, race, verdictOf, free}
 use Rattle.races.proofs.Verdicts.{free-iff, race-out}
 use Rattle.races.proofs.Conflicts.{Conflict as RowsConflict, conflict-iff}

@@ -13,8 +13,8 @@ use Rattle.models.specs.Table.{publishes, refreshes}
 use Rattle.rows.specs.declared.Row.{Row}
 use Rattle.rows.specs.Rows.{rowAt}
 use Rattle.rows.proofs.Bools.{and-out}
-use Rattle.runs.specs.Cells.{Bytes, cellOf, numberIn, unpublished, cleared, inRange, overwrite, settled, refreshed}
-use Rattle.layers.specs.Layers.{Layers, fresh, nothing, written, publishing, refreshing, afterRow, afterPlain, ofFile}
+use Rattle.extents_meaning.specs.Cells.{Bytes, cellOf, numberIn, unpublished, cleared, inRange, overwrite, settled, refreshed}
+use Rattle.machine_meaning.specs.Layers.{Layers, fresh, nothing, written, publishing, refreshing, afterRow, afterPlain, ofFile}
 use Rattle.consistency.specs.Files.{Numbered, rowsFor, End, endRows, processesOf}
 use Rattle.consistency.proofs.Byte.{Byte, freshByte, writeByte, publishByte, refreshByte, stepByte}
 use Rattle.consistency.proofs.Views.{cell-number, cell-mark, cleared-number, cleared-mark, cond-shows, view-put, view-same}

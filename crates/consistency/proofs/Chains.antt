@@ -13,11 +13,11 @@ use Rattle.rows.specs.Limits.{MODELS}
 use Rattle.rows.specs.Kinds.{READ, WRITE, COMMIT, OPEN, CLOSE, SYNC, SEND}
 use Rattle.models.specs.Table.{publishes, refreshes}
 use Rattle.rows.specs.declared.Row.{Row}
-use Rattle.order.specs.Order.{sameProcess}
+use Rattle.happens_before.specs.Order.{sameProcess}
 use Rattle.rows.specs.Rows.{rowAt}
 use Rattle.rows.proofs.Bools.{and-out}
-use Rattle.runs.specs.Cells.{inRange}
-use Rattle.layers.specs.Layers.{ofFile}
+use Rattle.extents_meaning.specs.Cells.{inRange}
+use Rattle.machine_meaning.specs.Layers.{ofFile}
 use Rattle.races.specs.Races.{sameFile, chain}
 use Rattle.races.specs.Marks.{publishedBy, refreshedBy, tableChain}
 use Rattle.races.proofs.Chains.{HB-in, two-iff, table-chain}

@@ -6,8 +6,8 @@ use mathlib.Core.Logic.{_⊎_, inl, inr}
 use mathlib.Core.Bool.{Bool, true, false, cond}
 use mathlib.Core.List.{List, [], _∷_, _++_}
 use Rattle.consistency.proofs.Byte.{Byte, freshByte, writeByte, publishByte, refreshByte, stepByte}
-use Rattle.order.specs.Order.{HB}
-use Rattle.order.proofs.Clocks.{Forward}
+use Rattle.happens_before.specs.Order.{HB}
+use Rattle.happens_before.proofs.Clocks.{Forward}
 use Rattle.rows.specs.Lists.{In}
 
 -- The rows as one byte of one file sees them: which write or read the byte, which publish and refresh the file for their process, and whether

@@ -13,15 +13,15 @@ use Rattle.rows.specs.Limits.{MODELS, PROCESSES, ROWS, FILES, OFFSET-MAX}
 use Rattle.rows.specs.Kinds.{READ, WRITE}
 use Rattle.rows.specs.declared.Row.{Row}
 use Rattle.rows.proofs.Bools.{or-right}
-use Rattle.runs.specs.Cells.{Bytes, numberIn}
-use Rattle.runs.specs.Runs.{Run, piecesOf}
-use Rattle.layers.specs.Layers.{Layers, fresh, nothing, afterRow, afterPlain, piecesRead, ofFile}
-use Rattle.layers.specs.States.{Header, layersIn, layersTo, plainIn, plainTo}
-use Rattle.layers.specs.Steps.{makingQuestions, plainMakingQuestions, usesRange, rowAsked, Step, answered, stepOf, plainStepOf}
-use Rattle.layers.proofs.Points.{picked, Pointed, pointed-pieces, LayersPointed, PlainPointed, Writing, fresh-pointed, plain-pointed, row-pointed, plain-row-pointed}
-use Rattle.layers.proofs.Slices.{held-fit, to-in, layers-held, plain-in, plain-held}
-use Rattle.layers.proofs.Stepping.{AllYes, step-held, plain-step-held}
-use Rattle.layers.proofs.Making.{making-yes, making-fresh, plain-making-yes, plain-making-fresh}
+use Rattle.extents_meaning.specs.Cells.{Bytes, numberIn}
+use Rattle.extents_meaning.specs.Runs.{Run, piecesOf}
+use Rattle.machine_meaning.specs.Layers.{Layers, fresh, nothing, afterRow, afterPlain, piecesRead, ofFile}
+use Rattle.machine_meaning.specs.States.{Header, layersIn, layersTo, plainIn, plainTo}
+use Rattle.machine_meaning.specs.Steps.{makingQuestions, plainMakingQuestions, usesRange, rowAsked, Step, answered, stepOf, plainStepOf}
+use Rattle.machine_meaning.proofs.Points.{picked, Pointed, pointed-pieces, LayersPointed, PlainPointed, Writing, fresh-pointed, plain-pointed, row-pointed, plain-row-pointed}
+use Rattle.machine_meaning.proofs.Slices.{held-fit, to-in, layers-held, plain-in, plain-held}
+use Rattle.machine_meaning.proofs.Stepping.{AllYes, step-held, plain-step-held}
+use Rattle.machine_meaning.proofs.Making.{making-yes, making-fresh, plain-making-yes, plain-making-fresh}
 use Rattle.rows.specs.Lists.{In}
 use Rattle.consistency.specs.Files.{Numbered, Agree, runFrom, plainRunFrom, Level, writesIn, SpaceFor, Lent, freshMachine, freshPlain}
 use Rattle.consistency.proofs.Meaning.{layersRun, plainRun, ReadsSame}

@@ -9,9 +9,9 @@ use mathlib.Core.Logic.{_⊎_, inl, inr}
 use mathlib.Core.Bool.{Bool, true, false, cond, false≢true}
 use mathlib.Core.List.{List, [], _∷_}
 use Rattle.consistency.proofs.Byte.{Byte, freshByte, writeByte, stepByte}
-use Rattle.order.specs.Order.{HB, one, more}
+use Rattle.happens_before.specs.Order.{HB, one, more}
 use Rattle.rows.proofs.Bools.{not-passed}
-use Rattle.order.proofs.Clocks.{HB-less, HB-trans}
+use Rattle.happens_before.proofs.Clocks.{HB-less, HB-trans}
 use Rattle.rows.specs.Lists.{In}
 use Rattle.consistency.proofs.Core.{Trace, run, plain, Ok, none, next, Published, Refreshed, Chain, Synchronized, Free, publishAll}
 use Rattle.consistency.proofs.Holding.{Settled, Holds, holds-view, write-holds, shared-holds, shared-settled, all-publish, shared-left, write-own, write-other}

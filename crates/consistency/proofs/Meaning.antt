@@ -9,12 +9,12 @@ use borrow.Author.Tests.{eqb-true}
 use Rattle.rows.specs.Kinds.{READ, WRITE}
 use Rattle.models.specs.Table.{publishes, refreshes}
 use Rattle.rows.specs.declared.Row.{Row}
-use Rattle.order.specs.Order.{edge}
+use Rattle.happens_before.specs.Order.{edge}
 use Rattle.rows.specs.Rows.{rowAt}
 use Rattle.rows.proofs.Bools.{and-out}
-use Rattle.order.proofs.Clocks.{edge-forward, edge-in, program-order}
-use Rattle.runs.specs.Cells.{Bytes, numberIn, inRange}
-use Rattle.layers.specs.Layers.{Layers, afterRow, afterPlain, ofFile}
+use Rattle.happens_before.proofs.Clocks.{edge-forward, edge-in, program-order}
+use Rattle.extents_meaning.specs.Cells.{Bytes, numberIn, inRange}
+use Rattle.machine_meaning.specs.Layers.{Layers, afterRow, afterPlain, ofFile}
 use Rattle.consistency.specs.Files.{Numbered}
 use Rattle.consistency.proofs.Core.{Trace}
 

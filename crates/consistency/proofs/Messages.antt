@@ -14,10 +14,10 @@ use Rattle.rows.specs.declared.Row.{Row}
 use Rattle.rows.specs.Kinds.{SEND, RECV}
 use Rattle.trace.specs.Questions.{any, carries, sentByOther, messageInOrder, accepted, checkTrace}
 use Rattle.trace.proofs.Laws.{Sound, none, next, accepted-passed, accepted-sound}
-use Rattle.order.specs.Order.{sameProcess, delivers, edge}
+use Rattle.happens_before.specs.Order.{sameProcess, delivers, edge}
 use Rattle.rows.specs.Rows.{rowAt, noRow}
 use Rattle.rows.proofs.Bools.{and-out, or-out, or-right, not-passed}
-use Rattle.order.proofs.Clocks.{message-order}
+use Rattle.happens_before.proofs.Clocks.{message-order}
 
 -- ---- What question 12 says
 

@@ -7,7 +7,7 @@ use mathlib.Core.Bool.{true}
 use mathlib.Core.List.{List, [], _∷_, _++_, reverseAux, reverse, reverse-cons, reverseAux-append, reverse-reverse}
 use lib.ListN.{length}
 use Rattle.rows.specs.declared.Row.{Row}
-use Rattle.order.specs.Order.{edge, one}
+use Rattle.happens_before.specs.Order.{edge, one}
 use Rattle.consistency.specs.Orders.{Stands, Allowed, placesBelow, traceOrder}
 use Rattle.rows.specs.Lists.{In, Once}
 use Rattle.consistency.proofs.Core.{Trace, Ok, none, next}

@@ -17,13 +17,13 @@ use Rattle.trace.specs.Rows.{wordOf, usedBy, allDigits, startsPlain, valueFrom,
 use Rattle.trace.specs.Questions.{callQuestions, filledAsUsed, numbersInRange, any, messageInOrder, fieldQuestions, rowQuestions, judgeRows, readTrace, checkTrace, accepted}
 use Rattle.rows.specs.Questions.{firstNo}
 use Rattle.rows.specs.Counting.{anyBelow, leastFrom}
-use Rattle.order.specs.Order.{edge, hbWithin}
+use Rattle.happens_before.specs.Order.{edge, hbWithin}
 use Rattle.rows.specs.Rows.{rowAt}
-use Rattle.order.proofs.Clocks.{edge-forward}
+use Rattle.happens_before.proofs.Clocks.{edge-forward}
 use Rattle.races.specs.Races.{shareByte, conflict, chainCommit, chainSession, chain, synchronized, race, free, racing, verdictOf}
-use Rattle.runs.specs.Cells.{numberIn}
-use Rattle.layers.specs.Layers.{Layers, fresh, nothing, ofFile}
-use Rattle.layers.specs.States.{Header}
+use Rattle.extents_meaning.specs.Cells.{numberIn}
+use Rattle.machine_meaning.specs.Layers.{Layers, fresh, nothing, ofFile}
+use Rattle.machine_meaning.specs.States.{Header}
 use Rattle.consistency.specs.Orders.{Allowed}
 use Rattle.rows.specs.Lists.{In}
 use Rattle.consistency.specs.Files.{Numbered, rowsFor, End, endRows, processesOf, ByAll, SpaceFor, headerFor, EqualWith}

@@ -18,12 +18,12 @@ use Rattle.trace.proofs.Laws.{WellFormed, Sound, accepted-passed, accepted-soun
 use Rattle.rows.specs.Rows.{rowAt}
 use Rattle.rows.proofs.Bools.{and-out}
 use Rattle.trace.proofs.Sounds.{sound-row}
-use Rattle.runs.specs.Cells.{numberIn, inRange}
+use Rattle.extents_meaning.specs.Cells.{numberIn, inRange}
 use Rattle.races.specs.Races.{race, verdictOf, free}
 use Rattle.races.proofs.Verdicts.{free-iff, race-out}
-use Rattle.layers.specs.Layers.{Layers, fresh, nothing, ofFile}
-use Rattle.layers.specs.States.{Header, mapsLength}
-use Rattle.layers.specs.Steps.{usesRange}
+use Rattle.machine_meaning.specs.Layers.{Layers, fresh, nothing, ofFile}
+use Rattle.machine_meaning.specs.States.{Header, mapsLength}
+use Rattle.machine_meaning.specs.Steps.{usesRange}
 use Rattle.consistency.specs.Orders.{Allowed}
 use Rattle.rows.specs.Lists.{In}
 use Rattle.consistency.specs.Files.{Numbered, rowsFor, End, endRows, processesOf, NumbersIn, ByAll, writesIn, SpaceFor, headerFor, Lent, ReadsPlain, Equal}

@@ -5,8 +5,8 @@ use mathlib.Core.Path.{_≡_, refl, sym, ap, _∙_}
 use mathlib.Core.Bool.{Bool, true, false, cond}
 use lib.Dec.{eqb}
 use borrow.Author.Tests.{eq-eqb, ne-eqb, eqb-true}
-use Rattle.runs.specs.Cells.{Bytes, cellOf, numberIn, markIn, unpublished, cleared}
-use Rattle.layers.specs.Layers.{withView}
+use Rattle.extents_meaning.specs.Cells.{Bytes, cellOf, numberIn, markIn, unpublished, cleared}
+use Rattle.machine_meaning.specs.Layers.{withView}
 use Rattle.consistency.proofs.Byte.{put}
 
 -- ---- Cells

@@ -7,9 +7,9 @@ use mathlib.Core.Bool.{Bool, true, false, cond, _||_, false≢true}
 use mathlib.Core.List.{List, [], _∷_, _++_}
 use lib.Dec.{eqb}
 use borrow.Author.Tests.{eq-eqb, eqb-true, eqb-false}
-use Rattle.order.specs.Order.{HB, one, hb, upTo}
+use Rattle.happens_before.specs.Order.{HB, one, hb, upTo}
 use Rattle.rows.proofs.Bools.{or-out, or-right}
-use Rattle.order.proofs.Clocks.{HB-less, HB-trans, hb-iff}
+use Rattle.happens_before.proofs.Clocks.{HB-less, HB-trans, hb-iff}
 use Rattle.rows.specs.Lists.{In}
 use Rattle.consistency.proofs.Core.{Trace, run, plain, Ok, next, Conflict, Synchronized, publishAll, Commits, Shown, by-read, at-end}
 use Rattle.consistency.proofs.Runs.{Released, kept, unseen, last-published}

@@ -12,10 +12,10 @@ use Rattle.models.specs.Models.{COMMIT-MODEL}
 use Rattle.rows.specs.declared.Row.{Row}
 use Rattle.rows.specs.Questions.{firstNo}
 use Rattle.rows.specs.Rows.{rowAt}
-use Rattle.runs.specs.Cells.{numberIn}
-use Rattle.layers.specs.Layers.{ofFile}
-use Rattle.layers.specs.States.{Header, mapsLength, layersIn, plainIn}
-use Rattle.layers.specs.Steps.{refusing, Step, stepOf, plainStepOf, makingQuestions, plainMakingQuestions, madeTo}
+use Rattle.extents_meaning.specs.Cells.{numberIn}
+use Rattle.machine_meaning.specs.Layers.{ofFile}
+use Rattle.machine_meaning.specs.States.{Header, mapsLength, layersIn, plainIn}
+use Rattle.machine_meaning.specs.Steps.{refusing, Step, stepOf, plainStepOf, makingQuestions, plainMakingQuestions, madeTo}
 use Rattle.consistency.specs.Orders.{Allowed}
 use Rattle.rows.specs.Lists.{In, Once}
 

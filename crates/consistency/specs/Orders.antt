@@ -6,7 +6,7 @@ use mathlib.Core.Bool.{true}
 use mathlib.Core.List.{List, [], _∷_, _++_}
 use lib.ListN.{length}
 use Rattle.rows.specs.declared.Row.{Row}
-use Rattle.order.specs.Order.{edge, HB}
+use Rattle.happens_before.specs.Order.{edge, HB}
 use Rattle.rows.specs.Lists.{In, Once}
 
 -- a stands before b

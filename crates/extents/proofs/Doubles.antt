@@ -11,23 +11,23 @@ use lib.Dec.{leb}
 use borrow.Author.Tests.{le-leb, lt-leb, leb-true, leb-false, eq-eqb, ne-eqb, not-true, not-false}
 use Rattle.rows.specs.Limits.{ROWS, OFFSET-MAX}
 use Rattle.rows.specs.Questions.{firstNo}
-use Rattle.runs.specs.Cells.{Bytes, cellOf, numberIn, markIn, unpublished, cleared, overwrite, published, settled, refreshed, inRange}
-use Rattle.runs.specs.Runs.{Run, cellAt, runsFrom, runsOf, piecesOf, Lawful}
-use Rattle.runs.specs.Maps.{mapOf, mapFor, bytesOf, runs, lawful, mapAt, withMap}
-use Rattle.runs.proofs.Longest.{same-from, runs-same, runs-back, runs-mean, runs-lawful, lawful-fine, Fine, pieces-same, range-behind}
-use Rattle.runs.proofs.Trips.{lawful-map, length-map, map-lawful, map-back}
-use Rattle.runs.proofs.Points.{runs-by}
-use Rattle.runs.proofs.Passes.{over-before, over-behind}
-use Rattle.runs.proofs.Sides.{with-length, at-same, at-other, with-same, with-comm, with-over}
+use Rattle.extents_meaning.specs.Cells.{Bytes, cellOf, numberIn, markIn, unpublished, cleared, overwrite, published, settled, refreshed, inRange}
+use Rattle.extents_meaning.specs.Runs.{Run, cellAt, runsFrom, runsOf, piecesOf, Lawful}
+use Rattle.extents_meaning.specs.Maps.{mapOf, mapFor, bytesOf, runs, lawful, mapAt, withMap}
+use Rattle.extents_meaning.proofs.Longest.{same-from, runs-same, runs-back, runs-mean, runs-lawful, lawful-fine, Fine, pieces-same, range-behind}
+use Rattle.extents_meaning.proofs.Trips.{lawful-map, length-map, map-lawful, map-back}
+use Rattle.extents_meaning.proofs.Points.{runs-by}
+use Rattle.extents_meaning.proofs.Passes.{over-before, over-behind}
+use Rattle.extents_meaning.proofs.Sides.{with-length, at-same, at-other, with-same, with-comm, with-over}
 use Rattle.extents.specs.declared.Answer.{Answer}
 use Rattle.extents.specs.declared.Answer.the-variants.{Done, Listed, Refused}
-use Rattle.maps.specs.Mixes.{PUBLISH, SETTLE, REFRESH, mixed, mix}
-use Rattle.views.specs.Pairs.{twoMaps, viewOf, belowOf}
+use Rattle.extents_map.specs.Mixes.{PUBLISH, SETTLE, REFRESH, mixed, mix}
+use Rattle.extents_pair.specs.Pairs.{twoMaps, viewOf, belowOf}
 use Rattle.extents.specs.Entries.{orRefused, orKept, bothMaps, publishRefusal, publishedMaps, refreshRefusal, refreshedMaps, syncRefusal, syncedMaps, readRefusal, postRefusal, postedMaps, countOf}
-use Rattle.maps.specs.Pieces.{listedIn}
-use Rattle.views.specs.Packing.{marked}
+use Rattle.extents_map.specs.Pieces.{listedIn}
+use Rattle.extents_pair.specs.Packing.{marked}
 use Rattle.extents.proofs.Entering.{accepted}
-use Rattle.views.proofs.Pairing.{Told, two-told, two-apart, map-space, map-whole}
+use Rattle.extents_pair.proofs.Pairing.{Told, two-told, two-apart, map-space, map-whole}
 
 -- no byte lies in an empty range
 empty-range : (b : ℕ) → inRange 0 0 b ≡ false

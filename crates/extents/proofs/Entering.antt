@@ -11,18 +11,18 @@ use lib.Dec.{leb}
 use borrow.Author.Tests.{le-leb, lt-leb, ne-eqb}
 use Rattle.rows.specs.Limits.{ROWS, OFFSET-MAX}
 use Rattle.rows.specs.Questions.{firstNo}
-use Rattle.runs.specs.Cells.{Bytes, cellOf, numberIn, overwrite}
-use Rattle.runs.specs.Runs.{Run, runsOf, piecesOf}
-use Rattle.runs.specs.Maps.{mapOf, mapFor, spaceIn, bytesOf, runs, lawful}
-use Rattle.runs.proofs.Longest.{runs-same, runs-back}
-use Rattle.runs.proofs.Trips.{lawful-map}
-use Rattle.runs.proofs.Points.{count-starts}
-use Rattle.runs.proofs.Passes.{over-before, over-behind}
-use Rattle.maps.proofs.Counting.{starts-most}
+use Rattle.extents_meaning.specs.Cells.{Bytes, cellOf, numberIn, overwrite}
+use Rattle.extents_meaning.specs.Runs.{Run, runsOf, piecesOf}
+use Rattle.extents_meaning.specs.Maps.{mapOf, mapFor, spaceIn, bytesOf, runs, lawful}
+use Rattle.extents_meaning.proofs.Longest.{runs-same, runs-back}
+use Rattle.extents_meaning.proofs.Trips.{lawful-map}
+use Rattle.extents_meaning.proofs.Points.{count-starts}
+use Rattle.extents_meaning.proofs.Passes.{over-before, over-behind}
+use Rattle.extents_map.proofs.Counting.{starts-most}
 use Rattle.extents.specs.declared.Answer.{Answer}
 use Rattle.extents.specs.declared.Answer.the-variants.{Done, Listed, Refused}
-use Rattle.maps.specs.Pieces.{listedIn}
-use Rattle.views.proofs.Rooms.{pieces-there}
+use Rattle.extents_map.specs.Pieces.{listedIn}
+use Rattle.extents_pair.proofs.Rooms.{pieces-there}
 use Rattle.extents.specs.Entries.{orRefused, orKept, countOf, markOf, writeRefusal, writtenMap, listRefusal}
 
 -- ---- Answers

@@ -6,10 +6,10 @@ use lib.ListN.{length}
 use lib.Dec.{leb, eqb}
 use Rattle.rows.specs.Limits.{ROWS, OFFSET-MAX}
 use Rattle.rows.specs.Questions.{Question, firstNo}
-use Rattle.runs.specs.Cells.{Bytes, cellOf, overwrite, published, settled, refreshed}
-use Rattle.runs.specs.Runs.{Run, runsOf, piecesOf}
-use Rattle.runs.specs.Maps.{mapFor, spaceIn, bytesOf, lawful, withMap}
-use Rattle.views.specs.Pairs.{twoMaps, viewOf, belowOf}
+use Rattle.extents_meaning.specs.Cells.{Bytes, cellOf, overwrite, published, settled, refreshed}
+use Rattle.extents_meaning.specs.Runs.{Run, runsOf, piecesOf}
+use Rattle.extents_meaning.specs.Maps.{mapFor, spaceIn, bytesOf, lawful, withMap}
+use Rattle.extents_pair.specs.Pairs.{twoMaps, viewOf, belowOf}
 use Rattle.extents.specs.declared.Answer.{Answer}
 use Rattle.extents.specs.declared.Answer.the-variants.{Listed, Refused}
 

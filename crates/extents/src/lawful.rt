@@ -5,11 +5,11 @@ ghost use mathlib.Core.Path.{_≡_};
 ghost use mathlib.Core.Bool.{true};
 ghost use lib.ListN.{length};
 ghost use lib.Dec.{ltb};
-ghost use Rattle.runs.specs.Cells.{cellOf, refreshed};
-ghost use Rattle.runs.specs.Runs.{piecesOf};
-ghost use Rattle.runs.specs.Maps.{bytesOf, lawful};
-ghost use Rattle.maps.specs.Pieces.{listedIn};
-ghost use Rattle.views.specs.Pairs.{twoMaps, viewOf, belowOf};
+ghost use Rattle.extents_meaning.specs.Cells.{cellOf, refreshed};
+ghost use Rattle.extents_meaning.specs.Runs.{piecesOf};
+ghost use Rattle.extents_meaning.specs.Maps.{bytesOf, lawful};
+ghost use Rattle.extents_map.specs.Pieces.{listedIn};
+ghost use Rattle.extents_pair.specs.Pairs.{twoMaps, viewOf, belowOf};
 ghost use Rattle.extents.specs.Entries.{orRefused, orKept, countOf, markOf, writeRefusal, writtenMap, listRefusal, publishRefusal, publishedMaps, refreshRefusal, refreshedMaps, syncRefusal, syncedMaps, postRefusal, postedMaps, readRefusal};
 ghost use Rattle.extents.specs.declared.Answer.the-variants.{Done};
 
@@ -32,7 +32,7 @@ pub fn write(map: &mut [u32], start: u32, length: u32, number: u32, unpublished:
     if length == 0 {
         return Answer::Done;
     }
-    if maps::splice::lay(map, start, start + length, cell_of(number, unpublished)) {
+    if extents_map::splice::lay(map, start, start + length, cell_of(number, unpublished)) {
         Answer::Done
     } else {
         Answer::Refused(16)
@@ -63,7 +63,7 @@ pub fn list_range(map: &[u32], start: u32, length: u32, out: &mut [u32]) -> Answ
     if lacks(map, start, start + length, out.len() / 3) {
         return Answer::Refused(17);
     }
-    let n = maps::list::list(map, start, start + length, out);
+    let n = extents_map::list::list(map, start, start + length, out);
     Answer::Listed(n as u32)
 }
 
@@ -73,10 +73,10 @@ fn lacks(map: &[u32], from: u32, to: u32, room: usize) -> bool
     requires { ⌜ (lawful (now map) ≡ true) × (from ≤ to) ⌝ }
     ensures { λ r. ⌜ r ≡ ltb room (length (piecesOf (bytesOf (now (map .entry))) from (to - from))) ⌝ }
 {
-    if maps::splice::runs_in(map) < room / 2 {
+    if extents_map::splice::runs_in(map) < room / 2 {
         return false;
     }
-    room < maps::scan::count(map, map, 3, from, to, 0, 0, 0)
+    room < extents_map::scan::count(map, map, 3, from, to, 0, 0, 0)
 }
 
 // Publishes a view.
@@ -86,12 +86,12 @@ pub fn publish(maps: &mut [u32], space: usize, view: usize, below: usize) -> Ans
     ensures left { λ r. ⌜ now (maps .exit) ≡ orKept (publishRefusal space view below (now (maps .entry)))
         (publishedMaps space view below (now (maps .entry))) (now (maps .entry)) ⌝ }
 {
-    let own = views::pair::own_runs(maps, space, view);
-    if !views::pair::fits(maps, space, view, below, own, 0, 0, 0, 0) {
+    let own = extents_pair::pair::own_runs(maps, space, view);
+    if !extents_pair::pair::fits(maps, space, view, below, own, 0, 0, 0, 0) {
         return Answer::Refused(16);
     }
-    views::share::share(maps, space, view, below, own, 0, 0, 0);
-    views::pair::settle(maps, space, view, own);
+    extents_pair::share::share(maps, space, view, below, own, 0, 0, 0);
+    extents_pair::pair::settle(maps, space, view, own);
     Answer::Done
 }
 
@@ -102,11 +102,11 @@ pub fn refresh(maps: &mut [u32], space: usize, view: usize, below: usize) -> Ans
     ensures left { λ r. ⌜ now (maps .exit) ≡ orKept (refreshRefusal space view below (now (maps .entry)))
         (refreshedMaps space view below (now (maps .entry))) (now (maps .entry)) ⌝ }
 {
-    let own = views::pair::own_runs(maps, space, view);
-    if !views::pair::fits(maps, space, view, below, own, 2, 0, 0, 0) {
+    let own = extents_pair::pair::own_runs(maps, space, view);
+    if !extents_pair::pair::fits(maps, space, view, below, own, 2, 0, 0, 0) {
         return Answer::Refused(16);
     }
-    views::merge::refresh(maps, space, view, below, own);
+    extents_pair::merge::refresh(maps, space, view, below, own);
     Answer::Done
 }
 
@@ -117,12 +117,12 @@ pub fn sync(maps: &mut [u32], space: usize, view: usize, below: usize) -> Answer
     ensures left { λ r. ⌜ now (maps .exit) ≡ orKept (syncRefusal space view below (now (maps .entry)))
         (syncedMaps space view below (now (maps .entry))) (now (maps .entry)) ⌝ }
 {
-    let own = views::pair::own_runs(maps, space, view);
-    if !views::pair::fits(maps, space, view, below, own, 0, 0, 0, 0) {
+    let own = extents_pair::pair::own_runs(maps, space, view);
+    if !extents_pair::pair::fits(maps, space, view, below, own, 0, 0, 0, 0) {
         return Answer::Refused(16);
     }
-    views::share::share(maps, space, view, below, own, 0, 0, 0);
-    views::pair::copy(maps, space, below, view);
+    extents_pair::share::share(maps, space, view, below, own, 0, 0, 0);
+    extents_pair::pair::copy(maps, space, below, view);
     Answer::Done
 }
 
@@ -152,17 +152,17 @@ pub fn post(
     }
     let end = start + length;
     let cell = number * 2;
-    let own = views::pair::own_runs(maps, space, view);
-    if !views::pair::fits(maps, space, view, below, own, 0, start, end, cell) {
+    let own = extents_pair::pair::own_runs(maps, space, view);
+    if !extents_pair::pair::fits(maps, space, view, below, own, 0, start, end, cell) {
         return Answer::Refused(16);
     }
-    if !views::pair::fits(maps, space, view, below, own, 1, start, end, cell) {
+    if !extents_pair::pair::fits(maps, space, view, below, own, 1, start, end, cell) {
         return Answer::Refused(16);
     }
-    views::share::share(maps, space, view, below, own, start, end, number);
-    views::pair::settle(maps, space, view, own);
+    extents_pair::share::share(maps, space, view, below, own, start, end, number);
+    extents_pair::pair::settle(maps, space, view, own);
     if start < end {
-        views::pair::lay(maps, space, view, start, end, cell);
+        extents_pair::pair::lay(maps, space, view, start, end, cell);
     }
     Answer::Done
 }
@@ -192,14 +192,14 @@ pub fn read(
         return Answer::Refused(11);
     }
     let end = start + length;
-    let own = views::pair::own_runs(maps, space, view);
-    if !views::pair::fits(maps, space, view, below, own, 2, 0, 0, 0) {
+    let own = extents_pair::pair::own_runs(maps, space, view);
+    if !extents_pair::pair::fits(maps, space, view, below, own, 2, 0, 0, 0) {
         return Answer::Refused(16);
     }
-    if views::pair::lacks(maps, space, view, below, own, start, end, out.len() / 3) {
+    if extents_pair::pair::lacks(maps, space, view, below, own, start, end, out.len() / 3) {
         return Answer::Refused(17);
     }
-    views::merge::refresh(maps, space, view, below, own);
-    let n = views::pair::list(maps, space, view, start, end, out);
+    extents_pair::merge::refresh(maps, space, view, below, own);
+    let n = extents_pair::pair::list(maps, space, view, start, end, out);
     Answer::Listed(n as u32)
 }

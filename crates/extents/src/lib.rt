@@ -1,12 +1,12 @@
 // The map of pieces: which row number and mark every byte of a file has, kept as longest runs in a lent slice.
 ghost use mathlib.Core.Path.{_≡_};
 ghost use lib.ListN.{length};
-ghost use Rattle.runs.specs.Cells.{refreshed};
-ghost use Rattle.runs.specs.Runs.{piecesOf};
-ghost use Rattle.runs.specs.Maps.{bytesOf, lawful, lawfulPublished};
-ghost use Rattle.maps.specs.Pieces.{listedIn};
+ghost use Rattle.extents_meaning.specs.Cells.{refreshed};
+ghost use Rattle.extents_meaning.specs.Runs.{piecesOf};
+ghost use Rattle.extents_meaning.specs.Maps.{bytesOf, lawful, lawfulPublished};
+ghost use Rattle.extents_map.specs.Pieces.{listedIn};
 ghost use Rattle.extents.specs.Entries.{orRefused, orKept, countOf, writeRefusal, writtenMap, listRefusal, publishRefusal, publishedMaps, refreshRefusal, refreshedMaps, syncRefusal, syncedMaps, postRefusal, postedMaps, readRefusal};
-ghost use Rattle.views.specs.Pairs.{viewOf, belowOf};
+ghost use Rattle.extents_pair.specs.Pairs.{viewOf, belowOf};
 ghost use Rattle.extents.specs.declared.Answer.the-variants.{Done};
 
 pub mod lawful;
@@ -22,14 +22,14 @@ pub enum Answer {
 pub fn is_lawful(map: &[u32]) -> bool
     ensures { λ r. ⌜ r ≡ lawful (now (map .entry)) ⌝ }
 {
-    maps::scan::is_lawful(map)
+    extents_map::scan::is_lawful(map)
 }
 
 // The map is lawful and none of its runs is marked unpublished.
 pub fn is_published(map: &[u32]) -> bool
     ensures { λ r. ⌜ r ≡ lawfulPublished (now (map .entry)) ⌝ }
 {
-    maps::scan::is_published(map)
+    extents_map::scan::is_published(map)
 }
 
 // Gives a range of a map a row number and a mark.
@@ -38,7 +38,7 @@ pub fn write(map: &mut [u32], start: u32, length: u32, number: u32, unpublished:
     ensures left { λ r. ⌜ now (map .exit) ≡ orKept (writeRefusal (now (map .entry)) start length number unpublished)
         (writtenMap (now (map .entry)) start length number unpublished) (now (map .entry)) ⌝ }
 {
-    if !maps::scan::is_lawful(map) {
+    if !extents_map::scan::is_lawful(map) {
         return Answer::Refused(13);
     }
     lawful::write(map, start, length, number, unpublished)
@@ -51,7 +51,7 @@ pub fn list_range(map: &[u32], start: u32, length: u32, out: &mut [u32]) -> Answ
     ensures left { λ r. ⌜ now (out .exit) ≡ orKept (listRefusal (now (map .entry)) start length (lib.ListN.length (now (out .entry))))
         (listedIn (piecesOf (bytesOf (now (map .entry))) start length) (now (out .entry))) (now (out .entry)) ⌝ }
 {
-    if !maps::scan::is_lawful(map) {
+    if !extents_map::scan::is_lawful(map) {
         return Answer::Refused(13);
     }
     lawful::list_range(map, start, length, out)
@@ -63,7 +63,7 @@ pub fn publish(maps: &mut [u32], space: usize, view: usize, below: usize) -> Ans
     ensures left { λ r. ⌜ now (maps .exit) ≡ orKept (publishRefusal space view below (now (maps .entry)))
         (publishedMaps space view below (now (maps .entry))) (now (maps .entry)) ⌝ }
 {
-    if !views::pair::two_maps(maps, space, view, below) {
+    if !extents_pair::pair::two_maps(maps, space, view, below) {
         return Answer::Refused(13);
     }
     lawful::publish(maps, space, view, below)
@@ -75,7 +75,7 @@ pub fn refresh(maps: &mut [u32], space: usize, view: usize, below: usize) -> Ans
     ensures left { λ r. ⌜ now (maps .exit) ≡ orKept (refreshRefusal space view below (now (maps .entry)))
         (refreshedMaps space view below (now (maps .entry))) (now (maps .entry)) ⌝ }
 {
-    if !views::pair::two_maps(maps, space, view, below) {
+    if !extents_pair::pair::two_maps(maps, space, view, below) {
         return Answer::Refused(13);
     }
     lawful::refresh(maps, space, view, below)
@@ -87,7 +87,7 @@ pub fn sync(maps: &mut [u32], space: usize, view: usize, below: usize) -> Answer
     ensures left { λ r. ⌜ now (maps .exit) ≡ orKept (syncRefusal space view below (now (maps .entry)))
         (syncedMaps space view below (now (maps .entry))) (now (maps .entry)) ⌝ }
 {
-    if !views::pair::two_maps(maps, space, view, below) {
+    if !extents_pair::pair::two_maps(maps, space, view, below) {
         return Answer::Refused(13);
     }
     lawful::sync(maps, space, view, below)
@@ -107,7 +107,7 @@ pub fn post(
     ensures left { λ r. ⌜ now (maps .exit) ≡ orKept (postRefusal space view below (now (maps .entry)) start length number)
         (postedMaps space view below (now (maps .entry)) start length number) (now (maps .entry)) ⌝ }
 {
-    if !views::pair::two_maps(maps, space, view, below) {
+    if !extents_pair::pair::two_maps(maps, space, view, below) {
         return Answer::Refused(13);
     }
     lawful::post(maps, space, view, below, start, length, number)
@@ -133,7 +133,7 @@ pub fn read(
         (listedIn (piecesOf (refreshed (viewOf space view below (now (maps .entry))) (belowOf space view below (now (maps .entry)))) start length)
         (now (out .entry))) (now (out .entry)) ⌝ }
 {
-    if !views::pair::two_maps(maps, space, view, below) {
+    if !extents_pair::pair::two_maps(maps, space, view, below) {
         return Answer::Refused(13);
     }
     lawful::read(maps, space, view, below, start, length, out)

@@ -7,9 +7,9 @@ use mathlib.Core.List.{List}
 use lib.ListN.{length}
 use lib.Dec.{eqb}
 use borrow.Author.Tests.{ne-eqb, eqb-true}
-use Rattle.order.specs.declared.Filled.{Filled}
-use Rattle.order.specs.declared.Filled.the-variants as filled
-use Rattle.order.specs.Filling.{fillQuestions, filledOf, filledLeft}
+use Rattle.happens_before.specs.declared.Filled.{Filled}
+use Rattle.happens_before.specs.declared.Filled.the-variants as filled
+use Rattle.happens_before.specs.Filling.{fillQuestions, filledOf, filledLeft}
 use Rattle.rows.proofs.Slices.{length-rows}
 use Rattle.races.specs.declared.Found.{Found}
 use Rattle.races.specs.declared.Found.the-variants as found
@@ -28,14 +28,14 @@ use Rattle.checker.specs.Judging.{judgedOf, Decides}
 use Rattle.checker.proofs.Sizes.{Small, judged-small}
 use Rattle.extents.specs.declared.Answer as extents
 use Rattle.extents.specs.declared.Answer.the-variants.{Done, Listed, Refused}
-use Rattle.layers.specs.States.{Header}
-use Rattle.layers.specs.Steps as steps
-use Rattle.layers.specs.Steps.{Step, madeTo}
-use Rattle.asking.specs.declared.Machine.{Machine}
+use Rattle.machine_meaning.specs.States.{Header}
+use Rattle.machine_meaning.specs.Steps as steps
+use Rattle.machine_meaning.specs.Steps.{Step, madeTo}
+use Rattle.machine_state.specs.declared.Machine.{Machine}
 use Rattle.machine.specs.declared.Made as machine
 use Rattle.machine.specs.declared.Made.the-variants as made
 use Rattle.machine.specs.declared.Replayed.{Replayed}
-use Rattle.asking.specs.Answers.{headerOf, answerOf as answeredOf, Steps}
+use Rattle.machine_state.specs.Answers.{headerOf, answerOf as answeredOf, Steps}
 use Rattle.machine.specs.Makes.{madeOf}
 use Rattle.machine.specs.Replays.{Replay, Replays}
 use Rattle.kiqsaryn.specs.Packing.{packed, Gives, packedJudged, unpackedJudged, JudgeGives, Fills, packedFound, unpackedFound, Judges, Makes, packedStep, StepGives, ReplayGives}

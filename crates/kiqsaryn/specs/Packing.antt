@@ -4,7 +4,7 @@ use mathlib.Core.Path.{_≡_}
 use mathlib.Core.Bool.{cond}
 use mathlib.Core.List.{List}
 use lib.Dec.{eqb}
-use Rattle.order.specs.Filling.{filledLeft}
+use Rattle.happens_before.specs.Filling.{filledLeft}
 use Rattle.races.specs.declared.Found.{Found}
 use Rattle.races.specs.declared.Found.the-variants.{Free, Race, Refused}
 use Rattle.races.specs.Scan.{answerOf}
@@ -16,9 +16,9 @@ use Rattle.rows.specs.Questions.{Question, firstNo}
 use Rattle.checker.specs.declared.Judged.{Judged}
 use Rattle.checker.specs.declared.Judged.the-variants as judged
 use Rattle.checker.specs.Judging.{judgedOf, countsKept}
-use Rattle.layers.specs.States.{Header}
-use Rattle.layers.specs.Steps as steps
-use Rattle.layers.specs.Steps.{Step, madeTo}
+use Rattle.machine_meaning.specs.States.{Header}
+use Rattle.machine_meaning.specs.Steps as steps
+use Rattle.machine_meaning.specs.Steps.{Step, madeTo}
 use Rattle.machine.specs.Replays.{Replay}
 
 -- the row count, or the refusal's number times 2^32 plus its place

@@ -3,17 +3,17 @@ ghost use mathlib.Core.Path.{_≡_};
 ghost use Prim.Native.Nat.{_+_, _*_};
 ghost use lib.ListN.{length};
 ghost use Rattle.trace.specs.Questions.{checkTrace};
-ghost use Rattle.order.specs.Filling.{fillQuestions};
+ghost use Rattle.happens_before.specs.Filling.{fillQuestions};
 ghost use Rattle.races.specs.Scan.{judgeQuestions};
 ghost use Rattle.checker.specs.Report.{reportLength, reportIn};
-ghost use Rattle.layers.specs.Steps.{makingQuestions, plainMakingQuestions, stepOf, plainStepOf};
+ghost use Rattle.machine_meaning.specs.Steps.{makingQuestions, plainMakingQuestions, stepOf, plainStepOf};
 ghost use Rattle.machine.specs.Replays.{replayOf, plainReplayOf};
 ghost use Rattle.kiqsaryn.specs.Packing.{Gives, JudgeGives, Fills, Judges, headed, rowed, Makes, StepGives, ReplayGives};
-use asking::Machine;
 use checker::Judged;
 use extents::Answer;
+use happens_before::Filled;
 use machine::Made;
-use order::Filled;
+use machine_state::Machine;
 use races::Found;
 use rows::Row;
 use trace::Checked;
@@ -86,7 +86,7 @@ pub extern "C" fn kiqsaryn_judge(
     }
 }
 
-// Fills the happens-before counts of the first n rows, as order::fill_counts does. The answer is 0, and the number of a refusal.
+// Fills the happens-before counts of the first n rows, as happens_before::fill_counts does. The answer is 0, and the number of a refusal.
 #[no_mangle]
 pub extern "C" fn kiqsaryn_fill_counts(
     rows: &[u32],
@@ -97,7 +97,7 @@ pub extern "C" fn kiqsaryn_fill_counts(
     ensures { λ r. ⌜ Fills (fillQuestions n «process_limit» (now (rows .entry)) (length (now (counts .entry)))) n «process_limit» r
         (now (rows .entry)) (now (counts .entry)) (now (counts .exit)) ⌝ }
 {
-    match order::fill_counts(rows, n, process_limit, counts) {
+    match happens_before::fill_counts(rows, n, process_limit, counts) {
         Filled::Done => 0,
         Filled::Refused(number) => number,
     }

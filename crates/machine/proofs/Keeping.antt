@@ -13,24 +13,24 @@ use Rattle.rows.specs.Limits.{OFFSET-MAX}
 use Rattle.rows.specs.Kinds.{READ, WRITE}
 use Rattle.rows.specs.declared.Row.{Row}
 use Rattle.rows.specs.Questions.{Question, firstNo}
-use Rattle.runs.specs.Runs.{Run, runsOf}
-use Rattle.runs.specs.Maps.{threes, runs, bytesOf, lawful, lawfulPublished, noMarks, mapAt}
+use Rattle.extents_meaning.specs.Runs.{Run, runsOf}
+use Rattle.extents_meaning.specs.Maps.{threes, runs, bytesOf, lawful, lawfulPublished, noMarks, mapAt}
 use Rattle.rows.specs.Lists.{In}
-use Rattle.runs.proofs.Longest.{mean-behind, lawful-fine}
-use Rattle.runs.proofs.Trips.{lawful-map, no-marks-out}
+use Rattle.extents_meaning.proofs.Longest.{mean-behind, lawful-fine}
+use Rattle.extents_meaning.proofs.Trips.{lawful-map, no-marks-out}
 use Rattle.rows.proofs.Bools.{and-out}
-use Rattle.runs.proofs.Threes.{length-threes}
-use Rattle.layers.specs.Layers.{Layers, nothing, afterRow, afterPlain, piecesRead, ofFile}
-use Rattle.layers.specs.States.{Header, lawfulState, layersIn, layersTo, layersFit, lawfulPlain, plainIn, plainTo, plainFits}
-use Rattle.layers.specs.Steps.{Answer, refusing, done, listed, Step, rowAsked, roomAsked, answered, decided, stepOf, plainStepOf}
-use Rattle.layers.proofs.Points.{picked, prior, Pointed, LayersPointed, PlainPointed, Writing, fresh-pointed, row-pointed, plain-row-pointed}
-use Rattle.layers.proofs.Slices.{all-out, LayersHeld, PlainHeld, Alike, alike-fit, alike-to}
-use Rattle.layers.proofs.Lawful.{state-parts}
-use Rattle.layers.proofs.Stepping.{AllYes, alike-row, to-lawful, plain-lawful}
-use Rattle.asking.specs.Answers.{putTo}
+use Rattle.extents_meaning.proofs.Threes.{length-threes}
+use Rattle.machine_meaning.specs.Layers.{Layers, nothing, afterRow, afterPlain, piecesRead, ofFile}
+use Rattle.machine_meaning.specs.States.{Header, lawfulState, layersIn, layersTo, layersFit, lawfulPlain, plainIn, plainTo, plainFits}
+use Rattle.machine_meaning.specs.Steps.{Answer, refusing, done, listed, Step, rowAsked, roomAsked, answered, decided, stepOf, plainStepOf}
+use Rattle.machine_meaning.proofs.Points.{picked, prior, Pointed, LayersPointed, PlainPointed, Writing, fresh-pointed, row-pointed, plain-row-pointed}
+use Rattle.machine_meaning.proofs.Slices.{all-out, LayersHeld, PlainHeld, Alike, alike-fit, alike-to}
+use Rattle.machine_meaning.proofs.Lawful.{state-parts}
+use Rattle.machine_meaning.proofs.Stepping.{AllYes, alike-row, to-lawful, plain-lawful}
+use Rattle.machine_state.specs.Answers.{putTo}
 use Rattle.machine.specs.Replays.{refusalIn, countIn}
-use Rattle.asking.proofs.Maps.{state-making, plain-making}
-use Rattle.asking.proofs.Questions.{Named, no-none, named-append, yes-parts, room-named, row-named, asked-number, asked-process, asked-range}
+use Rattle.machine_state.proofs.Maps.{state-making, plain-making}
+use Rattle.machine_state.proofs.Questions.{Named, no-none, named-append, yes-parts, room-named, row-named, asked-number, asked-process, asked-range}
 
 -- ---- What every step keeps
 

@@ -9,8 +9,8 @@ use lib.Dec.{leb, ltb}
 use borrow.Author.Tests.{le-leb, lt-leb, lt-ltb, le-ltb, ne-eqb}
 use Rattle.rows.specs.Limits.{MODELS, FILES}
 use Rattle.rows.specs.Questions.{firstNo}
-use Rattle.layers.specs.States.{Header, mapsLength, processLimit}
-use Rattle.layers.specs.Steps.{makingQuestions, plainMakingQuestions, madeTo}
+use Rattle.machine_meaning.specs.States.{Header, mapsLength, processLimit}
+use Rattle.machine_meaning.specs.Steps.{makingQuestions, plainMakingQuestions, madeTo}
 use Rattle.machine.specs.Makes.{madeOf}
 use Rattle.machine.specs.declared.Made.the-variants.{Made, Refused}
 

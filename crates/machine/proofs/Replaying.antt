@@ -12,10 +12,10 @@ use Rattle.rows.specs.declared.Row.{Row}
 use Rattle.rows.specs.Questions.{firstNo}
 use Rattle.rows.specs.Rows.{rowIn}
 use Rattle.rows.proofs.Bools.{and-out}
-use Rattle.layers.specs.Steps.{Answer, refusing, done, listed, Step, answered}
+use Rattle.machine_meaning.specs.Steps.{Answer, refusing, done, listed, Step, answered}
 use Rattle.extents.specs.declared.Answer as extents
 use Rattle.extents.specs.declared.Answer.the-variants.{Done}
-use Rattle.asking.specs.Answers.{answerOf, refusalOf, countOf, Steps, putTo}
+use Rattle.machine_state.specs.Answers.{answerOf, refusalOf, countOf, Steps, putTo}
 use Rattle.machine.proofs.Keeping.{Keeps, Sound, put-sound}
 use Rattle.machine.specs.Replays.{Replay, refusalIn, countIn, tried, passed, stopped, onward, after, replayQuestions, started, replayBy, Replays}
 

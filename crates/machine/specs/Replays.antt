@@ -8,9 +8,9 @@ use lib.Dec.{leb, eqb}
 use Rattle.rows.specs.declared.Row.{Row}
 use Rattle.rows.specs.Questions.{Question, firstNo}
 use Rattle.rows.specs.Rows.{rowIn}
-use Rattle.layers.specs.States.{Header, lawfulState, lawfulPlain}
-use Rattle.layers.specs.Steps.{Answer, refusing, done, listed, Step, stepOf, plainStepOf}
-use Rattle.asking.specs.Answers.{putTo}
+use Rattle.machine_meaning.specs.States.{Header, lawfulState, lawfulPlain}
+use Rattle.machine_meaning.specs.Steps.{Answer, refusing, done, listed, Step, stepOf, plainStepOf}
+use Rattle.machine_state.specs.Answers.{putTo}
 use Rattle.machine.specs.declared.Replayed.{Replayed}
 
 -- How far a replay is: 0, or the refusal of the row that is next; the rows gone through; the pieces of its reads; and the slices it leaves.

@@ -3,13 +3,13 @@ ghost use Prim.Native.Nat.{_*_};
 ghost use mathlib.Core.Path.{_≡_};
 ghost use lib.ListN.{length};
 ghost use Rattle.rows.specs.Questions.{firstNo};
-ghost use Rattle.layers.specs.States.{mapsLength};
-ghost use Rattle.layers.specs.Steps.{makingQuestions, plainMakingQuestions, madeTo, stepOf, plainStepOf};
-ghost use Rattle.asking.specs.Answers.{headerOf, Steps};
+ghost use Rattle.machine_meaning.specs.States.{mapsLength};
+ghost use Rattle.machine_meaning.specs.Steps.{makingQuestions, plainMakingQuestions, madeTo, stepOf, plainStepOf};
+ghost use Rattle.machine_state.specs.Answers.{headerOf, Steps};
 ghost use Rattle.machine.specs.Makes.{madeOf};
 ghost use Rattle.machine.specs.Replays.{replayOf, plainReplayOf, Replays};
-use asking::Machine;
 use extents::Answer;
+use machine_state::Machine;
 use rows::Row;
 
 // A machine over the slice, or the number of the question that was answered No.
@@ -33,7 +33,7 @@ pub fn make(machine: Machine, maps: &mut [u32]) -> Made
     if Machine::MODELS <= model {
         return Made::Refused(2);
     }
-    if !asking::is_process_limit(limit) {
+    if !machine_state::is_process_limit(limit) {
         return Made::Refused(2);
     }
     if Machine::FILES <= file {
@@ -55,7 +55,7 @@ pub fn make_plain(plain: Machine, map: &mut [u32]) -> Made
     if map.len() / 4 < space {
         return Made::Refused(1);
     }
-    if !asking::is_process_limit(limit) {
+    if !machine_state::is_process_limit(limit) {
         return Made::Refused(2);
     }
     if Machine::FILES <= file {
@@ -70,20 +70,20 @@ pub fn make_plain(plain: Machine, map: &mut [u32]) -> Made
 pub fn step(machine: Machine, maps: &mut [u32], row: Row, number: u32, out: &mut [u32]) -> Answer
     ensures { λ r. ⌜ Steps (stepOf (headerOf machine) (now (maps .entry)) row number (now (out .entry))) r (now (maps .exit)) (now (out .exit)) ⌝ }
 {
-    if !layered::is_state(machine, maps) {
+    if !machine_layered::is_state(machine, maps) {
         return Answer::Refused(13);
     }
-    layered::advance(machine, maps, row, number, out)
+    machine_layered::advance(machine, maps, row, number, out)
 }
 
 // Puts a row of the file to the plain file under a row number.
 pub fn step_plain(plain: Machine, map: &mut [u32], row: Row, number: u32, out: &mut [u32]) -> Answer
     ensures { λ r. ⌜ Steps (plainStepOf (headerOf plain) (now (map .entry)) row number (now (out .entry))) r (now (map .exit)) (now (out .exit)) ⌝ }
 {
-    if !plain::is_plain(plain, map) {
+    if !machine_plain::is_plain(plain, map) {
         return Answer::Refused(13);
     }
-    plain::advance(plain, map, row, number, out)
+    machine_plain::advance(plain, map, row, number, out)
 }
 
 // How far a replay came: the rows gone through, the pieces of its reads, and 0, or the number of the question that the next row answers No.
@@ -107,14 +107,14 @@ pub fn replay(
     ensures { λ r. ⌜ Replays (replayOf (headerOf machine) (now (rows .entry)) first n (now (maps .entry)) (now (counts .entry)) (now (out .entry)))
         r (now (maps .exit)) (now (counts .exit)) (now (out .exit)) ⌝ }
 {
-    if !asking::slices_fit(rows.len(), counts.len(), n) {
+    if !machine_state::slices_fit(rows.len(), counts.len(), n) {
         return Replayed {
             rows: first,
             pieces: 0,
             refusal: 1,
         };
     }
-    if !layered::is_state(machine, maps) {
+    if !machine_layered::is_state(machine, maps) {
         return Replayed {
             rows: first,
             pieces: 0,
@@ -126,8 +126,8 @@ pub fn replay(
     while k < n {
         let row = rows::row_at(rows, k as usize);
         let at = pieces * 3;
-        let answer = layered::put(machine, maps, row, k + 1, &mut out[at..]);
-        let refusal = asking::refusal_in(answer);
+        let answer = machine_layered::put(machine, maps, row, k + 1, &mut out[at..]);
+        let refusal = machine_state::refusal_in(answer);
         if refusal != 0 {
             return Replayed {
                 rows: k,
@@ -135,7 +135,7 @@ pub fn replay(
                 refusal: refusal,
             };
         }
-        let count = asking::count_in(answer);
+        let count = machine_state::count_in(answer);
         counts[k as usize] = count;
         pieces += count as usize;
         k += 1;
@@ -160,14 +160,14 @@ pub fn replay_plain(
     ensures { λ r. ⌜ Replays (plainReplayOf (headerOf plain) (now (rows .entry)) first n (now (map .entry)) (now (counts .entry)) (now (out .entry)))
         r (now (map .exit)) (now (counts .exit)) (now (out .exit)) ⌝ }
 {
-    if !asking::slices_fit(rows.len(), counts.len(), n) {
+    if !machine_state::slices_fit(rows.len(), counts.len(), n) {
         return Replayed {
             rows: first,
             pieces: 0,
             refusal: 1,
         };
     }
-    if !plain::is_plain(plain, map) {
+    if !machine_plain::is_plain(plain, map) {
         return Replayed {
             rows: first,
             pieces: 0,
@@ -179,8 +179,8 @@ pub fn replay_plain(
     while k < n {
         let row = rows::row_at(rows, k as usize);
         let at = pieces * 3;
-        let answer = plain::put(plain, map, row, k + 1, &mut out[at..]);
-        let refusal = asking::refusal_in(answer);
+        let answer = machine_plain::put(plain, map, row, k + 1, &mut out[at..]);
+        let refusal = machine_state::refusal_in(answer);
         if refusal != 0 {
             return Replayed {
                 rows: k,
@@ -188,7 +188,7 @@ pub fn replay_plain(
                 refusal: refusal,
             };
         }
-        let count = asking::count_in(answer);
+        let count = machine_state::count_in(answer);
         counts[k as usize] = count;
         pieces += count as usize;
         k += 1;

@@ -15,11 +15,11 @@ use Rattle.rows.specs.Kinds.{READ, WRITE}
 use Rattle.models.specs.Table.{publishes, refreshes}
 use Rattle.rows.specs.declared.Row.{Row}
 use Rattle.rows.specs.Counting.{anyBelow, leastFrom, lastBelow}
-use Rattle.order.specs.Order.{edge, HB, one, more, hb, upTo, count}
+use Rattle.happens_before.specs.Order.{edge, HB, one, more, hb, upTo, count}
 use Rattle.rows.specs.Rows.{rowAt}
 use Rattle.rows.proofs.Bools.{and-out, or-out, or-right, same-test, not-passed}
 use Rattle.rows.proofs.Below.{count-less, count-cut}
-use Rattle.order.proofs.Clocks.{edge-forward, program-order, HB-less, HB-trans, hb-iff, placeOf, place-iff}
+use Rattle.happens_before.proofs.Clocks.{edge-forward, program-order, HB-less, HB-trans, hb-iff, placeOf, place-iff}
 use Rattle.races.specs.Races.{sameFile}
 use Rattle.races.specs.Marks.{publishedBy, refreshedBy, tableChain}
 use Rattle.races.specs.Search.{isPublish, isRefresh, publishAt, refreshAt, bestChain, countsOrder}

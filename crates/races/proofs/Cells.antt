@@ -13,7 +13,7 @@ use Rattle.rows.specs.Kinds.{READ, WRITE}
 use Rattle.models.specs.Table.{refreshes}
 use Rattle.rows.specs.Rows.{rowHere, rowsIn, rowAt, rowIn}
 use Rattle.rows.proofs.Slices.{row-in}
-pub use Rattle.order.proofs.Joins.{process-in}
+pub use Rattle.happens_before.proofs.Joins.{process-in}
 use Rattle.races.specs.Races.{conflict, shareByte}
 use Rattle.races.specs.Search.{isRefresh, refreshAt}
 use Rattle.rows.specs.Counting.{lastBelow}

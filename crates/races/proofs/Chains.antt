@@ -12,11 +12,11 @@ use Rattle.rows.specs.Kinds.{COMMIT, OPEN, CLOSE, SYNC}
 use Rattle.models.specs.Table.{publishes, refreshes}
 use Rattle.rows.specs.declared.Row.{Row}
 use Rattle.rows.specs.Counting.{anyBelow}
-use Rattle.order.specs.Order.{sameProcess, edge, HB, one, more, hb}
+use Rattle.happens_before.specs.Order.{sameProcess, edge, HB, one, more, hb}
 use Rattle.rows.specs.Rows.{rowAt}
 use Rattle.rows.proofs.Bools.{and-out, same-test}
 use Rattle.rows.proofs.Below.{any-in, any-out}
-use Rattle.order.proofs.Clocks.{edge-forward, edge-in, HB-less, hb-iff}
+use Rattle.happens_before.proofs.Clocks.{edge-forward, edge-in, HB-less, hb-iff}
 use Rattle.races.specs.Races.{sameFile, isSync, chainPosix, chainCommit, chainSession, chainMpiIo, chain}
 use Rattle.races.specs.Marks.{publishedBy, refreshedBy, tableChain}
 

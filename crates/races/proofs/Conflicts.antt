@@ -7,7 +7,7 @@ use lib.Dec.{eqb}
 use borrow.Author.Tests.{eq-eqb, ne-eqb, eqb-true, eqb-false, not-true}
 use Rattle.rows.specs.Kinds.{READ, WRITE}
 use Rattle.rows.specs.declared.Row.{Row}
-use Rattle.order.specs.Order.{sameProcess}
+use Rattle.happens_before.specs.Order.{sameProcess}
 use Rattle.rows.proofs.Bools.{and-out, or-out}
 use Rattle.races.specs.Races.{isWrite, isData, sameFile, shareByte, conflict}
 use Rattle.races.proofs.Verdicts.{share-iff}

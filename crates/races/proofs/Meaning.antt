@@ -13,10 +13,10 @@ use Rattle.rows.specs.Limits.{MODELS}
 use Rattle.rows.specs.Kinds.{READ, WRITE, COMMIT, OPEN, CLOSE, SYNC}
 use Rattle.models.specs.Models.{POSIX, COMMIT-MODEL, SESSION, MPI-IO}
 use Rattle.rows.specs.declared.Row.{Row}
-use Rattle.order.specs.Order.{sameProcess, edge, HB}
+use Rattle.happens_before.specs.Order.{sameProcess, edge, HB}
 use Rattle.rows.specs.Rows.{rowAt}
 use Rattle.rows.proofs.Bools.{and-out, or-out, or-right, not-passed}
-use Rattle.order.proofs.Clocks.{edge-forward, hb-iff}
+use Rattle.happens_before.proofs.Clocks.{edge-forward, hb-iff}
 use Rattle.races.specs.Races.{sameFile, isSync, conflict, chain, synchronized, race, free, racing, verdictOf}
 use Rattle.races.proofs.Verdicts.{First, free-iff, racing-iff}
 use Rattle.races.proofs.Conflicts.{Conflict, conflict-iff}

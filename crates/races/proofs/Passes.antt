@@ -15,10 +15,10 @@ use Rattle.rows.specs.Kinds.{READ}
 use Rattle.models.specs.Table.{publishes, refreshes}
 use Rattle.rows.specs.declared.Row.{Row}
 use Rattle.rows.specs.Rows.{rowsIn, rowHere, rowAt, rowIn}
-use Rattle.order.specs.Order.{count, countsOf}
-use Rattle.order.specs.Clock.{cellIn}
+use Rattle.happens_before.specs.Order.{count, countsOf}
+use Rattle.happens_before.specs.Clock.{cellIn}
 use Rattle.rows.proofs.Products.{block-before}
-use Rattle.order.proofs.Filling.{rowsOf, length-rowsOf, cell-done}
+use Rattle.happens_before.proofs.Filling.{rowsOf, length-rowsOf, cell-done}
 use Rattle.rows.proofs.Slices.{length-rows, row-in}
 use Rattle.races.specs.Races.{isData, conflict}
 use Rattle.rows.specs.Counting.{leastFrom, lastBelow}

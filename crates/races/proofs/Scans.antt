@@ -10,10 +10,10 @@ use borrow.Author.Tests.{lt-ltb, ltb-true, eq-eqb, eqb-true}
 use Rattle.rows.specs.Kinds.{WRITE}
 use Rattle.models.specs.Table.{publishes}
 use Rattle.rows.specs.declared.Row.{Row}
-use Rattle.order.specs.Order.{edge, HB}
+use Rattle.happens_before.specs.Order.{edge, HB}
 use Rattle.rows.specs.Rows.{rowAt}
 use Rattle.rows.proofs.Bools.{and-out, same-test}
-use Rattle.order.proofs.Clocks.{edge-forward, HB-less, hb-iff}
+use Rattle.happens_before.proofs.Clocks.{edge-forward, HB-less, hb-iff}
 use Rattle.races.specs.Races.{sameFile, conflict, synchronized, race, free, racing, verdictOf}
 use Rattle.rows.specs.Counting.{leastFrom, lastBelow}
 use Rattle.races.specs.Marks.{publishedBy, refreshedBy, tableChain}

@@ -13,13 +13,13 @@ use Rattle.rows.specs.declared.Row.{Row}
 use Rattle.rows.specs.Rows.{rowsIn, rowAt}
 use Rattle.rows.specs.Questions.{longEnough, firstNo}
 use Rattle.rows.proofs.Asking.{all-yes}
-use Rattle.order.specs.declared.Filled.{Filled}
-use Rattle.order.specs.declared.Filled.the-variants as filled
-use Rattle.order.specs.Order.{countsOf}
-use Rattle.order.specs.Filling.{countLimits, fillQuestions, filledOf, filledLeft}
+use Rattle.happens_before.specs.declared.Filled.{Filled}
+use Rattle.happens_before.specs.declared.Filled.the-variants as filled
+use Rattle.happens_before.specs.Order.{countsOf}
+use Rattle.happens_before.specs.Filling.{countLimits, fillQuestions, filledOf, filledLeft}
 use Rattle.rows.proofs.Bools.{and-out}
 use Rattle.rows.proofs.Slices.{length-rows}
-use Rattle.order.proofs.Asking.{Asked, asked, done-told, refused-told}
+use Rattle.happens_before.proofs.Asking.{Asked, asked, done-told, refused-told}
 use Rattle.races.specs.Races.{conflict, verdictOf}
 use Rattle.rows.specs.Counting.{leastFrom}
 use Rattle.races.specs.Scan.{inOrder, raceAt, judgeQuestions, foundOf, answerOf}

@@ -4,7 +4,7 @@ use mathlib.Core.Path.{_≡_}
 use mathlib.Core.List.{List, _++_}
 use lib.ListN.{length}
 use Rattle.rows.specs.Rows.{rowsIn, rowIn}
-use Rattle.order.specs.Order.{countsOf}
+use Rattle.happens_before.specs.Order.{countsOf}
 
 pub record Given (n processes model : ℕ) (xs counts : List ℕ) : Type 0 where
   pub few-rows : n ≤ 4096

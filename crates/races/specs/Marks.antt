@@ -8,7 +8,7 @@ use Rattle.rows.specs.Kinds.{READ, WRITE}
 use Rattle.models.specs.Table.{publishes, refreshes}
 use Rattle.rows.specs.declared.Row.{Row}
 use Rattle.rows.specs.Counting.{anyBelow}
-use Rattle.order.specs.Order.{sameProcess, edge, hb}
+use Rattle.happens_before.specs.Order.{sameProcess, edge, hb}
 use Rattle.rows.specs.Rows.{rowAt}
 use Rattle.races.specs.Races.{sameFile}
 

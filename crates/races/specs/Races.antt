@@ -9,7 +9,7 @@ use Rattle.rows.specs.Kinds.{READ, WRITE, COMMIT, OPEN, CLOSE, SYNC}
 use Rattle.models.specs.Models.{POSIX, COMMIT-MODEL, SESSION, MPI-IO}
 use Rattle.rows.specs.declared.Row.{Row}
 use Rattle.rows.specs.Counting.{anyBelow, leastFrom}
-use Rattle.order.specs.Order.{sameProcess, edge, hb}
+use Rattle.happens_before.specs.Order.{sameProcess, edge, hb}
 use Rattle.rows.specs.Rows.{rowAt}
 
 -- ---- Conflicts

@@ -11,8 +11,8 @@ use Rattle.models.specs.Table.{publishes}
 use Rattle.rows.specs.declared.Row.{Row}
 use Rattle.rows.specs.Rows.{rowsIn, rowAt}
 use Rattle.rows.specs.Questions.{longEnough, Question}
-use Rattle.order.specs.Order.{count}
-use Rattle.order.specs.Filling.{countLimits, processesIn}
+use Rattle.happens_before.specs.Order.{count}
+use Rattle.happens_before.specs.Filling.{countLimits, processesIn}
 use Rattle.races.specs.Races.{isWrite, sameFile, conflict, Verdict, free, racing, verdictOf}
 use Rattle.rows.specs.Counting.{leastFrom, lastBelow}
 use Rattle.races.specs.Search.{refreshAt}

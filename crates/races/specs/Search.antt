@@ -8,7 +8,7 @@ use lib.Dec.{leb, ltb}
 use Rattle.rows.specs.Kinds.{READ, WRITE}
 use Rattle.models.specs.Table.{publishes, refreshes}
 use Rattle.rows.specs.declared.Row.{Row}
-use Rattle.order.specs.Order.{sameProcess, edge, hb, count}
+use Rattle.happens_before.specs.Order.{sameProcess, edge, hb, count}
 use Rattle.rows.specs.Rows.{rowAt}
 use Rattle.races.specs.Races.{sameFile}
 use Rattle.rows.specs.Counting.{leastFrom, lastBelow}

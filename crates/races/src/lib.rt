@@ -7,13 +7,13 @@ ghost use mathlib.Core.Bool.{_&&_};
 ghost use Rattle.models.specs.Table.{refreshes};
 ghost use Rattle.rows.specs.Rows.{rowsIn, rowAt, rowIn};
 ghost use Rattle.rows.specs.Questions.{firstNo};
-ghost use Rattle.order.specs.Clock.{cellIn};
-ghost use Rattle.order.specs.Filling.{filledLeft};
+ghost use Rattle.happens_before.specs.Clock.{cellIn};
+ghost use Rattle.happens_before.specs.Filling.{filledLeft};
 ghost use Rattle.races.specs.Races.{conflict, verdictOf};
 ghost use Rattle.races.specs.Search.{refreshAt};
 ghost use Rattle.races.specs.Scan.{noted, lastNoted, inOrder, raceAt, judgeQuestions, foundOf, answerOf};
 ghost use Rattle.races.specs.Given.{Given};
-use order::Filled;
+use happens_before::Filled;
 
 // Free, the numbers of the earlier and the later row of the first race, or the number of the question that was answered No.
 pub enum Found {
@@ -29,12 +29,12 @@ pub fn verdict(rows: &[u32], n: u32, process_limit: u32, model: u32, counts: &mu
     ensures left { λ r. ⌜ now (counts .exit) ≡ filledLeft (firstNo (judgeQuestions n «process_limit» model (now (rows .entry)) (length (now (counts .entry))))) n «process_limit» (now (rows .entry)) (now (counts .entry)) ⌝ }
 {
     if rows::MODELS <= model {
-        if !order::slices_fit(n, process_limit, rows.len(), counts.len()) {
+        if !happens_before::slices_fit(n, process_limit, rows.len(), counts.len()) {
             return Found::Refused(1);
         }
         return Found::Refused(2);
     }
-    match order::fill_counts(rows, n, process_limit, counts) {
+    match happens_before::fill_counts(rows, n, process_limit, counts) {
         Filled::Refused(number) => Found::Refused(number),
         Filled::Done => first_race(rows, n as usize, process_limit as usize, model, counts),
     }

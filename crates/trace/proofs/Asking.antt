@@ -13,8 +13,8 @@ use Rattle.csv.specs.Reading.{contentOf, noSpan, sameBytes}
 use Rattle.csv.specs.declared.Span.{Span}
 use Rattle.rows.specs.Limits.{MODELS, PROCESSES, ROWS}
 use Rattle.rows.specs.declared.Row.{Row}
-use Rattle.fields.specs.declared.Judged.{Judged}
-use Rattle.fields.specs.declared.Judged.the-variants.{Kept, No}
+use Rattle.trace_fields.specs.declared.Judged.{Judged}
+use Rattle.trace_fields.specs.declared.Judged.the-variants.{Kept, No}
 use Rattle.trace.specs.Rows.{headerNames, sameFields, rowOf}
 use Rattle.trace.specs.Questions.{inLimits, callQuestions, fieldQuestions, messageInOrder}
 use Rattle.rows.specs.Questions.{Question, firstNo}

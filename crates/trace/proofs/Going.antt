@@ -17,8 +17,8 @@ use Rattle.csv.proofs.Places.{found-places}
 use Rattle.csv.proofs.Answers.{Told, tells, all-six}
 use Rattle.rows.specs.declared.Row.{Row}
 use Rattle.trace.specs.declared.Checked.the-variants.{Accepted, Refused}
-use Rattle.fields.specs.declared.Judged.{Judged}
-use Rattle.fields.specs.declared.Judged.the-variants.{Kept, No}
+use Rattle.trace_fields.specs.declared.Judged.{Judged}
+use Rattle.trace_fields.specs.declared.Judged.the-variants.{Kept, No}
 use Rattle.trace.specs.Rows.{rowOf}
 use Rattle.rows.specs.Rows.{six, numbers, rowsIn}
 use Rattle.trace.specs.Questions.{fieldQuestions, rowQuestions, messageInOrder, Outcome, refused, accepted, judgeRows, checkedOf, Holds}

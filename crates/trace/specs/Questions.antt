@@ -1,5 +1,5 @@
 -- The questions put to an input, each one definition, in document 01's order; the first No decides. What a question is, and the questions 8
--- to 11, which are put to the fields of one record, is defined in the crate `fields`.
+-- to 11, which are put to the fields of one record, is defined in the crate `trace_fields`.
 use Prim.Native.Nat.{ℕ, _+_, _*_, _-_}
 use mathlib.Core.Bool.{Bool, true, false, cond, not, _&&_, _||_}
 use mathlib.Core.List.{List, [], _∷_, _++_}
@@ -14,8 +14,8 @@ use Rattle.trace.specs.declared.Checked.the-variants.{Accepted, Refused}
 use Rattle.trace.specs.Rows.{headerNames, sameFields, rowOf}
 use Rattle.rows.specs.Kinds.{SEND, RECV}
 use Rattle.rows.specs.Rows.{numbers}
-pub use Rattle.fields.specs.Questions.{kindKnown, asUsed, numberIf, OFFSETS, endInRange}
-unfoldable pub use Rattle.fields.specs.Questions.{filledAsUsed, numbersInRange, fieldQuestions}
+pub use Rattle.trace_fields.specs.Questions.{kindKnown, asUsed, numberIf, OFFSETS, endInRange}
+unfoldable pub use Rattle.trace_fields.specs.Questions.{filledAsUsed, numbersInRange, fieldQuestions}
 use Rattle.rows.specs.Questions.{Question, firstNo, longEnough}
 
 -- ---- First, of the caller's numbers and slices

@@ -1,5 +1,5 @@
 -- What the parts of the reading answer, put together from the questions. These are the contracts of private functions; specs/Questions.antt
--- says what the whole call answers. What is answered of one record's fields is defined in the crate `fields`.
+-- says what the whole call answers. What is answered of one record's fields is defined in the crate `trace_fields`.
 use Prim.Native.Nat.{ℕ, suc}
 use mathlib.Core.Bool.{Bool, not, _&&_, _||_}
 use mathlib.Core.List.{List, [], _∷_, _++_}
@@ -7,9 +7,9 @@ use lib.ListN.{length}
 use lib.Dec.{eqb}
 use Rattle.csv.specs.Reading.{recordsFrom, Records}
 use Rattle.rows.specs.declared.Row.{Row}
-use Rattle.fields.specs.declared.Judged.{Judged}
-pub use Rattle.fields.specs.Reads.{fieldsOf, numberWhere, judgedBy}
-unfoldable pub use Rattle.fields.specs.Reads.{fillsAs, judgedFields}
+use Rattle.trace_fields.specs.declared.Judged.{Judged}
+pub use Rattle.trace_fields.specs.Reads.{fieldsOf, numberWhere, judgedBy}
+unfoldable pub use Rattle.trace_fields.specs.Reads.{fillsAs, judgedFields}
 use Rattle.trace.specs.Rows.{rowOf}
 use Rattle.trace.specs.Questions.{fieldQuestions, inRowLimit, messageInOrder, carries, isHeader, Outcome, judgeRows}
 use Rattle.rows.specs.Questions.{Question, firstNo}

@@ -9,8 +9,8 @@ ghost use Rattle.trace.specs.Reads.{fieldsOf, matches, judgedRow, judgeF
 use crate::Checked;
 use csv::Answer;
 use csv::Span;
-use fields::Judged;
 use rows::Row;
+use trace_fields::Judged;
 
 // The row at a place has this kind and message and, where another process's is asked for, not this process.
 fn row_matches(rows: &[u32], at: usize, kind: u32, message: u32, process: u32, other: bool) -> bool
@@ -83,7 +83,7 @@ fn judge_row(
     if count != 6 {
         return Judged::No(7);
     }
-    match fields::judge_fields(text, spans, process_limit) {
+    match trace_fields::judge_fields(text, spans, process_limit) {
         Judged::No(k) => Judged::No(k),
         Judged::Kept(row) => {
             if !in_order(rows, n, row) {

@@ -1,10 +1,10 @@
 -- `extents::list_range` meets its contract. Assumes nothing.
 use borrow.Author.Needs.{needs}
 use Rattle.extents.proofs.Entering.{refused, list-unlawful}
-use Rattle.maps.specs.Pieces.{listedIn}
+use Rattle.extents_map.specs.Pieces.{listedIn}
 use Rattle.extents.specs.Entries.{countOf}
-use Rattle.runs.specs.Maps.{bytesOf}
-use Rattle.runs.specs.Runs.{piecesOf}
+use Rattle.extents_meaning.specs.Maps.{bytesOf}
+use Rattle.extents_meaning.specs.Runs.{piecesOf}
 use denote.Ref.{now}
 use borrow.Author.Tests.{not-true, not-false}
 use lib.ListN.{length}

@@ -1,11 +1,11 @@
 -- `extents::read` meets its contract. Assumes nothing.
 use borrow.Author.Needs.{needs}
 use Rattle.extents.proofs.Doubles.{refused-both, read-unlawful}
-use Rattle.maps.specs.Pieces.{listedIn}
-use Rattle.views.specs.Pairs.{viewOf, belowOf}
+use Rattle.extents_map.specs.Pieces.{listedIn}
+use Rattle.extents_pair.specs.Pairs.{viewOf, belowOf}
 use Rattle.extents.specs.Entries.{refreshedMaps, countOf}
-use Rattle.runs.specs.Runs.{piecesOf}
-use Rattle.runs.specs.Cells.{refreshed}
+use Rattle.extents_meaning.specs.Runs.{piecesOf}
+use Rattle.extents_meaning.specs.Cells.{refreshed}
 use lib.ListN.{length}
 use denote.Ref.{now}
 use borrow.Author.Tests.{not-true, not-false}

@@ -3,12 +3,12 @@ use Rattle.kiqsaryn.proofs.kiqsaryn_make.Statement.{statement}
 use Rattle.kiqsaryn.proofs.kiqsaryn_make.Tie as tie
 use Rattle.kiqsaryn.proofs.kiqsaryn_make.Reads as reads
 use Rattle.kiqsaryn.proofs.kiqsaryn_make.Lts as lts
-use Rattle.asking.proofs.Machine.fresh.Reads as fresh-reads
+use Rattle.machine_state.proofs.Machine.fresh.Reads as fresh-reads
 use Rattle.machine.proofs.make.Reads as make-reads
 use lib.ListN.{length}
 use denote.Ref.{now}
-use Rattle.layers.specs.States.{Header, mapsLength}
-use Rattle.layers.specs.Steps.{makingQuestions}
+use Rattle.machine_meaning.specs.States.{Header, mapsLength}
+use Rattle.machine_meaning.specs.Steps.{makingQuestions}
 use Rattle.kiqsaryn.proofs.Packs.{packs-made}
 
 fresh-requires : tie.Need-fresh-requires

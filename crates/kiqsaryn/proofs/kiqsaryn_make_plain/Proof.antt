@@ -3,13 +3,13 @@ use Rattle.kiqsaryn.proofs.kiqsaryn_make_plain.Statement.{statement}
 use Rattle.kiqsaryn.proofs.kiqsaryn_make_plain.Tie as tie
 use Rattle.kiqsaryn.proofs.kiqsaryn_make_plain.Reads as reads
 use Rattle.kiqsaryn.proofs.kiqsaryn_make_plain.Lts as lts
-use Rattle.asking.proofs.Machine.fresh.Reads as fresh-reads
+use Rattle.machine_state.proofs.Machine.fresh.Reads as fresh-reads
 use Rattle.machine.proofs.make_plain.Reads as make-plain-reads
 use Prim.Native.Nat.{_*_}
 use lib.ListN.{length}
 use denote.Ref.{now}
-use Rattle.layers.specs.States.{Header}
-use Rattle.layers.specs.Steps.{plainMakingQuestions}
+use Rattle.machine_meaning.specs.States.{Header}
+use Rattle.machine_meaning.specs.Steps.{plainMakingQuestions}
 use Rattle.kiqsaryn.proofs.Packs.{packs-made}
 
 fresh-requires : tie.Need-fresh-requires

@@ -3,10 +3,10 @@ use Rattle.kiqsaryn.proofs.kiqsaryn_replay_plain.Statement.{statement}
 use Rattle.kiqsaryn.proofs.kiqsaryn_replay_plain.Tie as tie
 use Rattle.kiqsaryn.proofs.kiqsaryn_replay_plain.Reads as reads
 use Rattle.kiqsaryn.proofs.kiqsaryn_replay_plain.Lts as lts
-use Rattle.asking.proofs.Machine.fresh.Reads as fresh-reads
+use Rattle.machine_state.proofs.Machine.fresh.Reads as fresh-reads
 use Rattle.machine.proofs.replay_plain.Reads as replay-plain-reads
 use denote.Ref.{now}
-use Rattle.layers.specs.States.{Header}
+use Rattle.machine_meaning.specs.States.{Header}
 use Rattle.machine.specs.Replays.{plainReplayOf}
 use Rattle.kiqsaryn.proofs.Packs.{packs-replay}
 

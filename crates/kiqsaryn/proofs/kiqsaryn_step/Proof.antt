@@ -3,11 +3,11 @@ use Rattle.kiqsaryn.proofs.kiqsaryn_step.Statement.{statement}
 use Rattle.kiqsaryn.proofs.kiqsaryn_step.Tie as tie
 use Rattle.kiqsaryn.proofs.kiqsaryn_step.Reads as reads
 use Rattle.kiqsaryn.proofs.kiqsaryn_step.Lts as lts
-use Rattle.asking.proofs.Machine.fresh.Reads as fresh-reads
+use Rattle.machine_state.proofs.Machine.fresh.Reads as fresh-reads
 use Rattle.machine.proofs.step.Reads as step-reads
 use denote.Ref.{now}
-use Rattle.layers.specs.States.{Header}
-use Rattle.layers.specs.Steps.{stepOf}
+use Rattle.machine_meaning.specs.States.{Header}
+use Rattle.machine_meaning.specs.Steps.{stepOf}
 use Rattle.kiqsaryn.specs.Packing.{rowed}
 use Rattle.kiqsaryn.proofs.Packs.{packs-step}
 

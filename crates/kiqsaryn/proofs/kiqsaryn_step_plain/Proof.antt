@@ -3,11 +3,11 @@ use Rattle.kiqsaryn.proofs.kiqsaryn_step_plain.Statement.{statement}
 use Rattle.kiqsaryn.proofs.kiqsaryn_step_plain.Tie as tie
 use Rattle.kiqsaryn.proofs.kiqsaryn_step_plain.Reads as reads
 use Rattle.kiqsaryn.proofs.kiqsaryn_step_plain.Lts as lts
-use Rattle.asking.proofs.Machine.fresh.Reads as fresh-reads
+use Rattle.machine_state.proofs.Machine.fresh.Reads as fresh-reads
 use Rattle.machine.proofs.step_plain.Reads as step-plain-reads
 use denote.Ref.{now}
-use Rattle.layers.specs.States.{Header}
-use Rattle.layers.specs.Steps.{plainStepOf}
+use Rattle.machine_meaning.specs.States.{Header}
+use Rattle.machine_meaning.specs.Steps.{plainStepOf}
 use Rattle.kiqsaryn.specs.Packing.{rowed}
 use Rattle.kiqsaryn.proofs.Packs.{packs-step}
 

@@ -8,8 +8,8 @@ use lib.ListN.{length}
 use lib.Seq.{length-take-le}
 use Rattle.rows.proofs.Zeros.{first-cleared}
 use borrow.Author.Tests.{not-true, not-false}
-use Rattle.asking.specs.Answers.{headerOf}
-use Rattle.layers.specs.States.{mapsLength}
+use Rattle.machine_state.specs.Answers.{headerOf}
+use Rattle.machine_meaning.specs.States.{mapsLength}
 use Rattle.machine.proofs.Making.{make-short, make-model, make-limit, make-file, make-made}
 use native.Mathlib.Nat.{mul-le-mul}
 use Rattle.machine.proofs.make.Statement.{statement}

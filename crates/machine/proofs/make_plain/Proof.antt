@@ -8,7 +8,7 @@ use lib.ListN.{length}
 use lib.Seq.{length-take-le}
 use Rattle.rows.proofs.Zeros.{first-cleared}
 use borrow.Author.Tests.{not-true, not-false}
-use Rattle.asking.specs.Answers.{headerOf}
+use Rattle.machine_state.specs.Answers.{headerOf}
 use Rattle.machine.proofs.Making.{plain-short, plain-limit, plain-file, plain-made}
 use Rattle.machine.proofs.make_plain.Statement.{statement}
 use Rattle.machine.proofs.make_plain.Tie as tie

@@ -4,7 +4,7 @@ use native.Mathlib.Omega.{arith}
 use Prim.Native.Nat.{_-_}
 use mathlib.Core.Path.{refl, sym, _∙_}
 use borrow.Author.Tests.{not-true, not-false}
-use Rattle.asking.specs.Answers.{headerOf}
+use Rattle.machine_state.specs.Answers.{headerOf}
 use Rattle.machine.proofs.Keeping.{step-sound}
 use Rattle.machine.proofs.Replaying.{Going, start, turn, turn-size, turn-room, refused-turn, finish, short, unlawful}
 use Rattle.machine.proofs.replay.Statement.{statement}

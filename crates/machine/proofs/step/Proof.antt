@@ -3,8 +3,8 @@ use borrow.Author.Needs.{needs}
 use mathlib.Core.Path.{sym, _∙_}
 use denote.Ref.{now}
 use borrow.Author.Tests.{not-true, not-false}
-use Rattle.asking.specs.Answers.{headerOf}
-use Rattle.layered.proofs.Laying.{unlawful-step}
+use Rattle.machine_state.specs.Answers.{headerOf}
+use Rattle.machine_layered.proofs.Laying.{unlawful-step}
 use Rattle.machine.proofs.step.Statement.{statement}
 use Rattle.machine.proofs.step.Tie as tie
 

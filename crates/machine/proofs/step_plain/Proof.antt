@@ -3,8 +3,8 @@ use borrow.Author.Needs.{needs}
 use mathlib.Core.Path.{sym, _∙_}
 use denote.Ref.{now}
 use borrow.Author.Tests.{not-true, not-false}
-use Rattle.asking.specs.Answers.{headerOf}
-use Rattle.plain.proofs.Plainly.{plain-unlawful}
+use Rattle.machine_state.specs.Answers.{headerOf}
+use Rattle.machine_plain.proofs.Plainly.{plain-unlawful}
 use Rattle.machine.proofs.step_plain.Statement.{statement}
 use Rattle.machine.proofs.step_plain.Tie as tie
 

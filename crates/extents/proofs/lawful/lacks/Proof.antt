@@ -4,8 +4,8 @@ use native.Mathlib.Omega.{arith}
 use mathlib.Core.Path.{ap}
 use lib.Dec.{ltb}
 use denote.Ref.{now}
-use Rattle.runs.specs.Maps.{bytesOf}
-use Rattle.views.proofs.Rooms.{map-enough, map-counted}
+use Rattle.extents_meaning.specs.Maps.{bytesOf}
+use Rattle.extents_pair.proofs.Rooms.{map-enough, map-counted}
 use Rattle.extents.proofs.lawful.lacks.Statement.{statement}
 use Rattle.extents.proofs.lawful.lacks.Tie as tie
 

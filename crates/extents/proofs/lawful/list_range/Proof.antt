@@ -1,11 +1,11 @@
 -- `extents::lawful::list_range` meets its contract. Assumes nothing.
 use borrow.Author.Needs.{needs}
 use Rattle.extents.proofs.Entering.{refused, list-past, list-full, list-fits, pieces-most, accepted-list}
-use Rattle.views.proofs.Rooms.{pieces-there, slice-short, slice-enough}
-use Rattle.maps.specs.Pieces.{listedIn}
+use Rattle.extents_pair.proofs.Rooms.{pieces-there, slice-short, slice-enough}
+use Rattle.extents_map.specs.Pieces.{listedIn}
 use Rattle.extents.specs.Entries.{countOf}
-use Rattle.runs.specs.Maps.{bytesOf}
-use Rattle.runs.specs.Runs.{Run, piecesOf}
+use Rattle.extents_meaning.specs.Maps.{bytesOf}
+use Rattle.extents_meaning.specs.Runs.{Run, piecesOf}
 use denote.Ref.{now}
 use lib.ListN.{length}
 use mathlib.Core.List.{List}

@@ -7,7 +7,7 @@ use mathlib.Core.Bool.{false}
 use Rattle.extents.specs.declared.Answer.the-variants.{Done}
 use denote.Ref.{now}
 use native.Mathlib.Omega.{arith}
-use Rattle.views.proofs.Pairing.{two-told}
+use Rattle.extents_pair.proofs.Pairing.{two-told}
 use Rattle.extents.proofs.lawful.post.Statement.{statement}
 use Rattle.extents.proofs.lawful.post.Tie as tie
 

@@ -6,7 +6,7 @@ use Rattle.extents.proofs.Entering.{refused}
 use Rattle.extents.specs.declared.Answer.the-variants.{Done}
 use denote.Ref.{now}
 use native.Mathlib.Omega.{arith}
-use Rattle.views.proofs.Pairing.{two-told}
+use Rattle.extents_pair.proofs.Pairing.{two-told}
 use Rattle.extents.proofs.lawful.publish.Statement.{statement}
 use Rattle.extents.proofs.lawful.publish.Tie as tie
 

@@ -2,18 +2,18 @@
 use borrow.Author.Needs.{needs}
 use Rattle.extents.proofs.Doubles.{view-in-fresh, view-law-fresh, pieces-fresh, refused-both, refresh-enough, refresh-short, read-past, read-full, read-long, read-done}
 use Rattle.extents.proofs.Entering.{pieces-most}
-use Rattle.views.proofs.Rooms.{slice-short, slice-enough}
-use Rattle.maps.specs.Pieces.{listedIn}
-use Rattle.views.specs.Pairs.{viewOf, belowOf}
+use Rattle.extents_pair.proofs.Rooms.{slice-short, slice-enough}
+use Rattle.extents_map.specs.Pieces.{listedIn}
+use Rattle.extents_pair.specs.Pairs.{viewOf, belowOf}
 use Rattle.extents.specs.Entries.{refreshedMaps, countOf}
-use Rattle.runs.specs.Runs.{Run, piecesOf}
-use Rattle.runs.specs.Cells.{refreshed}
+use Rattle.extents_meaning.specs.Runs.{Run, piecesOf}
+use Rattle.extents_meaning.specs.Cells.{refreshed}
 use lib.ListN.{length}
 use mathlib.Core.List.{List}
 use denote.Ref.{now}
 use mathlib.Core.Path.{ap, _∙_}
 use native.Mathlib.Omega.{arith}
-use Rattle.views.proofs.Pairing.{two-told}
+use Rattle.extents_pair.proofs.Pairing.{two-told}
 use Rattle.extents.proofs.lawful.read.Statement.{statement}
 use Rattle.extents.proofs.lawful.read.Tie as tie
 

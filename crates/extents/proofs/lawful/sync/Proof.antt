@@ -7,7 +7,7 @@ use Rattle.extents.specs.declared.Answer.the-variants.{Done}
 use denote.Ref.{now}
 use mathlib.Core.Path.{sym}
 use native.Mathlib.Omega.{arith}
-use Rattle.views.proofs.Pairing.{two-told, two-apart}
+use Rattle.extents_pair.proofs.Pairing.{two-told, two-apart}
 use Rattle.extents.proofs.lawful.sync.Statement.{statement}
 use Rattle.extents.proofs.lawful.sync.Tie as tie
 

@@ -1,0 +1,112 @@
+-- Counting the runs of a mix of two maps and a range, from one byte that may start a run to the next. Assumes nothing.
+use Prim.Native.Nat.{ℕ, zero, suc, _+_, _-_, _≤_, _<_, min}
+use native.Mathlib.Omega.{arith}
+use mathlib.Core.Path.{_≡_, refl, sym, ap, _∙_}
+use mathlib.Core.Bool.{Bool}
+use mathlib.Core.List.{List}
+use lib.ListN.{length}
+use Rattle.rows.specs.Limits.{OFFSET-MAX}
+use Rattle.extents_meaning.specs.Cells.{Bytes, inRange}
+use Rattle.extents_meaning.specs.Runs.{runsFrom}
+use Rattle.extents_meaning.specs.Maps.{runs, bytesOf}
+use Rattle.extents_meaning.specs.Points.{starts}
+use Rattle.extents_meaning.proofs.Points.{news, news-same, news-most, count-starts}
+use Rattle.extents_map.specs.Mixes.{mixed, mix}
+use Rattle.extents_map.specs.Cursors.{Passed, Seen}
+use Rattle.extents_map.specs.declared.scan.Look.{Look}
+use Rattle.extents_map.proofs.Scanning.{passed-on}
+
+-- ---- Starts
+
+-- no more starts than bytes
+pub starts-most : (n s c : ℕ) (f : Bytes) → starts n s c f ≤ n
+unfolding starts
+starts-most zero s c f = omega arith
+starts-most (suc n) s c f = omega (arith, news-most (f s) c, starts-most n (suc s) (f s) f)
+
+-- bytes of one cell start at most one run
+starts-same : (k n x c here : ℕ) (f : Bytes) → ((b : ℕ) → x ≤ b → b < x + suc k → f b ≡ here) →
+    starts (suc (k + n)) x c f ≡ news here c + starts n (x + suc k) here f
+unfolding starts
+starts-same zero n x c here f h =
+    let e : suc x ≡ x + 1 = omega arith in
+    let d : 0 + n ≡ n = omega arith in
+    let q = h x (omega arith) (omega arith) in
+    λ i. news (q i) c + starts (d i) (e i) (q i) f
+starts-same (suc k) n x c here f h =
+    let e : suc x + suc k ≡ x + suc (suc k) = omega arith in
+    let d : suc k + n ≡ suc (k + n) = omega arith in
+    let q = h x (omega arith) (omega arith) in
+    let r = starts-same k n (suc x) here here f (λ b l m. h b (omega arith) (omega arith)) in
+    let t : starts n (suc x + suc k) here f ≡ starts n (x + suc (suc k)) here f = ap (λ (y : ℕ). starts n y here f) e in
+    (λ i. news (q i) c + starts (d i) (suc x) (q i) f) ∙ omega (arith, r, news-same here here refl, t)
+
+-- the bytes from x to y, of one cell, count once; the rest stands behind that cell
+starts-on : (x y to c here : ℕ) (f : Bytes) → x < y → y ≤ to → ((b : ℕ) → x ≤ b → b < y → f b ≡ here) →
+    starts (to - x) x c f ≡ news here c + starts (to - y) y here f
+starts-on x y to c here f l m h =
+    let k : to - x ≡ suc (y - suc x + (to - y)) = omega arith in
+    let e : x + suc (y - suc x) ≡ y = omega arith in
+    ap (λ (n : ℕ). starts n x c f) k
+    ∙ starts-same (y - suc x) (to - y) x c here f (λ b o p. h b o (omega arith))
+    ∙ ap (λ (z : ℕ). news here c + starts (to - y) z here f) e
+
+-- ---- The walk
+
+-- of the runs of the mix from byte `from` to byte `to`, n start before byte x, behind a byte of a cell; i and j are cursors into both maps
+pub record Counted (map below : List ℕ) (mode from to start end cell x n last i j : ℕ) : Type 0 where
+  pub sum :
+      starts (to - from) from 0 (mix mode start (end - start) cell (bytesOf map) (bytesOf below))
+      ≡ n + starts (to - x) x last (mix mode start (end - start) cell (bytesOf map) (bytesOf below))
+  pub view : Passed (runs map) i x
+  pub under : Passed (runs below) j x
+
+-- at first no run is counted
+pub count-start : (map below : List ℕ) (mode from to start end cell i j : ℕ) → Passed (runs map) i from → Passed (runs below) j from →
+    Counted map below mode from to start end cell from 0 0 i j
+count-start map below mode from to start end cell i j v u = record { sum = omega arith; view = v; under = u }
+
+module _ {map below : List ℕ} {mode from to start end cell x n last i j : ℕ} (k : Counted map below mode from to start end cell x n last i j) where
+  -- what is counted
+  abbrev mixOf : Bytes
+  mixOf = mix mode start (end - start) cell (bytesOf map) (bytesOf below)
+
+  -- no more runs than bytes: the count fits
+  pub count-most : n ≤ to
+  count-most = omega (arith, k .sum, starts-most (to - from) from 0 mixOf)
+
+  -- at the end all are counted
+  pub count-end : to ≤ x → n ≡ length (runsFrom (to - from) from mixOf)
+  count-end h = omega (arith, k .sum, starts-most (to - x) x last mixOf, count-starts (to - from) from mixOf)
+
+  -- a turn goes to the nearest byte y at which a map or the range may change
+  module _ {v w : Look} {e y : ℕ} (h : x < to) (a : Seen map x v) (b : Seen below x w)
+      (d : (x < OFFSET-MAX → x < e) × ((z : ℕ) → x ≤ z → z < e → inRange start (end - start) z ≡ inRange start (end - start) x))
+      (l : y ≡ min (min (v .next) (w .next)) (min e to)) where
+    -- y lies behind x
+    further : x < y
+    further = omega (arith, a .on, b .on, d .0 (omega (arith, a .on, a .most)))
+
+    -- so fewer bytes are left
+    pub count-less : to - y < to - x
+    count-less = omega (arith, further)
+
+    module _ {inside : Bool} {here new : ℕ} (q : inside ≡ inRange start (end - start) x) (m : here ≡ mixed mode inside cell (v .cell) (w .cell))
+        (r : new ≡ news here last) where
+      -- up to there the mix has one cell
+      same-there : (z : ℕ) → x ≤ z → z < y → mixOf z ≡ here
+      same-there z o u =
+          let i = sym (d .1 z o (omega arith)) in
+          let f = sym (a .cells z o (omega arith)) in
+          let g = sym (b .cells z o (omega arith)) in
+          sym (m ∙ (λ t. mixed mode ((q ∙ i) t) cell (f t) (g t)))
+
+      -- and the runs before y are counted
+      pub count-next : Counted map below mode from to start end cell y (n + new) here (v .at) (w .at)
+      count-next =
+          let f : x ≤ y = omega (arith, further) in
+          record {
+            sum = omega (arith, k .sum, starts-on x y to last here mixOf further (omega arith) same-there, r);
+            view = passed-on (a .passed) y f;
+            under = passed-on (b .passed) y f;
+          }

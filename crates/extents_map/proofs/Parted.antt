@@ -1,0 +1,485 @@
+-- Runs parted at a place, and a range laid between the parts. Assumes nothing.
+use Prim.Native.Nat.{ℕ, zero, suc, _+_, _-_, _≤_, _<_}
+use native.Mathlib.Decide.{decLt}
+use native.Mathlib.Numerals.{add-one}
+use native.Mathlib.Omega.{arith}
+use mathlib.Core.Path.{_≡_, refl, sym, ap, _∙_}
+use mathlib.Core.Bool.{cond}
+use mathlib.Core.List.{List, [], _∷_, _++_, append-nil, append-assoc}
+use lib.ListN.{length, getD, take, drop, take-append-drop, drop-of-length-le}
+use lib.Seq.{drop-cons}
+use borrow.Author.Tests.{eq-eqb, ne-eqb}
+use Rattle.rows.specs.Limits.{OFFSET-MAX}
+use Rattle.extents_meaning.specs.Cells.{Bytes, inRange, overwrite}
+use Rattle.extents_meaning.specs.Runs.{Run, runOf, cellAt, runsOf, Next, Rising}
+use Rattle.extents_meaning.proofs.Longest.{range-in, range-before, range-behind, cell-first, cell-before, cell-behind, mean-before, mean-first, unique-from}
+use Rattle.extents_map.specs.Cursors.{partOf, Passed}
+use Rattle.extents_map.specs.Beside.{endOf, runNo, runBefore, Met, Behind, Front, Back}
+
+-- ---- Lists of runs
+
+-- bytes have one cell by two lists with one front where they have one by what stands behind it
+pub cell-same : (ps qs rs : List Run) (b : ℕ) → cellAt qs b ≡ cellAt rs b → cellAt (ps ++ qs) b ≡ cellAt (ps ++ rs) b
+unfolding cellAt
+cell-same [] qs rs b e = e
+cell-same (p ∷ ps) qs rs b e = ap (λ (c : ℕ). cond (inRange (p .start) (p .length) b) (p .cell) c) (cell-same ps qs rs b e)
+
+-- what may follow a run may follow one that ends earlier, or there with the same cell
+pub rising-from : (end c x d : ℕ) (rs : List Run) → end ≤ x → (end ≡ x → c ≡ d) → Rising OFFSET-MAX x d rs → Rising OFFSET-MAX end c rs
+rising-from end c x d [] h e g = tt
+rising-from end c x d (r ∷ rs) h e g =
+    let n = g .0 in
+    let longest : r .start ≡ end → r .cell ≡ c → ⊥ =
+    λ p q. let z : end ≡ x = omega arith in n .longest (p ∙ z) (q ∙ e z) in
+    (record { rising = omega arith; filled = n .filled; inside = n .inside; written = n .written; longest = longest }, g .1)
+
+-- a part of length 0 is no run
+pub part-none : (s l c : ℕ) → l ≡ 0 → partOf s l c ≡ []
+unfolding partOf
+part-none s l c e = rw (eq-eqb l 0 e)
+
+-- any other is one
+pub part-some : (s l c : ℕ) → 1 ≤ l → partOf s l c ≡ runOf s l c ∷ []
+unfolding partOf
+part-some s l c h = rw (ne-eqb l 0 (λ e. omega arith))
+
+-- how many runs such a part is
+pub size-none : (s l c : ℕ) → l ≡ 0 → 0 ≡ length (partOf s l c)
+size-none s l c e = ap length (sym (part-none s l c e))
+
+-- and any other
+pub size-some : (s l c : ℕ) → (l ≡ 0 → ⊥) → 1 ≡ length (partOf s l c)
+size-some s l c f = ap length (sym (part-some s l c (omega arith)))
+
+-- ---- The first i runs of a list behind a run p
+
+-- the others may follow the last of them
+rising-at : (p : Run) (rs : List Run) → Rising OFFSET-MAX (endOf p) (p .cell) rs → (i : ℕ) → i ≤ length rs →
+    Rising OFFSET-MAX (endOf (getD (p ∷ rs) i (runOf 0 0 0))) (getD (p ∷ rs) i (runOf 0 0 0) .cell) (drop i rs)
+rising-at p rs g zero h = g
+rising-at p [] g (suc i) h = absurd (omega arith)
+rising-at p (r ∷ rs) g (suc i) h = rising-at r rs (g .1) i (omega arith)
+
+-- and so may all that may follow it
+follow-at : (p : Run) (rs : List Run) → Rising OFFSET-MAX (endOf p) (p .cell) rs → (i : ℕ) → i ≤ length rs → (qs : List Run) →
+    Rising OFFSET-MAX (endOf (getD (p ∷ rs) i (runOf 0 0 0))) (getD (p ∷ rs) i (runOf 0 0 0) .cell) qs →
+    Rising OFFSET-MAX (endOf p) (p .cell) (take i rs ++ qs)
+follow-at p rs g zero h qs k = k
+follow-at p [] g (suc i) h qs k = absurd (omega arith)
+follow-at p (r ∷ rs) g (suc i) h qs k = (g .0, follow-at r rs (g .1) i (omega arith) qs k)
+
+-- the last of them ends last
+end-at : (p : Run) (rs : List Run) → Rising OFFSET-MAX (endOf p) (p .cell) rs → (i : ℕ) → i ≤ length rs →
+    endOf p ≤ endOf (getD (p ∷ rs) i (runOf 0 0 0))
+end-at p rs g zero h = omega arith
+end-at p [] g (suc i) h = absurd (omega arith)
+end-at p (r ∷ rs) g (suc i) h = let n = g .0 in omega (arith, end-at r rs (g .1) i (omega arith))
+
+-- from its end on the bytes have the cells of what stands behind
+ends-at : (p : Run) (rs : List Run) → Rising OFFSET-MAX (endOf p) (p .cell) rs → (i : ℕ) → i ≤ length rs → (qs : List Run) (b : ℕ) →
+    endOf (getD (p ∷ rs) i (runOf 0 0 0)) ≤ b → cellAt (take i rs ++ qs) b ≡ cellAt qs b
+ends-at p rs g zero h qs b k = refl
+ends-at p [] g (suc i) h qs b k = absurd (omega arith)
+ends-at p (r ∷ rs) g (suc i) h qs b k =
+    cell-behind r (take i rs ++ qs) b (omega (arith, end-at r rs (g .1) i (omega arith))) ∙ ends-at r rs (g .1) i (omega arith) qs b k
+
+-- run i starts where p ends or later
+start-low : (p : Run) (rs : List Run) → Rising OFFSET-MAX (endOf p) (p .cell) rs → (i : ℕ) → i < length rs → endOf p ≤ runNo rs i .start
+start-low p [] g i h = absurd (omega arith)
+start-low p (r ∷ rs) g zero h = g .0 .rising
+start-low p (r ∷ rs) g (suc i) h = let n = g .0 in omega (arith, start-low r rs (g .1) i (omega arith))
+
+-- its bytes have its cell
+cell-in : (p : Run) (rs : List Run) → Rising OFFSET-MAX (endOf p) (p .cell) rs → (i : ℕ) → i < length rs → (b : ℕ) → runNo rs i .start ≤ b →
+    b < endOf (runNo rs i) → cellAt rs b ≡ runNo rs i .cell
+cell-in p [] g i h b l k = absurd (omega arith)
+cell-in p (r ∷ rs) g zero h b l k = cell-first r rs b l k
+cell-in p (r ∷ rs) g (suc i) h b l k =
+    cell-behind r rs b (omega (arith, start-low r rs (g .1) i (omega arith))) ∙ cell-in r rs (g .1) i (omega arith) b l k
+
+-- ---- Runs in order
+
+-- the run before run i + 1 is run i
+pub before-next : (rs : List Run) (i : ℕ) → runBefore rs (i + 1) ≡ runNo rs i
+before-next rs i = rw add-one
+
+-- and the run before run i is run i - 1
+pub before-last : (rs : List Run) (i : ℕ) → 0 < i → runBefore rs i ≡ runNo rs (i - 1)
+before-last rs i h = let e : i ≡ suc (i - 1) = omega arith in ap (runBefore rs) e
+
+module _ (rs : List Run) (g : Rising OFFSET-MAX 0 0 rs) where
+  -- what run i keeps behind the run before it
+  pub next-at : (i : ℕ) → i < length rs →
+      Next OFFSET-MAX (endOf (runBefore rs i)) (runBefore rs i .cell) (runNo rs i)
+      × Rising OFFSET-MAX (endOf (runNo rs i)) (runNo rs i .cell) (drop (suc i) rs)
+  next-at i h = rw (drop-cons rs i (runOf 0 0 0) h) at (rising-at (runOf 0 0 0) rs g i (omega arith))
+
+  -- from where the run before run i ends on, the runs from run i on say all
+  pub same-behind : (i : ℕ) → i ≤ length rs → (b : ℕ) → endOf (runBefore rs i) ≤ b → cellAt (drop i rs) b ≡ cellAt rs b
+  same-behind i h b k = sym (ends-at (runOf 0 0 0) rs g i h (drop i rs) b k) ∙ ap (λ (qs : List Run). cellAt qs b) (take-append-drop i rs)
+
+-- ---- The side before a range
+
+module _ {rs : List Run} (g : Rising OFFSET-MAX 0 0 rs) {start cell i : ℕ} (m : Met rs start cell i) where
+  -- nothing of run i is left before the range, which begins at x
+  left-whole : (x : ℕ) → x ≤ start → endOf (runBefore rs i) ≤ x → (endOf (runBefore rs i) ≡ x → runBefore rs i .cell ≡ cell → 1 ≤ cell → ⊥) →
+      ((b : ℕ) → b < x → cellAt (drop i rs) b ≡ 0) → ((b : ℕ) → x ≤ b → b < start → cellAt rs b ≡ cell) →
+      Front rs start cell (take i rs ++ partOf 0 0 0) x
+  left-whole x near passed apart free join = rw (part-none 0 0 0 refl, append-nil) (go (decLt (endOf (runBefore rs i)) x))
+    where
+      p : Run
+      p = runBefore rs i
+
+      front : (d : ℕ) → (d ≡ cell → 1 ≤ cell → ⊥) → (endOf p ≡ x → p .cell ≡ d) → Front rs start cell (take i rs) x
+      front d a e =
+          record {
+            last = d;
+            apart = a;
+            near = near;
+            follow = λ qs k. follow-at (runOf 0 0 0) rs g i (m .most) qs (rising-from (endOf p) (p .cell) x d qs passed e k);
+            ends = λ qs b k. ends-at (runOf 0 0 0) rs g i (m .most) qs b (omega arith);
+            same =
+                λ qs b l z. cell-same (take i rs) qs (drop i rs) b (z ∙ sym (free b l)) ∙ ap (λ (l : List Run). cellAt l b) (take-append-drop i rs);
+            join = join;
+          }
+
+      go : Dec (endOf p < x) → Front rs start cell (take i rs) x
+      go (yes l) = front 0 (λ a b. omega arith) (λ e. absurd (omega arith))
+      go (no l) = front (p .cell) (apart (omega arith)) (λ e. refl)
+
+  -- no run is met
+  pub left-none : ((b : ℕ) → b < start → cellAt (drop i rs) b ≡ 0) → Front rs start cell (take i rs ++ partOf 0 0 0) start
+  left-none free = left-whole start (omega arith) (m .passed) (m .apart) free (λ b l k. absurd (omega arith))
+
+  module _ (h : i < length rs) where
+    -- run i
+    abbrev here : Run
+    here = runNo rs i
+
+    -- what the runs from it on say
+    from-here : (b : ℕ) → cellAt (drop i rs) b ≡ cellAt (here ∷ drop (suc i) rs) b
+    from-here b = ap (λ (qs : List Run). cellAt qs b) (drop-cons rs i (runOf 0 0 0) h)
+
+    -- the bytes before it are free by them
+    free-here : (x b : ℕ) → x ≤ here .start → b < x → cellAt (drop i rs) b ≡ 0
+    free-here x b l k =
+        from-here b
+        ∙ mean-first OFFSET-MAX (endOf (runBefore rs i)) (runBefore rs i .cell) here (drop (suc i) rs) (next-at rs g i h) b (omega arith)
+
+    -- it starts with the range or later
+    pub left-clear : start ≤ here .start → Front rs start cell (take i rs ++ partOf 0 0 0) start
+    left-clear l = left-none (λ b k. free-here start b l k)
+
+    -- it starts earlier, with the same cell
+    pub left-join : here .start < start → here .cell ≡ cell → Front rs start cell (take i rs ++ partOf 0 0 0) (here .start)
+    left-join l e =
+        let n = next-at rs g i h .0 in
+        left-whole (here .start) (omega arith) (n .rising) (λ p q o. n .longest (sym p) (e ∙ sym q)) (λ b k. free-here _ b (omega arith) k)
+        (λ b k o. cell-in (runOf 0 0 0) rs g i h b k (omega (arith, m .meets h)) ∙ e)
+
+    -- the part of it before the range
+    abbrev part : Run
+    part = runOf (here .start) (start - here .start) (here .cell)
+
+    -- what that part says before the range, with runs behind it that say nothing there
+    part-cell : here .start < start → (qs : List Run) (b : ℕ) → b < start → cellAt qs b ≡ 0 → Dec (b < here .start) →
+        cellAt (part ∷ qs) b ≡ cellAt (drop i rs) b
+    part-cell l qs b k z (yes o) = cell-before part qs b o ∙ z ∙ sym (free-here _ b (omega arith) o)
+    part-cell l qs b k z (no o) =
+        cell-first part qs b (omega arith) (omega arith)
+        ∙ sym (from-here b ∙ cell-first here (drop (suc i) rs) b (omega arith) (omega (arith, m .meets h)))
+
+    -- it starts earlier, with another cell: the part stays
+    pub left-rest : here .start < start → (here .cell ≡ cell → ⊥) →
+        Front rs start cell (take i rs ++ partOf (here .start) (start - here .start) (here .cell)) start
+    left-rest l e =
+        let n = next-at rs g i h .0 in
+        let meets = m .meets h in
+        let end : endOf part ≡ start = omega arith in
+        let next : Next OFFSET-MAX (endOf (runBefore rs i)) (runBefore rs i .cell) part =
+        record { rising = n .rising; filled = omega arith; inside = omega (arith, n .inside); written = n .written; longest = n .longest } in
+        rw (part-some (here .start) (start - here .start) (here .cell) (omega arith))
+        (record {
+          last = here .cell;
+          apart = λ q o. e q;
+          near = omega arith;
+          follow = λ qs k. rw append-assoc (follow-at (runOf 0 0 0) rs g i (m .most) (part ∷ qs) (next, rw end k));
+          ends =
+              λ qs b k.
+              rw append-assoc
+              (ends-at (runOf 0 0 0) rs g i (m .most) (part ∷ qs) b (omega (arith, m .passed)) ∙ cell-behind part qs b (omega arith));
+          same =
+              λ qs b k z.
+              rw append-assoc
+              (cell-same (take i rs) (part ∷ qs) (drop i rs) b (part-cell l qs b k z (decLt b (here .start)))
+              ∙ ap (λ (l : List Run). cellAt l b) (take-append-drop i rs));
+          join = λ b k o. absurd (omega arith);
+        })
+
+-- ---- The side behind a range
+
+module _ {rs : List Run} (g : Rising OFFSET-MAX 0 0 rs) {first end cell i : ℕ} (m : Behind rs first end cell i) (t : end ≤ OFFSET-MAX) where
+  -- nothing of the run before run i is left behind the range
+  right-clear : endOf (runBefore rs i) ≤ end → Back rs end cell (partOf 0 0 0 ++ drop i rs) end
+  right-clear l =
+      rw (part-none 0 0 0 refl)
+      (record {
+        far = omega arith;
+        inside = t;
+        in-order = m .apart;
+        same = λ b k. same-behind rs g i (m .most) b (omega arith);
+        join = λ b k o. absurd (omega arith);
+      })
+
+  -- no run is met
+  pub right-none : i ≤ first → endOf (runBefore rs first) ≤ end → Back rs end cell (partOf 0 0 0 ++ drop i rs) end
+  right-none h l = let e : i ≡ first = omega (arith, m .low) in right-clear (rw e l)
+
+  module _ (h : first < i) where
+    -- run i - 1, the last run met
+    abbrev final : Run
+    final = runNo rs (i - 1)
+
+    -- it is the run before run i
+    final-at : runBefore rs i ≡ final
+    final-at = before-last rs i (omega arith)
+
+    -- its bytes behind the range have its cell
+    final-in : (b : ℕ) → end ≤ b → b < endOf final → cellAt rs b ≡ final .cell
+    final-in b l k =
+        let low : final .start ≤ end = rw final-at at (m .reached h) in
+        cell-in (runOf 0 0 0) rs g (i - 1) (omega (arith, m .most)) b (omega arith) k
+
+    -- what it keeps behind the run before it
+    final-next : Next OFFSET-MAX (endOf (runBefore rs (i - 1))) (runBefore rs (i - 1) .cell) final
+    final-next = next-at rs g (i - 1) (omega (arith, m .most)) .0
+
+    -- the runs behind it may follow it
+    final-order : Rising OFFSET-MAX (endOf final) (final .cell) (drop i rs)
+    final-order = let e : suc (i - 1) ≡ i = omega arith in rw e at (next-at rs g (i - 1) (omega (arith, m .most)) .1)
+
+    -- from its end on they say all
+    final-same : (b : ℕ) → endOf final ≤ b → cellAt (drop i rs) b ≡ cellAt rs b
+    final-same b l = same-behind rs g i (m .most) b (rw final-at l)
+
+    -- it ends with the range or earlier
+    pub right-done : endOf final ≤ end → Back rs end cell (partOf 0 0 0 ++ drop i rs) end
+    right-done l = right-clear (rw final-at l)
+
+    -- it ends later, with the same cell
+    pub right-join : end < endOf final → final .cell ≡ cell → Back rs end cell (partOf 0 0 0 ++ drop i rs) (endOf final)
+    right-join l e =
+        rw (part-none 0 0 0 refl)
+        (record {
+          far = omega arith;
+          inside = final-next .inside;
+          in-order = rw e at final-order;
+          same = final-same;
+          join = λ b k o. final-in b k o ∙ e;
+        })
+
+    -- the part of it behind the range
+    abbrev rest-part : Run
+    rest-part = runOf end (endOf final - end) (final .cell)
+
+    -- what that part and the runs behind it say
+    rest-cell : (b : ℕ) → end ≤ b → Dec (b < endOf final) → cellAt (rest-part ∷ drop i rs) b ≡ cellAt rs b
+    rest-cell b k (yes o) = cell-first rest-part (drop i rs) b k (omega arith) ∙ sym (final-in b k o)
+    rest-cell b k (no o) = cell-behind rest-part (drop i rs) b (omega arith) ∙ final-same b (omega arith)
+
+    -- it ends later, with another cell: the part stays
+    pub right-rest : end < endOf final → (final .cell ≡ cell → ⊥) → Back rs end cell (partOf end (endOf final - end) (final .cell) ++ drop i rs) end
+    right-rest l e =
+        let n = final-next in
+        let o : endOf rest-part ≡ endOf final = omega arith in
+        let next : Next OFFSET-MAX end cell rest-part =
+        record { rising = omega arith; filled = omega arith; inside = omega (arith, n .inside); written = n .written; longest = λ p q. e q } in
+        rw (part-some end (endOf final - end) (final .cell) (omega arith))
+        (record {
+          far = omega arith;
+          inside = t;
+          in-order = (next, rw o final-order);
+          same = λ b k. rest-cell b k (decLt b (endOf final));
+          join = λ b k o. absurd (omega arith);
+        })
+
+-- ---- Looking for the first run met, and for the first behind
+
+-- the first run that ends behind byte x is one from run lo to run hi, or there is none: the run before run lo ends at x or earlier
+pub record Past (rs : List Run) (x lo hi : ℕ) : Type 0 where
+  pub order : lo ≤ hi
+  pub within : hi ≤ length rs
+  pub passed : endOf (runBefore rs lo) ≤ x
+  pub behind : hi < length rs → x < endOf (runNo rs hi)
+
+-- at first it may be any
+pub past-start : (rs : List Run) (x : ℕ) {all : ℕ} → all ≡ length rs → Past rs x 0 all
+past-start rs x e = record { order = omega arith; within = omega arith; passed = omega arith; behind = λ h. absurd (omega arith) }
+
+module _ {rs : List Run} {x lo hi : ℕ} (k : Past rs x lo hi) {mid : ℕ} (l : lo ≤ mid) (h : mid < hi) where
+  -- not one behind run mid, where that one ends behind x
+  pub past-low : x < endOf (runNo rs mid) → Past rs x lo mid
+  past-low f = record { order = l; within = omega (arith, k .within); passed = k .passed; behind = λ o. f }
+
+  -- one behind run mid, where that one does not
+  pub past-high : endOf (runNo rs mid) ≤ x → Past rs x (mid + 1) hi
+  past-high f = record { order = omega arith; within = k .within; passed = rw (before-next rs mid) f; behind = k .behind }
+
+-- no other is left: it is run lo
+pub past-stop : {rs : List Run} {x lo hi all : ℕ} → Past rs x lo hi → hi ≤ lo → all ≡ length rs → lo < all → x < endOf (runNo rs lo)
+past-stop {rs} {x} {lo} {hi} k h e l = let z : hi ≡ lo = omega (arith, k .order) in rw z at k .behind (omega arith)
+
+-- all before it are passed
+pub past-cursor : {rs : List Run} → Rising OFFSET-MAX 0 0 rs → {x at : ℕ} → at ≤ length rs → endOf (runBefore rs at) ≤ x → Passed rs at x
+past-cursor {rs} g {x} {at} h l = record { some = h; same = λ b k. same-behind rs g at h b (omega arith) }
+
+-- run 0 ends behind the start, or there is none: it is met
+pub met-first : {rs : List Run} {start cell all i : ℕ} → (i < all → start < endOf (runNo rs i)) → i ≡ 0 → all ≡ length rs → Met rs start cell 0
+met-first {rs} {start} m z n =
+    record {
+      most = omega arith;
+      passed = omega arith;
+      apart = λ p q o. omega arith;
+      meets = λ k. let f : start < endOf (runNo rs 0) = rw z at m (omega arith) in omega arith;
+    }
+
+module _ {rs : List Run} {start cell i : ℕ} (h : i ≤ length rs) where
+  -- run i does, and the run before it ends earlier, or at the start with another cell: run i is the first met
+  pub met-here : endOf (runBefore rs i) ≤ start → (i < length rs → start < endOf (runNo rs i)) → 0 < i →
+      (endOf (runNo rs (i - 1)) ≡ start → runNo rs (i - 1) .cell ≡ cell → ⊥) → Met rs start cell i
+  met-here l m o f =
+      record { most = h; passed = l; apart = rw (before-last rs i o) (λ p q w. f p q); meets = λ k. omega (arith, m k) }
+
+  -- the run before it ends at the start: that one is
+  pub met-last : Rising OFFSET-MAX 0 0 rs → 0 < i → endOf (runNo rs (i - 1)) ≡ start → Met rs start cell (i - 1)
+  met-last g o e =
+      let n = next-at rs g (i - 1) (omega arith) .0 in
+      let k : endOf (runBefore rs (i - 1)) < start = omega (arith, n .rising, n .filled) in
+      record { most = omega arith; passed = omega arith; apart = λ p q w. omega arith; meets = λ w. omega arith }
+
+-- the runs from `first` to run i are met
+pub record Reaching (rs : List Run) (first end i : ℕ) : Type 0 where
+  pub low : first ≤ i
+  pub within : i ≤ length rs
+  pub reached : first < i → runBefore rs i .start ≤ end
+
+-- none is yet
+pub reach-start : (rs : List Run) (first end : ℕ) → first ≤ length rs → Reaching rs first end first
+reach-start rs first end h = record { low = omega arith; within = h; reached = λ l. absurd (omega arith) }
+
+module _ {rs : List Run} {first end i : ℕ} (k : Reaching rs first end i) where
+  -- run i is met too
+  pub reach-next : i < length rs → runNo rs i .start ≤ end → Reaching rs first end (i + 1)
+  reach-next h l = record { low = omega (arith, k .low); within = omega arith; reached = λ o. rw (before-next rs i) l }
+
+  -- run i is not, or there is none
+  pub reach-stop : Rising OFFSET-MAX 0 0 rs → (cell : ℕ) → (i < length rs → end ≤ runNo rs i .start) →
+      (i < length rs → runNo rs i .start ≡ end → runNo rs i .cell ≡ cell → ⊥) → Behind rs first end cell i
+  reach-stop g cell f a = record { low = k .low; most = k .within; reached = k .reached; apart = go (decLt i (length rs)) }
+    where
+      go : Dec (i < length rs) → Rising OFFSET-MAX end cell (drop i rs)
+      go (yes h) =
+          let n = next-at rs g i h in
+          rw (drop-cons rs i (runOf 0 0 0) h)
+          (record { rising = f h; filled = n .0 .filled; inside = n .0 .inside; written = n .0 .written; longest = a h }, n .1)
+      go (no h) = let o : length rs ≤ i = omega arith in rw (drop-of-length-le rs o) tt
+
+-- where no run is met, those from there on leave the bytes before the end of the range free
+pub free-behind : {rs : List Run} {first end cell i : ℕ} → Behind rs first end cell i → i ≤ first → (b : ℕ) → b < end → cellAt (drop first rs) b ≡ 0
+free-behind {rs} {first} {end} {cell} {i} m h b l =
+    let e : i ≡ first = omega (arith, m .low) in
+    ap (λ (k : ℕ). cellAt (drop k rs) b) (sym e) ∙ mean-before OFFSET-MAX end cell (drop i rs) (m .apart) b l
+
+-- ---- A range between its sides
+
+module _ (rs : List Run) (start end cell : ℕ) (wide : start < end) {front back : List Run} {from to : ℕ} (a : Front rs start cell front from)
+    (z : Back rs end cell back to) {n : ℕ} (clear : cell ≡ 0 → n ≡ 0) (fill : 1 ≤ cell → n ≡ to - from) where
+  -- the range, none where the cell is 0, and the runs behind it
+  abbrev rest : List Run
+  rest = partOf from n cell ++ back
+
+  -- they may follow the runs before the range, and what they say before it, in it and behind it
+  record Rest : Type 0 where
+    order : Rising OFFSET-MAX from (a .last) rest
+    before : (b : ℕ) → b < from → cellAt rest b ≡ 0
+    inside : (b : ℕ) → from ≤ b → b < to → cellAt rest b ≡ cell
+    behind : (b : ℕ) → to ≤ b → cellAt rest b ≡ cellAt rs b
+
+  -- so it is
+  rested : Rest
+  rested = go (decLt 0 cell)
+    where
+      wider : from < to
+      wider = omega (arith, a .near, z .far)
+
+      go : Dec (0 < cell) → Rest
+      go (yes l) =
+          let s : n ≡ to - from = fill l in
+          let w = wider in
+          let range = runOf from n cell in
+          let o : endOf range ≡ to = omega arith in
+          let q : partOf from n cell ≡ range ∷ [] = part-some from n cell (omega arith) in
+          let next : Next OFFSET-MAX from (a .last) range =
+          record {
+            rising = omega arith;
+            filled = omega arith;
+            inside = omega (arith, z .inside);
+            written = l;
+            longest = λ p e. a .apart (sym e) l;
+          } in
+          record {
+            order = rw q (next, rw o (z .in-order));
+            before = λ b k. rw q (cell-before range back b k ∙ mean-before OFFSET-MAX to cell back (z .in-order) b (omega arith));
+            inside = λ b k h. rw q (cell-first range back b k (omega arith));
+            behind = λ b k. rw q (cell-behind range back b (omega arith) ∙ z .same b k);
+          }
+      go (no l) =
+          let e : cell ≡ 0 = omega arith in
+          let w = wider in
+          let q : partOf from n cell ≡ [] = part-none from n cell (clear e) in
+          record {
+            order = rw q (rising-from from (a .last) to cell back (omega arith) (λ p. absurd (omega arith)) (z .in-order));
+            before = λ b k. rw q (mean-before OFFSET-MAX to cell back (z .in-order) b (omega arith));
+            inside = λ b k h. rw q (mean-before OFFSET-MAX to cell back (z .in-order) b h ∙ sym e);
+            behind = λ b k. rw q (z .same b k);
+          }
+
+  -- what every byte is to hold
+  abbrev goal : Bytes
+  goal = overwrite start (end - start) cell (cellAt rs)
+
+  -- the bytes before the range have their cells
+  mean-early : (b : ℕ) → b < start → Dec (b < from) → cellAt (front ++ rest) b ≡ goal b
+  mean-early b l d = go d ∙ rw (range-before start (end - start) b l)
+    where
+      go : Dec (b < from) → cellAt (front ++ rest) b ≡ cellAt rs b
+      go (yes k) = a .same rest b k (rested .before b k)
+      go (no k) =
+          let o : from ≤ b = omega arith in
+          a .ends rest b o ∙ rested .inside b o (omega (arith, z .far)) ∙ sym (a .join b o l)
+
+  -- those in it
+  mean-range : (b : ℕ) → start ≤ b → b < end → cellAt (front ++ rest) b ≡ goal b
+  mean-range b l k =
+      let o : from ≤ b = omega (arith, a .near) in
+      a .ends rest b o ∙ rested .inside b o (omega (arith, z .far)) ∙ sym (rw (range-in start (end - start) b (omega arith) (omega arith)))
+
+  -- those behind it
+  mean-late : (b : ℕ) → end ≤ b → Dec (b < to) → cellAt (front ++ rest) b ≡ goal b
+  mean-late b l d = a .ends rest b (omega (arith, a .near)) ∙ go d ∙ rw (range-behind start (end - start) b (omega arith))
+    where
+      go : Dec (b < to) → cellAt rest b ≡ cellAt rs b
+      go (yes k) = rested .inside b (omega (arith, a .near)) k ∙ sym (z .join b l k)
+      go (no k) = rested .behind b (omega arith)
+
+  -- all have
+  laid-mean : (b : ℕ) → Dec (b < start) → Dec (b < end) → cellAt (front ++ rest) b ≡ goal b
+  laid-mean b (yes l) d = mean-early b l (decLt b from)
+  laid-mean b (no l) (yes k) = mean-range b (omega arith) k
+  laid-mean b (no l) (no k) = mean-late b (omega arith) (decLt b to)
+
+  -- so they are the runs of what is to be
+  pub laid-runs : front ++ rest ≡ runsOf goal
+  unfolding runsOf
+  laid-runs =
+      unique-from OFFSET-MAX 0 goal (front ++ rest) (a .follow rest (rested .order)) (λ b l k. laid-mean b (decLt b start) (decLt b end))

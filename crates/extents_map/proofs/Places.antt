@@ -1,0 +1,83 @@
+-- The numbers of a run in a lawful map, and how many runs it has. Assumes nothing.
+use Prim.Native.Nat.{ℕ, zero, suc, _+_, _*_, _-_, _≤_, _<_}
+use native.Mathlib.Decide.{decLt}
+use native.Mathlib.Omega.{arith}
+use mathlib.Core.Path.{_≡_, refl, sym, ap, _∙_}
+use mathlib.Core.Bool.{true}
+use mathlib.Core.List.{List, [], _∷_, append-nil}
+use lib.ListN.{length, getD, take, drop}
+use lib.Seq.{split-at, length-take-le, getD-drop}
+use Rattle.rows.specs.Limits.{ROWS, OFFSET-MAX}
+use Rattle.extents_meaning.specs.Cells.{numberIn}
+use Rattle.extents_meaning.specs.Runs.{Run, runOf, Numbered}
+use Rattle.extents_meaning.specs.Maps.{spaceIn, runs, lawful}
+use Rattle.extents_meaning.proofs.Trips.{map-none, lawful-map, rest-at, run-at}
+use Rattle.rows.proofs.Zeros.{zeros}
+use Rattle.extents_map.specs.Beside.{endOf, runNo}
+use Rattle.extents_map.proofs.Parted.{next-at}
+
+-- every run has a row number
+number-at : (rs : List Run) → Numbered rs → (i : ℕ) → i < length rs → numberIn (runNo rs i .cell) ≤ ROWS
+number-at [] n i h = absurd (omega arith)
+number-at (r ∷ rs) n zero h = n .1
+number-at (r ∷ rs) n (suc i) h = number-at rs (n .2) i (omega arith)
+
+-- what stands at the place of run i
+pub record Here (xs : List ℕ) (i : ℕ) : Type 0 where
+  pub start : getD xs (i * 4) 0 ≡ runNo (runs xs) i .start
+  pub end : getD xs (i * 4) 0 + getD xs (i * 4 + 1) 0 ≡ endOf (runNo (runs xs) i)
+  pub cell : getD xs (i * 4 + 2) 0 * 2 + getD xs (i * 4 + 3) 0 ≡ runNo (runs xs) i .cell
+  pub room : i * 4 + 4 ≤ length xs
+  pub inside : endOf (runNo (runs xs) i) ≤ OFFSET-MAX
+  pub low : runNo (runs xs) i .cell ≤ 8193
+  pub filled : 1 ≤ getD xs (i * 4 + 1) 0
+
+-- it is that run
+pub here : (xs : List ℕ) (i : ℕ) → lawful xs ≡ true → i < length (runs xs) → Here xs i
+here xs i e h =
+    let m = lawful-map xs e in
+    let rs = runs xs in
+    let r = runNo rs i in
+    let q : 4 * i ≡ i * 4 = omega arith in
+    let n = next-at rs (m .lawful-runs .in-order) i h .0 in
+    let k = number-at rs (m .lawful-runs .numbered) i h in
+    let a = rw q at (run-at xs e (take i rs) (drop (suc i) rs) r i (split-at rs i (runOf 0 0 0) h) (length-take-le i rs (omega arith))) in
+    record {
+      start = a .0;
+      end = λ j. a .0 j + a .1 j;
+      cell = omega (arith, a .2, a .3);
+      room = omega (arith, m .fours-in, m .fit);
+      inside = n .inside;
+      low = omega (arith, k);
+      filled = omega (arith, a .1, n .filled);
+    }
+
+-- ---- Counting the runs
+
+module _ (xs : List ℕ) (e : lawful xs ≡ true) (i : ℕ) where
+  -- behind the last run every length is 0
+  length-none : length (runs xs) ≤ i → getD xs (i * 4 + 1) 0 ≡ 0
+  length-none h =
+      let n = length (runs xs) in
+      let k = 4 * (i - n) + 1 in
+      let q : i * 4 + 1 ≡ 4 * n + k = omega arith in
+      ap (λ (p : ℕ). getD xs p 0) q
+      ∙ sym (getD-drop (4 * n) xs k 0)
+      ∙ ap (λ (ys : List ℕ). getD ys k 0) (rest-at xs e (runs xs) [] n (sym (append-nil (runs xs))) refl ∙ map-none (spaceIn xs - n))
+      ∙ zeros (4 * (spaceIn xs - n)) k
+
+  -- so a run stands where the length is another
+  pub count-some : (getD xs (i * 4 + 1) 0 ≡ 0 → ⊥) → i < length (runs xs)
+  count-some f = go (decLt i (length (runs xs)))
+    where
+      go : Dec (i < length (runs xs)) → i < length (runs xs)
+      go (yes h) = h
+      go (no h) = absurd (f (length-none (omega arith)))
+
+  -- and none where it is 0
+  pub count-none : getD xs (i * 4 + 1) 0 ≡ 0 → length (runs xs) ≤ i
+  count-none z = go (decLt i (length (runs xs)))
+    where
+      go : Dec (i < length (runs xs)) → length (runs xs) ≤ i
+      go (yes h) = absurd (omega (arith, here xs i e h .filled))
+      go (no h) = omega arith

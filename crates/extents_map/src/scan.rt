@@ -1,0 +1,285 @@
+// Reading maps: whether one is lawful, what stands at a byte, and how many runs a mix of two maps has.
+ghost use Prim.Native.Nat.{ℕ, _+_, _*_, _-_, _≤_, _<_, min, max};
+ghost use mathlib.Core.Path.{_≡_};
+ghost use mathlib.Core.Bool.{true, cond, not, _&&_};
+ghost use lib.ListN.{length, drop};
+ghost use lib.Dec.{eqb};
+ghost use Rattle.extents_meaning.specs.Cells.{inRange};
+ghost use Rattle.extents_meaning.specs.Runs.{runsFrom};
+ghost use Rattle.extents_meaning.specs.Maps.{runs, bytesOf, allZero, follows, lawful, noMarks, lawfulPublished};
+ghost use Rattle.extents_map.specs.Mixes.{mixed as Mixes·mixed, mix};
+ghost use Rattle.extents_map.specs.Cursors.{Passed, Seen};
+
+// What stands at a byte: its cell, the next byte that may have another, and the run to go on from.
+pub struct Look {
+    pub cell: u32,
+    pub next: u32,
+    pub at: usize,
+}
+
+// Runs in rising order, longest, with row numbers 1 to 4,096 and marks 0 or 1, then 0.
+pub fn is_lawful(map: &[u32]) -> bool
+    ensures { λ r. ⌜ r ≡ lawful (now (map .entry)) ⌝ }
+{
+    if map.len() % 4 != 0 {
+        return false;
+    }
+    let space = map.len() / 4;
+    let mut i = 0;
+    let mut end = 0;
+    let mut cell = 0;
+    while i < space {
+        let at = 4 * i;
+        let length = map[at + 1];
+        if length == 0 {
+            return is_zero(map, at);
+        }
+        let start = map[at];
+        let number = map[at + 2];
+        let mark = map[at + 3];
+        if !may_follow(end, cell, start, length, number, mark) {
+            return false;
+        }
+        end = start + length;
+        cell = number * 2 + mark;
+        i += 1;
+    }
+    true
+}
+
+// Only 0 from a place on: all bits together.
+fn is_zero(map: &[u32], from: usize) -> bool
+    ensures { λ r. ⌜ r ≡ allZero (drop from (now (map .entry))) ⌝ }
+{
+    let mut bits = 0;
+    let mut i = from;
+    while i < map.len() {
+        bits |= map[i];
+        i += 1;
+    }
+    bits == 0
+}
+
+// A run may follow one that ends at `end` with a cell.
+fn may_follow(end: u32, cell: u32, start: u32, length: u32, number: u32, mark: u32) -> bool
+    ensures { λ r. ⌜ r ≡ follows end cell start length number mark ⌝ }
+{
+    if start < end {
+        return false;
+    }
+    if 4294967295 - start < length {
+        return false;
+    }
+    if number < 1 {
+        return false;
+    }
+    if 4096 < number {
+        return false;
+    }
+    if 1 < mark {
+        return false;
+    }
+    if start != end {
+        return true;
+    }
+    if number * 2 + mark == cell {
+        return false;
+    }
+    true
+}
+
+// A lawful map whose marks are all 0.
+pub fn is_published(map: &[u32]) -> bool
+    ensures { λ r. ⌜ r ≡ lawfulPublished (now (map .entry)) ⌝ }
+{
+    if !is_lawful(map) {
+        return false;
+    }
+    has_no_marks(map)
+}
+
+fn has_no_marks(map: &[u32]) -> bool
+    ensures { λ r. ⌜ r ≡ noMarks (runs (now (map .entry))) ⌝ }
+{
+    let space = map.len() / 4;
+    let mut i = 0;
+    while i < space {
+        let at = 4 * i;
+        if map[at + 1] == 0 {
+            return true;
+        }
+        if map[at + 3] % 2 == 1 {
+            return false;
+        }
+        i += 1;
+    }
+    true
+}
+
+// What stands at byte x, from a run on before which all end at x or earlier.
+pub fn see(map: &[u32], from: usize, x: u32) -> Look
+    requires { ⌜ lawful (now map) ≡ true ⌝ }
+    requires { ⌜ Passed (runs (now map)) from x × (x < 4294967295) ⌝ }
+    ensures { λ r. ⌜ Seen (now (map .entry)) x r ⌝ }
+{
+    let space = map.len() / 4;
+    let mut i = from;
+    while i < space {
+        let at = 4 * i;
+        let length = map[at + 1];
+        if length == 0 {
+            return Look {
+                cell: 0,
+                next: 4294967295,
+                at: i,
+            };
+        }
+        let start = map[at];
+        if x < start {
+            return Look {
+                cell: 0,
+                next: start,
+                at: i,
+            };
+        }
+        if x - start < length {
+            return Look {
+                cell: map[at + 2] * 2 + map[at + 3],
+                next: start + length,
+                at: i,
+            };
+        }
+        i += 1;
+    }
+    Look {
+        cell: 0,
+        next: 4294967295,
+        at: i,
+    }
+}
+
+// A run from which on byte x can be seen: all before it end at x or earlier.
+pub fn seek(map: &[u32], x: u32) -> usize
+    requires { ⌜ lawful (now map) ≡ true ⌝ }
+    ensures { λ r. ⌜ Passed (runs (now (map .entry))) r x ⌝ }
+{
+    let all = crate::splice::runs_in(map);
+    crate::splice::first_past(map, all, x)
+}
+
+// How many runs a mix of two maps and a range has from a byte to another.
+pub fn count(
+    map: &[u32],
+    below: &[u32],
+    mode: u32,
+    from: u32,
+    to: u32,
+    start: u32,
+    end: u32,
+    cell: u32,
+) -> usize
+    requires { ⌜ (lawful (now map) ≡ true) × (lawful (now below) ≡ true) ⌝ }
+    requires { ⌜ (from ≤ to) × (start ≤ end) ⌝ }
+    ensures { λ r. ⌜ r ≡ length (runsFrom (to - from) from (mix mode start (end - start) cell (bytesOf (now (map .entry))) (bytesOf (now (below .entry))))) ⌝ }
+{
+    let mut x = from;
+    let mut n = 0;
+    let mut last = 0;
+    let mut i = seek(map, from);
+    let mut j = seek(below, from);
+    while x < to {
+        let v = see(map, i, x);
+        let w = see(below, j, x);
+        let here = mixed(mode, is_inside(start, end, x), cell, v.cell, w.cell);
+        n += news(here, last);
+        last = here;
+        i = v.at;
+        j = w.at;
+        x = least(least(v.next, w.next), least(edge(start, end, x), to));
+    }
+    n
+}
+
+// What a mode makes of a byte.
+fn mixed(mode: u32, inside: bool, c: u32, v: u32, w: u32) -> u32
+    ensures { λ r. ⌜ r ≡ Mixes·mixed mode inside c v w ⌝ }
+{
+    if mode == 0 {
+        if inside {
+            return c;
+        }
+        if v % 2 == 1 {
+            return v / 2 * 2;
+        }
+        return w;
+    }
+    if mode == 1 {
+        if inside {
+            return c;
+        }
+        return v / 2 * 2;
+    }
+    if mode == 2 {
+        if v % 2 == 1 {
+            return v;
+        }
+        return w;
+    }
+    if mode == 3 {
+        return v / 2 + 1;
+    }
+    if v % 2 == 1 {
+        return v / 2 + 1;
+    }
+    w / 2 + 1
+}
+
+// 1 where a cell other than 0 differs from the one before it.
+fn news(here: u32, last: u32) -> usize
+    ensures { λ r. ⌜ r ≡ cond (not (eqb here 0) && not (eqb here last)) 1 0 ⌝ }
+{
+    if here == 0 {
+        return 0;
+    }
+    if here == last {
+        return 0;
+    }
+    1
+}
+
+fn is_inside(start: u32, end: u32, x: u32) -> bool
+    requires { ⌜ start ≤ end ⌝ }
+    ensures { λ r. ⌜ r ≡ inRange start (end - start) x ⌝ }
+{
+    if x < start {
+        return false;
+    }
+    x < end
+}
+
+// The next end of a range behind x.
+fn edge(start: u32, end: u32, x: u32) -> u32
+    ensures { λ r. ⌜ (x < 4294967295 → x < r) × ((b : ℕ) → x ≤ b → b < r → inRange start (end - start) b ≡ inRange start (end - start) x) ⌝ }
+{
+    if x < start {
+        return start;
+    }
+    if x < end {
+        return end;
+    }
+    4294967295
+}
+
+// The smaller of two numbers.
+pub fn least(a: u32, b: u32) -> u32
+    ensures { λ r. ⌜ r ≡ min a b ⌝ }
+{
+    if a < b { a } else { b }
+}
+
+// The larger of two numbers.
+pub fn most(a: u32, b: u32) -> u32
+    ensures { λ r. ⌜ r ≡ max a b ⌝ }
+{
+    if a < b { b } else { a }
+}

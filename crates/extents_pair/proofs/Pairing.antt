@@ -1,0 +1,239 @@
+-- One or two maps of a slice that has several: is there room, the map lent and home again, and one copied. Assumes nothing.
+use Prim.Native.Nat.{ℕ, _+_, _*_, _-_, _/_, _≤_, _<_, max}
+use native.Mathlib.Omega.{arith}
+use native.Mathlib.Decide.{decLt}
+use native.Mathlib.Nat.{le-div-iff-mul-le, div-lt-iff-lt-mul}
+use mathlib.Core.Path.{_≡_, refl, sym, ap, _∙_}
+use mathlib.Core.Logic.{_⊎_, inl, inr}
+use mathlib.Core.Bool.{Bool, true, false, cond, not, _&&_, false≢true}
+use mathlib.Core.List.{List}
+use lib.ListN.{length, take, drop, getD, set, length-set}
+use lib.Seq.{getD-take, getD-drop, getD-set-same, getD-set-other}
+use lib.Dec.{leb, ltb, eqb}
+use borrow.Author.Tests.{leb-true, lt-ltb, le-ltb, le-leb, lt-leb, eq-eqb, ne-eqb}
+use borrow.Rule.Slice.PartMut.{putMid}
+use Rattle.extents_meaning.specs.Cells.{Bytes}
+use Rattle.extents_meaning.specs.Runs.{runsOf}
+use Rattle.extents_meaning.specs.Maps.{mapOf, mapFor, spaceIn, runs, bytesOf, lawful, lawfulPublished, mapAt, withMap}
+use Rattle.extents_meaning.proofs.Longest.{runs-back}
+use Rattle.extents_meaning.proofs.Trips.{lawful-map}
+use Rattle.rows.proofs.Bools.{and-out}
+use Rattle.extents_meaning.proofs.Sides.{part-is, with-part}
+use Rattle.extents_pair.specs.Pairs.{twoMaps}
+use Rattle.extents_pair.proofs.Parts.{lent, home, part-length, laid-fit}
+use Rattle.extents_pair.proofs.Spots.{zero-behind}
+
+-- ---- Is there room for a map?
+
+module _ (space k n : ℕ) where
+  -- maps without space need none
+  pub room-none : space ≡ 0 → true ≡ leb ((k + 1) * (4 * space)) n
+  room-none e = sym (le-leb ((k + 1) * (4 * space)) n (omega (arith, ap (λ (s : ℕ). (k + 1) * (4 * s)) e)))
+
+  -- a slice too short for one map has none
+  pub room-short : n / 4 < space → false ≡ leb ((k + 1) * (4 * space)) n
+  room-short h = sym (lt-leb ((k + 1) * (4 * space)) n (omega arith))
+
+  -- others have as many as fit
+  pub room-count : 0 < 4 * space → ltb k (n / (4 * space)) ≡ leb ((k + 1) * (4 * space)) n
+  room-count h = go (decLt k (n / (4 * space)))
+    where
+      go : Dec (k < n / (4 * space)) → ltb k (n / (4 * space)) ≡ leb ((k + 1) * (4 * space)) n
+      go (yes l) =
+          let m : k + 1 ≤ n / (4 * space) = omega (arith, l) in
+          lt-ltb k (n / (4 * space)) l ∙ sym (le-leb ((k + 1) * (4 * space)) n (le-div-iff-mul-le h .0 m))
+      go (no l) =
+          let m : n / (4 * space) < k + 1 = omega (arith, l) in
+          le-ltb k (n / (4 * space)) (omega (arith, l)) ∙ sym (lt-leb ((k + 1) * (4 * space)) n (div-lt-iff-lt-mul h .0 m))
+
+-- ---- Two maps
+
+-- what is known of them
+pub record Told (space view below : ℕ) (xs : List ℕ) : Type 0 where
+  pub view-in : (view + 1) * (4 * space) ≤ length xs
+  pub below-in : (below + 1) * (4 * space) ≤ length xs
+  pub view-law : lawful (mapAt space view xs) ≡ true
+  pub below-law : lawful (mapAt space below xs) ≡ true
+
+module _ (space view below : ℕ) (xs : List ℕ) where
+  pub two-told : twoMaps space view below xs ≡ true → Told space view below xs
+  two-told e =
+      let e1 = and-out (not (eqb view below)) _ e in
+      let e2 = and-out (leb ((view + 1) * (4 * space)) (length xs)) _ (e1 .1) in
+      let e3 = and-out (leb ((below + 1) * (4 * space)) (length xs)) _ (e2 .1) in
+      let e4 = and-out (lawful (mapAt space view xs)) _ (e3 .1) in
+      record {
+        view-in = leb-true ((view + 1) * (4 * space)) (length xs) (e2 .0);
+        below-in = leb-true ((below + 1) * (4 * space)) (length xs) (e3 .0);
+        view-law = e4 .0;
+        below-law = and-out (lawful (mapAt space below xs)) _ (e4 .1) .0;
+      }
+
+  -- what is asked of the maps, of both rooms, and of the second
+  abbrev laws : Bool
+  laws = lawful (mapAt space view xs) && lawfulPublished (mapAt space below xs)
+
+  abbrev rest : Bool
+  rest = leb ((below + 1) * (4 * space)) (length xs) && laws
+
+  -- no two places
+  pub same-place : view ≡ below → false ≡ twoMaps space view below xs
+  same-place h = sym (ap (λ (x : Bool). not x && (leb ((view + 1) * (4 * space)) (length xs) && rest)) (eq-eqb view below h))
+
+  module _ (apart : view ≡ below → ⊥) where
+    -- no room for the first
+    pub no-view : leb ((view + 1) * (4 * space)) (length xs) ≡ false → false ≡ twoMaps space view below xs
+    no-view a = sym (λ i. not (ne-eqb view below apart i) && (a i && rest))
+
+    module _ (a : leb ((view + 1) * (4 * space)) (length xs) ≡ true) where
+      -- nor for the second
+      pub no-below : leb ((below + 1) * (4 * space)) (length xs) ≡ false → false ≡ twoMaps space view below xs
+      no-below b = sym (λ i. not (ne-eqb view below apart i) && (a i && (b i && laws)))
+
+      module _ (b : leb ((below + 1) * (4 * space)) (length xs) ≡ true) where
+        -- the first is not lawful
+        pub no-law : lawful (mapAt space view xs) ≡ false → false ≡ twoMaps space view below xs
+        no-law d = sym (λ i. not (ne-eqb view below apart i) && (a i && (b i && (d i && lawfulPublished (mapAt space below xs)))))
+
+        -- the second decides
+        pub last-law : lawful (mapAt space view xs) ≡ true → lawfulPublished (mapAt space below xs) ≡ twoMaps space view below xs
+        last-law d = sym (λ i. not (ne-eqb view below apart i) && (a i && (b i && (d i && lawfulPublished (mapAt space below xs)))))
+
+-- the two maps stand at two places
+pub two-apart : (space view below : ℕ) (xs : List ℕ) → twoMaps space view below xs ≡ true → view ≡ below → ⊥
+two-apart space view below xs e q = false≢true (sym (rw (eq-eqb view below q)) ∙ e)
+
+-- ---- A map lent and home again
+
+module _ (space k : ℕ) (xs : List ℕ) where
+  -- the part that is lent
+  abbrev pub lentMap : List ℕ
+  lentMap = take (k * (4 * space) + 4 * space - k * (4 * space)) (drop (k * (4 * space)) xs)
+
+  -- it is the map
+  pub map-lent : lentMap ≡ mapAt space k xs
+  map-lent = lent (k * (4 * space)) (4 * space) xs
+
+  module _ (fit : (k + 1) * (4 * space) ≤ length xs) where
+    -- of the space of every map
+    pub map-length : length (mapAt space k xs) ≡ 4 * space
+    map-length = part-length (k * (4 * space)) (4 * space) xs (omega (arith, fit))
+
+    pub map-space : spaceIn (mapAt space k xs) ≡ space
+    map-space = omega (arith, map-length)
+
+    -- what its bytes write
+    pub map-whole : lawful (mapAt space k xs) ≡ true → mapFor space (bytesOf (mapAt space k xs)) ≡ mapAt space k xs
+    map-whole law =
+        let m = lawful-map (mapAt space k xs) law in
+        (λ i. mapOf (sym map-space i) (runs-back (runs (mapAt space k xs)) (m .lawful-runs) i)) ∙ sym (m .whole)
+
+    -- laid anew, it comes home
+    pub laid-home : (f : Bytes → Bytes) → length (runsOf (f (bytesOf (mapAt space k xs)))) ≤ space → {r : Bool} {last : List ℕ} →
+        r ≡ leb (length (runsOf (f (bytesOf lentMap)))) (spaceIn lentMap) → last ≡ cond r (mapFor (spaceIn lentMap) (f (bytesOf lentMap))) lentMap →
+        putMid (k * (4 * space)) (k * (4 * space) + 4 * space - k * (4 * space)) xs last ≡
+        withMap space k (mapFor space (f (bytesOf (mapAt space k xs)))) xs
+    laid-home f h {r} {last} a b =
+        let m = mapAt space k xs in
+        let e = map-lent in
+        let laid : last ≡ mapFor (spaceIn m) (f (bytesOf m)) =
+        laid-fit m (f (bytesOf m)) (omega (arith, h, map-space)) (a ∙ (λ i. leb (length (runsOf (f (bytesOf (e i))))) (spaceIn (e i))))
+        (b ∙ (λ i. cond r (mapFor (spaceIn (e i)) (f (bytesOf (e i)))) (e i))) in
+        home (k * (4 * space)) (4 * space) xs last
+        ∙ ap (λ (l : List ℕ). withMap space k l xs) (laid ∙ ap (λ (n : ℕ). mapFor n (f (bytesOf m))) map-space)
+
+    -- made anew without a question, it comes home too
+    pub made-home : (f : Bytes → Bytes) → {last : List ℕ} → last ≡ mapFor (spaceIn lentMap) (f (bytesOf lentMap)) →
+        putMid (k * (4 * space)) (k * (4 * space) + 4 * space - k * (4 * space)) xs last ≡
+        withMap space k (mapFor space (f (bytesOf (mapAt space k xs)))) xs
+    made-home f {last} b =
+        let m = mapAt space k xs in
+        let e = map-lent in
+        home (k * (4 * space)) (4 * space) xs last
+        ∙ ap (λ (l : List ℕ). withMap space k l xs) (b ∙ (λ i. mapFor (spaceIn (e i)) (f (bytesOf (e i)))) ∙ ap (λ (n : ℕ). mapFor n (f (bytesOf m))) map-space)
+
+-- ---- A map copied
+
+-- the first n numbers from one place stand at another
+pub record Copied (from to n : ℕ) (xs ys : List ℕ) : Type 0 where
+  pub same : length ys ≡ length xs
+  pub other : (t : ℕ) → (t < to) ⊎ (to + n ≤ t) → getD ys t 0 ≡ getD xs t 0
+  pub there : (t : ℕ) → t < n → getD ys (to + t) 0 ≡ getD xs (from + t) 0
+
+pub copied-none : (from to : ℕ) (xs : List ℕ) → Copied from to 0 xs xs
+copied-none from to xs = record { same = refl; other = λ t d. refl; there = λ t h. absurd (omega (arith, h)) }
+
+-- one more of them
+pub copied-more : (size from to n : ℕ) (xs ys : List ℕ) → (from + size ≤ to) ⊎ (to + size ≤ from) → to + size ≤ length xs → n < size →
+    Copied from to n xs ys → Copied from to (n + 1) xs (set ys (to + n) (getD ys (from + n) 0))
+copied-more size from to n xs ys apart fit l k =
+    record {
+      same = length-set ys (to + n) v ∙ k .same;
+      other = λ t d. getD-set-other ys (to + n) t v 0 (away t d) ∙ k .other t (wide t d);
+      there = λ t h. go t h (decLt t n);
+    }
+  where
+    v : ℕ
+    v = getD ys (from + n) 0
+
+    away : (t : ℕ) → (t < to) ⊎ (to + (n + 1) ≤ t) → t ≡ to + n → ⊥
+    away t (inl d) e = absurd (omega (arith, d, e))
+    away t (inr d) e = absurd (omega (arith, d, e))
+
+    wide : (t : ℕ) → (t < to) ⊎ (to + (n + 1) ≤ t) → (t < to) ⊎ (to + n ≤ t)
+    wide t (inl d) = inl d
+    wide t (inr d) = inr (omega (arith, d))
+
+    source : (from + size ≤ to) ⊎ (to + size ≤ from) → (from + n < to) ⊎ (to + n ≤ from + n)
+    source (inl d) = inl (omega (arith, d, l))
+    source (inr d) = inr (omega (arith, d, l))
+
+    go : (t : ℕ) → t < n + 1 → Dec (t < n) → getD (set ys (to + n) v) (to + t) 0 ≡ getD xs (from + t) 0
+    go t h (yes m) = getD-set-other ys (to + n) (to + t) v 0 (λ e. absurd (omega (arith, e, m))) ∙ k .there t m
+    go t h (no m) =
+        let e : t ≡ n = omega (arith, h, m) in
+        ap (λ (i : ℕ). getD (set ys (to + n) v) (to + i) 0) e
+        ∙ getD-set-same ys (to + n) v 0 (omega (arith, fit, l, k .same))
+        ∙ k .other (from + n) (source apart)
+        ∙ ap (λ (i : ℕ). getD xs (from + i) 0) (sym e)
+
+module _ (space j k : ℕ) (xs : List ℕ) (j-fit : (j + 1) * (4 * space) ≤ length xs) (k-fit : (k + 1) * (4 * space) ≤ length xs) where
+  -- a number of a map
+  at-map : (t i : ℕ) → i < 4 * space → getD (mapAt space t xs) i 0 ≡ getD xs (t * (4 * space) + i) 0
+  at-map t i h = getD-take (4 * space) (drop (t * (4 * space)) xs) i 0 h ∙ getD-drop (t * (4 * space)) xs i 0
+
+  module _ (j-law : lawful (mapAt space j xs) ≡ true) (k-law : lawful (mapAt space k xs) ≡ true) where
+    -- as far as runs stand in one of two lawful maps
+    pub copied-end : {a b n : ℕ} → a ≡ length (runs (lentMap space j xs)) → b ≡ length (runs (lentMap space k xs)) → n ≡ max a b →
+        (length (runs (mapAt space j xs)) * 4 ≤ n * 4) × (length (runs (mapAt space k xs)) * 4 ≤ n * 4) × (n * 4 ≤ 4 * space)
+    copied-end ea eb en =
+        let u = ea ∙ ap (λ (l : List ℕ). length (runs l)) (map-lent space j xs) in
+        let v = eb ∙ ap (λ (l : List ℕ). length (runs l)) (map-lent space k xs) in
+        let fj = lawful-map (mapAt space j xs) j-law .fit in
+        let fk = lawful-map (mapAt space k xs) k-law .fit in (
+          omega (arith, u, en),
+          omega (arith, v, en),
+          omega (arith, u, v, en, fj, fk, map-space space j xs j-fit, map-space space k xs k-fit),
+        )
+
+    -- what stands there is the map
+    pub copied-all : (n : ℕ) → length (runs (mapAt space j xs)) * 4 ≤ n → length (runs (mapAt space k xs)) * 4 ≤ n → n ≤ 4 * space →
+        {ys : List ℕ} → Copied (j * (4 * space)) (k * (4 * space)) n xs ys → ys ≡ withMap space k (mapAt space j xs) xs
+    copied-all n a b top {ys} c =
+        part-is (k * (4 * space)) m xs ys (omega (arith, s, k-fit)) (c .same) (λ i h. c .other i (inl h))
+        (λ i h. go i (omega (arith, h, s)) (decLt i n)) (λ i h l. c .other i (inr (omega (arith, h, s, top))))
+        ∙ sym (with-part space k m xs s k-fit)
+      where
+        m : List ℕ
+        m = mapAt space j xs
+
+        s : length m ≡ 4 * space
+        s = map-length space j xs j-fit
+
+        go : (i : ℕ) → i < 4 * space → Dec (i < n) → getD ys (k * (4 * space) + i) 0 ≡ getD m i 0
+        go i h (yes l) = c .there i l ∙ sym (at-map j i h)
+        go i h (no l) =
+            c .other (k * (4 * space) + i) (inr (omega (arith, l)))
+            ∙ sym (at-map k i h)
+            ∙ zero-behind (mapAt space k xs) k-law i (omega (arith, b, l))
+            ∙ sym (zero-behind m j-law i (omega (arith, a, l)))

@@ -1,0 +1,111 @@
+-- How many pieces a range has at most, from the runs of a map. Assumes nothing.
+use Prim.Native.Nat.{ℕ, zero, suc, _+_, _*_, _-_, _/_, _≤_, _<_, min}
+use native.Mathlib.Omega.{arith}
+use native.Mathlib.Decide.{ℕ-discrete}
+use mathlib.Core.Path.{_≡_, sym, ap, _∙_}
+use mathlib.Core.Bool.{Bool, true, false}
+use mathlib.Core.List.{List}
+use lib.ListN.{length}
+use lib.Dec.{ltb}
+use borrow.Author.Tests.{le-ltb, ltb-true, ltb-false}
+use Rattle.rows.specs.Limits.{OFFSET-MAX}
+use Rattle.extents_meaning.specs.Cells.{Bytes, numberIn, refreshed}
+use Rattle.extents_meaning.specs.Runs.{Run, runsFrom, runsOf, piecesOf}
+use Rattle.extents_meaning.specs.Maps.{runs, bytesOf, lawful}
+use Rattle.extents_meaning.specs.Points.{starts}
+use Rattle.extents_meaning.proofs.Longest.{runs-back}
+use Rattle.extents_meaning.proofs.Trips.{lawful-map}
+use Rattle.extents_meaning.proofs.Points.{news, news-same, news-one, news-most, count-starts}
+use Rattle.extents_map.specs.Mixes.{REFRESH, READ-MAP, READ-FRESH, mixed, mix}
+
+-- the pieces of the same range, said by its end
+pub pieces-there : (f : Bytes) (start n : ℕ) → piecesOf f start (start + n - start) ≡ piecesOf f start n
+pieces-there f start n = let q : start + n - start ≡ n = omega arith in ap (piecesOf f start) q
+
+-- ---- Two pieces for each run, and one more
+
+-- a piece starts at a byte where a run starts or ends, and a run that ends was begun before
+named-news : (w c : ℕ) → news (suc (numberIn w)) (suc (numberIn c)) + min w 1 ≤ 2 * news w c + min c 1
+named-news w c = go (ℕ-discrete w c) (ℕ-discrete w 0)
+  where
+    most : news (suc (numberIn w)) (suc (numberIn c)) ≤ 1
+    most = news-most (suc (numberIn w)) (suc (numberIn c))
+
+    go : Dec (w ≡ c) → Dec (w ≡ 0) → news (suc (numberIn w)) (suc (numberIn c)) + min w 1 ≤ 2 * news w c + min c 1
+    go (yes e) d = omega (arith, e, news-same (suc (numberIn w)) (suc (numberIn c)) (ap (λ (k : ℕ). suc (numberIn k)) e))
+    go (no e) (yes z) = omega (arith, e, z, most)
+    go (no e) (no z) = omega (arith, news-one w c z e, most)
+
+module _ (f : Bytes) where
+  abbrev named : Bytes
+  named b = suc (numberIn (f b))
+
+  -- behind a byte of cell c: one more where that is in a run
+  named-starts : (n k s c : ℕ) → n ≤ k → starts n s (suc (numberIn c)) named ≤ 2 * starts k s c f + min c 1
+  unfolding starts
+  named-starts zero k s c h = omega arith
+  named-starts (suc n) zero s c h = absurd (omega arith)
+  named-starts (suc n) (suc k) s c h = omega (arith, named-news (f s) c, named-starts n k (suc s) (f s) (omega arith))
+
+  -- the first byte starts a piece, whatever is before it
+  named-first : (n s c : ℕ) → starts n s 0 named ≤ starts n s c named + 1
+  unfolding starts
+  named-first zero s c = omega arith
+  named-first (suc n) s c = omega (arith, news-most (named s) 0)
+
+  -- a part of k bytes, d behind the first of them
+  named-part : (d k n s c t : ℕ) → t ≡ s + d → d + n ≤ k → starts n t 0 named ≤ 2 * starts k s c f + min c 1 + 1
+  unfolding starts
+  named-part zero k n s c t e h =
+      let z : t ≡ s = omega arith in rw z (omega (arith, named-first n s (suc (numberIn c)), named-starts n k s c (omega arith)))
+  named-part (suc d) zero n s c t e h = absurd (omega arith)
+  named-part (suc d) (suc k) n s c t e h = omega (arith, named-news (f s) c, named-part d k n (suc s) (f s) t (omega arith) (omega arith))
+
+  -- a range has at most two pieces for each run, and one more
+  pub pieces-few : (s n : ℕ) → s + n ≤ OFFSET-MAX → length (piecesOf f s n) ≤ 2 * length (runsOf f) + 1
+  unfolding runsOf piecesOf
+  pieces-few s n h = omega (arith, count-starts n s named, count-starts OFFSET-MAX 0 f, named-part s OFFSET-MAX n 0 0 s (omega arith) h)
+
+  -- so they fit a room for as many
+  pub room-enough : (s n room : ℕ) {k : ℕ} → s + n ≤ OFFSET-MAX → length (runsOf f) ≤ k → 2 * k + 1 ≤ room →
+      false ≡ ltb room (length (piecesOf f s n))
+  room-enough s n room h m l = sym (le-ltb room (length (piecesOf f s n)) (omega (arith, pieces-few s n h)))
+
+-- ---- A map, and a view after a refresh
+
+module _ (s n : ℕ) where
+  -- there is room for the pieces of a lawful map
+  pub map-enough : (xs : List ℕ) (room : ℕ) → lawful xs ≡ true → {k : ℕ} → s + n ≤ OFFSET-MAX → k ≡ length (runs xs) → 2 * k + 1 ≤ room →
+      false ≡ ltb room (length (piecesOf (bytesOf xs) s n))
+  map-enough xs room law h e l =
+      let m = ap (λ (l : List Run). length l) (runs-back (runs xs) (lawful-map xs law .lawful-runs)) in
+      room-enough (bytesOf xs) s n room h (omega (arith, e, m)) l
+
+  -- and for those of a view after a refresh, whose runs the mix has
+  pub fresh-enough : (v w : Bytes) (room : ℕ) {k : ℕ} → s + n ≤ OFFSET-MAX → length (runsOf (mix REFRESH 0 0 0 v w)) ≤ k → 2 * k + 1 ≤ room →
+      false ≡ ltb room (length (piecesOf (refreshed v w) s n))
+  unfolding mixed
+  fresh-enough v w room = room-enough (refreshed v w) s n room
+
+  -- the walk counts the pieces
+  pub map-counted : (v w : Bytes) {r : ℕ} → r ≡ length (runsFrom n s (mix READ-MAP 0 0 0 v w)) → r ≡ length (piecesOf v s n)
+  unfolding mixed piecesOf
+  map-counted v w e = e
+
+  pub fresh-counted : (v w : Bytes) {r : ℕ} → r ≡ length (runsFrom n s (mix READ-FRESH 0 0 0 v w)) → r ≡ length (piecesOf (refreshed v w) s n)
+  unfolding mixed piecesOf
+  fresh-counted v w e = e
+
+-- ---- An answer slice, three numbers for each piece
+
+module _ (f : Bytes) (s n size : ℕ) {r : Bool} (e : r ≡ ltb (size / 3) (length (piecesOf f s (s + n - s)))) where
+  there : length (piecesOf f s (s + n - s)) ≡ length (piecesOf f s n)
+  there = ap (λ (l : List Run). length l) (pieces-there f s n)
+
+  -- they do not fit
+  pub slice-short : r ≡ true → size < 3 * length (piecesOf f s n)
+  slice-short q = omega (arith, there, ltb-true (size / 3) (length (piecesOf f s (s + n - s))) (sym e ∙ q))
+
+  -- they do
+  pub slice-enough : r ≡ false → 3 * length (piecesOf f s n) ≤ size
+  slice-enough q = omega (arith, there, ltb-false (size / 3) (length (piecesOf f s (s + n - s))) (sym e ∙ q))

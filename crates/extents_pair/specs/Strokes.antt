@@ -1,0 +1,86 @@
+-- Ranges of a map to be written, each with a cell, and what two passes of them leave: what the private functions of share rely on.
+use Prim.Native.Nat.{ℕ, _+_, _-_, _/_, _≤_, min, max}
+use mathlib.Core.Path.{_≡_}
+use mathlib.Core.Logic.{_⊎_}
+use mathlib.Core.Bool.{true, cond}
+use mathlib.Core.List.{List, [], _∷_, _++_}
+use lib.ListN.{length, take, drop}
+use Rattle.extents_meaning.specs.Cells.{Bytes, unpublished, cleared, inRange, overwrite, published}
+use Rattle.extents_meaning.specs.Runs.{Run, runsOf}
+use Rattle.extents_meaning.specs.Maps.{mapFor, runs, bytesOf, lawful}
+use Rattle.extents_pair.specs.declared.share.Stroke.{Stroke}
+
+-- ---- Ranges to be written
+
+-- a range and its cell
+abbrev pub strokeOf : ℕ → ℕ → ℕ → Stroke
+strokeOf from to cell = record { from = from; to = to; cell = cell }
+
+-- a byte moved into a range
+abbrev pub within : ℕ → ℕ → ℕ → ℕ
+within lo hi x = max lo (min x hi)
+
+-- the part of a run in a range, with its cell published; empty where the run is published
+unfoldable pub stroke : ℕ → ℕ → Run → Stroke
+stroke lo hi r =
+    strokeOf (within lo hi (r .start)) (within lo hi (cond (unpublished (r .cell)) (r .start + r .length) (r .start))) (cleared (r .cell))
+
+-- those of all runs
+unfoldable pub strokes : ℕ → ℕ → List Run → List Stroke
+strokes lo hi [] = []
+strokes lo hi (r ∷ rs) = stroke lo hi r ∷ strokes lo hi rs
+
+-- ---- Passes
+
+-- a range gets the cell behind it
+abbrev pub filled : ℕ → ℕ → Bytes → Bytes
+filled from to f = overwrite from (to - from) (f to) f
+
+-- each range gets the cell behind it, from right to left
+unfoldable pub downs : List Stroke → Bytes → Bytes
+downs [] f = f
+downs (s ∷ us) f = filled (s .from) (s .to) (downs us f)
+
+-- the bytes of a range are published
+unfoldable pub taken : ℕ → ℕ → Bytes → Bytes → Bytes
+taken lo hi view below b = cond (inRange lo (hi - lo) b) (published view below b) (below b)
+
+-- ---- Two maps in a slice
+
+-- a part of a slice, and the slice with another part
+abbrev pub partAt : ℕ → ℕ → List ℕ → List ℕ
+partAt at size xs = take size (drop at xs)
+
+-- the slice with another part
+abbrev pub withPart : ℕ → ℕ → List ℕ → List ℕ → List ℕ
+withPart at size m xs = (take at xs ++ m) ++ drop (at + size) xs
+
+-- the slice with the map of some bytes in that place
+abbrev pub withBytes : ℕ → ℕ → Bytes → List ℕ → List ℕ
+withBytes size at f xs = withPart at size (mapFor (size / 4) f) xs
+
+-- two lawful maps stand apart in a slice
+pub record Two (size v w : ℕ) (xs : List ℕ) : Type 0 where
+  pub view-in : v + size ≤ length xs
+  pub below-in : w + size ≤ length xs
+  pub apart : (v + size ≤ w) ⊎ (w + size ≤ v)
+  pub view : lawful (partAt v size xs) ≡ true
+  pub below : lawful (partAt w size xs) ≡ true
+
+module _ (size v w lo hi : ℕ) (xs : List ℕ) where
+  -- the ranges that a pass writes
+  abbrev pub passing : List Stroke
+  passing = strokes lo hi (runs (partAt v size xs))
+
+  -- what the pass down makes of the published map's bytes
+  abbrev pub sunk : Bytes
+  sunk = downs passing (bytesOf (partAt w size xs))
+
+  -- what the pass up makes of them
+  abbrev pub raised : Bytes
+  raised = taken lo hi (bytesOf (partAt v size xs)) (bytesOf (partAt w size xs))
+
+  -- a pass up is ready: a pass down was made, and the map fits at the end
+  pub record Ready : Type 0 where
+    pub fit : length (runsOf raised) ≤ size / 4
+    pub level : (b : ℕ) → bytesOf (partAt w size xs) b ≡ downs passing raised b

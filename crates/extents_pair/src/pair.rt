@@ -1,0 +1,237 @@
+// One or two maps of a slice that has several, by their numbers.
+ghost use Prim.Native.Nat.{ℕ, _+_, _*_, _-_, _≤_, _<_};
+ghost use mathlib.Core.Path.{_≡_};
+ghost use mathlib.Core.Bool.{true};
+ghost use mathlib.Core.Logic.{_⊎_};
+ghost use lib.ListN.{length};
+ghost use lib.Dec.{leb, ltb};
+ghost use Rattle.extents_meaning.specs.Cells.{numberIn, overwrite, settled, refreshed};
+ghost use Rattle.extents_meaning.specs.Runs.{runsFrom, runsOf, piecesOf};
+ghost use Rattle.extents_meaning.specs.Maps.{mapFor, runs, bytesOf, lawful, mapAt, withMap};
+ghost use Rattle.extents_map.specs.Mixes.{mix};
+ghost use Rattle.extents_map.specs.Pieces.{listedIn};
+ghost use Rattle.extents_pair.specs.Pairs.{twoMaps, viewOf, belowOf};
+ghost use Rattle.extents_pair.specs.Packing.{marked};
+
+// Two lawful maps at two places of a slice, the second one published.
+pub fn two_maps(maps: &[u32], space: usize, view: usize, below: usize) -> bool
+    ensures { λ r. ⌜ r ≡ twoMaps space view below (now (maps .entry)) ⌝ }
+{
+    if view == below {
+        return false;
+    }
+    if !has_map(maps, space, view) {
+        return false;
+    }
+    if !has_map(maps, space, below) {
+        return false;
+    }
+    let size = 4 * space;
+    let v = view * size;
+    if !extents_map::scan::is_lawful(&maps[v..v + size]) {
+        return false;
+    }
+    let w = below * size;
+    extents_map::scan::is_published(&maps[w..w + size])
+}
+
+// The slice is long enough for map k.
+fn has_map(maps: &[u32], space: usize, k: usize) -> bool
+    ensures { λ r. ⌜ r ≡ leb ((k + 1) * (4 * space)) (length (now (maps .entry))) ⌝ }
+{
+    if space == 0 {
+        return true;
+    }
+    if maps.len() / 4 < space {
+        return false;
+    }
+    k < maps.len() / (4 * space)
+}
+
+// How many runs a mix of a view, the published map and a range has.
+pub fn count(
+    maps: &[u32],
+    space: usize,
+    view: usize,
+    below: usize,
+    mode: u32,
+    from: u32,
+    to: u32,
+    start: u32,
+    end: u32,
+    cell: u32,
+) -> usize
+    requires { ⌜ twoMaps space view below (now maps) ≡ true ⌝ }
+    requires { ⌜ (from ≤ to) × (start ≤ end) ⌝ }
+    ensures { λ r. ⌜ r ≡ length (runsFrom (to - from) from (mix mode start (end - start) cell (viewOf space view below (now (maps .entry))) (belowOf space view below (now (maps .entry))))) ⌝ }
+{
+    let size = 4 * space;
+    let v = view * size;
+    let w = below * size;
+    extents_map::scan::count(
+        &maps[v..v + size],
+        &maps[w..w + size],
+        mode,
+        from,
+        to,
+        start,
+        end,
+        cell,
+    )
+}
+
+// How many runs of map k are unpublished.
+pub fn own_runs(maps: &[u32], space: usize, k: usize) -> usize
+    requires { ⌜ (k + 1) * (4 * space) ≤ length (now maps) ⌝ }
+    requires { ⌜ lawful (mapAt space k (now maps)) ≡ true ⌝ }
+    ensures { λ r. ⌜ r ≡ length (marked (runs (mapAt space k (now (maps .entry))))) ⌝ }
+{
+    let size = 4 * space;
+    let at = k * size;
+    marked_in(&maps[at..at + size])
+}
+
+// Does a mix of a view, of whose runs `own` are unpublished, the published map and a range fit a map's space? Its runs are counted only where
+// the most that there can be are too many.
+pub fn fits(
+    maps: &[u32],
+    space: usize,
+    view: usize,
+    below: usize,
+    own: usize,
+    mode: u32,
+    start: u32,
+    end: u32,
+    cell: u32,
+) -> bool
+    requires { ⌜ twoMaps space view below (now maps) ≡ true ⌝ }
+    requires { ⌜ (mode ≤ 2) × (start ≤ end) × (own ≡ length (marked (runs (mapAt space view (now maps))))) ⌝ }
+    ensures { λ r. ⌜ r ≡ leb (length (runsFrom (4294967295 - 0) 0 (mix mode start (end - start) cell
+        (viewOf space view below (now (maps .entry))) (belowOf space view below (now (maps .entry)))))) space ⌝ }
+{
+    if most_runs(maps, space, view, below, own, mode) <= space {
+        return true;
+    }
+    count(
+        maps,
+        space,
+        view,
+        below,
+        mode,
+        0,
+        4294967295,
+        start,
+        end,
+        cell,
+    )
+        <= space
+}
+
+// No mix of a view, the published map and any range has more runs.
+fn most_runs(maps: &[u32], space: usize, view: usize, below: usize, own: usize, mode: u32) -> usize
+    requires { ⌜ (twoMaps space view below (now maps) ≡ true) × (mode ≤ 2) × (own ≡ length (marked (runs (mapAt space view (now maps))))) ⌝ }
+    ensures { λ r. ⌜ ((start n cell : ℕ) → length (runsOf (mix mode start n cell
+        (viewOf space view below (now (maps .entry))) (belowOf space view below (now (maps .entry))))) ≤ r) ⌝ }
+{
+    let size = 4 * space;
+    let v = view * size;
+    if mode == 1 {
+        return extents_map::splice::runs_in(&maps[v..v + size]) + 2;
+    }
+    let w = below * size;
+    extents_map::splice::runs_in(&maps[w..w + size]) + 2 * own + 2
+}
+
+// Has a range of a view, of whose runs `own` are unpublished, more pieces after a refresh than there is room for? A range has at most two for each
+// run, and one more: they are counted only where the room may lack.
+pub fn lacks(
+    maps: &[u32],
+    space: usize,
+    view: usize,
+    below: usize,
+    own: usize,
+    from: u32,
+    to: u32,
+    room: usize,
+) -> bool
+    requires { ⌜ twoMaps space view below (now maps) ≡ true ⌝ }
+    requires { ⌜ (from ≤ to) × (own ≡ length (marked (runs (mapAt space view (now maps))))) ⌝ }
+    ensures { λ r. ⌜ r ≡ ltb room (length (piecesOf (refreshed
+        (viewOf space view below (now (maps .entry))) (belowOf space view below (now (maps .entry)))) from (to - from))) ⌝ }
+{
+    if most_runs(maps, space, view, below, own, 2) < room / 2 {
+        return false;
+    }
+    room < count(maps, space, view, below, 4, from, to, 0, 0, 0)
+}
+
+// How many runs of a map are unpublished.
+fn marked_in(map: &[u32]) -> usize
+    requires { ⌜ lawful (now map) ≡ true ⌝ }
+    ensures { λ r. ⌜ r ≡ length (marked (runs (now (map .entry)))) ⌝ }
+{
+    let all = extents_map::splice::runs_in(map);
+    let mut n = 0;
+    let mut i = 0;
+    while i < all {
+        n += map[i * 4 + 3] as usize;
+        i += 1;
+    }
+    n
+}
+
+// Marks a map published, of whose runs `own` are not.
+pub fn settle(maps: &mut [u32], space: usize, k: usize, own: usize)
+    requires { ⌜ (k + 1) * (4 * space) ≤ length (now maps) ⌝ }
+    requires { ⌜ (lawful (mapAt space k (now maps)) ≡ true) × (own ≡ length (marked (runs (mapAt space k (now maps))))) ⌝ }
+    ensures { λ _. ⌜ now (maps .exit) ≡ withMap space k (mapFor space (settled (bytesOf (mapAt space k (now (maps .entry)))))) (now (maps .entry)) ⌝ }
+{
+    let size = 4 * space;
+    let at = k * size;
+    crate::merge::settle(&mut maps[at..at + size], own);
+}
+
+// Gives a range of a map a cell, where it fits then.
+pub fn lay(maps: &mut [u32], space: usize, k: usize, start: u32, end: u32, cell: u32)
+    requires { ⌜ (k + 1) * (4 * space) ≤ length (now maps) ⌝ }
+    requires { ⌜ lawful (mapAt space k (now maps)) ≡ true ⌝ }
+    requires { ⌜ (start < end) × ((cell ≡ 0) ⊎ ((1 ≤ numberIn cell) × (numberIn cell ≤ 4096))) ⌝ }
+    requires { ⌜ length (runsOf (overwrite start (end - start) cell (bytesOf (mapAt space k (now maps))))) ≤ space ⌝ }
+    ensures { λ _. ⌜ now (maps .exit) ≡ withMap space k (mapFor space (overwrite start (end - start) cell (bytesOf (mapAt space k (now (maps .entry)))))) (now (maps .entry)) ⌝ }
+{
+    let size = 4 * space;
+    let at = k * size;
+    extents_map::splice::lay(&mut maps[at..at + size], start, end, cell);
+}
+
+// Puts the pieces of a range of a map into a slice that has room for them.
+pub fn list(maps: &[u32], space: usize, k: usize, from: u32, to: u32, out: &mut [u32]) -> usize
+    requires { ⌜ (k + 1) * (4 * space) ≤ length (now maps) ⌝ }
+    requires { ⌜ (lawful (mapAt space k (now maps)) ≡ true) × (from ≤ to) ⌝ }
+    requires { ⌜ 3 * length (piecesOf (bytesOf (mapAt space k (now maps))) from (to - from)) ≤ length (now out) ⌝ }
+    ensures { λ r. ⌜ r ≡ length (piecesOf (bytesOf (mapAt space k (now (maps .entry)))) from (to - from)) ⌝ }
+    ensures { λ r. ⌜ now (out .exit) ≡ listedIn (piecesOf (bytesOf (mapAt space k (now (maps .entry)))) from (to - from)) (now (out .entry)) ⌝ }
+{
+    let size = 4 * space;
+    let at = k * size;
+    extents_map::list::list(&maps[at..at + size], from, to, out)
+}
+
+// Copies map j to the place of map k, as far as one of them has runs.
+pub fn copy(maps: &mut [u32], space: usize, j: usize, k: usize)
+    requires { ⌜ ((j + 1) * (4 * space) ≤ length (now maps)) × ((k + 1) * (4 * space) ≤ length (now maps)) × (j ≡ k → ⊥) ⌝ }
+    requires { ⌜ (lawful (mapAt space j (now maps)) ≡ true) × (lawful (mapAt space k (now maps)) ≡ true) ⌝ }
+    ensures { λ _. ⌜ now (maps .exit) ≡ withMap space k (mapAt space j (now (maps .entry))) (now (maps .entry)) ⌝ }
+{
+    let size = 4 * space;
+    let from = j * size;
+    let to = k * size;
+    let there = extents_map::splice::runs_in(&maps[from..from + size]);
+    let here = extents_map::splice::runs_in(&maps[to..to + size]);
+    let end = crate::merge::larger(there, here) * 4;
+    let mut i = 0;
+    while i < end {
+        maps[to + i] = maps[from + i];
+        i += 1;
+    }
+}

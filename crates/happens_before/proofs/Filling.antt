@@ -1,0 +1,152 @@
+-- Filling the counts row after row: what the slice holds after some rows, and one row more. Assumes nothing.
+use Prim.Native.Nat.{ℕ, zero, suc, _+_, _*_, _-_, _≤_, _<_}
+use native.Mathlib.Nat.{zero-mul, suc-mul}
+use native.Mathlib.Decide.{decLt}
+use native.Mathlib.Omega.{arith}
+use mathlib.Core.Path.{_≡_, refl, sym, ap, _∙_}
+use mathlib.Core.Bool.{cond}
+use mathlib.Core.List.{List, _++_, append-assoc}
+use lib.ListN.{length, getD, take, drop, replicate, length-append, length-replicate, replicate-append-replicate, List·getD-append}
+use lib.Seq.{take-at, drop-at, getD-append-add, drop-drop, drop-append-add}
+use lib.Dec.{eqb}
+use Rattle.rows.specs.declared.Row.{Row}
+use Rattle.rows.specs.Rows.{rowsIn, rowHere, rowAt, rowIn}
+use Rattle.rows.specs.Counting.{values, blocks, lastBelow}
+use Rattle.happens_before.specs.Order.{delivers, count, countsOf}
+use Rattle.happens_before.specs.Clock.{lastOf, fromLast, joinedTo, clock, cellIn, withRow, filledRow}
+use Rattle.happens_before.proofs.Cells.{values-length, values-at, values-same}
+use Rattle.happens_before.proofs.Joins.{last-low, joined-same}
+use Rattle.happens_before.proofs.Clocks.{count-most, vector-clock}
+use Rattle.rows.proofs.Zeros.{zeros}
+use Rattle.rows.proofs.Slices.{length-rows, row-in}
+
+-- ---- Rows of a slice
+
+-- ---- Functions that agree below a bound
+
+last-same : (f g : ℕ → ℕ) (q n : ℕ) → ((k : ℕ) → k < n → f k ≡ g k) → lastOf f q n ≡ lastOf g q n
+unfolding lastOf lastBelow
+last-same f g q zero h = refl
+last-same f g q (suc n) h =
+    let ih = last-same f g q n (λ k l. h k (omega arith)) in
+    (λ i. cond (eqb (h n (omega arith) i) q) (suc n) (ih i))
+
+from-same : (f g : ℕ → ℕ) (m n : ℕ) → m ≤ n → ((k : ℕ) → k < n → f k ≡ g k) → fromLast f m ≡ fromLast g m
+from-same f g zero n l h = refl
+from-same f g (suc m) n l h = h m l
+
+-- ---- Blocks of P values
+
+module _ (P : ℕ) (g : ℕ → ℕ → ℕ) where
+  abbrev pub rowsOf : ℕ → List ℕ
+  rowsOf j = blocks j (λ k. values P (g k))
+
+  pub length-rowsOf : (j : ℕ) → length (rowsOf j) ≡ j * P
+  unfolding blocks
+  length-rowsOf zero = sym (zero-mul P)
+  length-rowsOf (suc j) =
+      length-append (rowsOf j) (values P (g j)) ∙ (λ i. length-rowsOf j i + values-length P (g j) i) ∙ sym (suc-mul j P)
+
+  -- what stands in a block
+  pub cell-done : (j k p : ℕ) (z : List ℕ) → k < j → p < P → cellIn P (rowsOf j ++ z) k p ≡ g k p
+  unfolding blocks
+  cell-done zero k p z h l = absurd (omega arith)
+  cell-done (suc j) k p z h l = ap (λ (x : List ℕ). cellIn P x k p) (append-assoc (rowsOf j) (values P (g j)) z) ∙ go (decLt k j) (cell-done j k p (values P (g j) ++ z))
+    where
+      go : Dec (k < j) → (k < j → p < P → cellIn P (rowsOf j ++ (values P (g j) ++ z)) k p ≡ g k p) → cellIn P (rowsOf j ++ (values P (g j) ++ z)) k p ≡ g k p
+      go (yes q) ih = ih q l
+      go (no q) ih =
+          let e : j ≡ k = omega arith in
+          let m : k * P + p ≡ length (rowsOf j) + p = (λ i. sym e i * P + p) ∙ ap (λ (x : ℕ). x + p) (sym (length-rowsOf j)) in
+          let w : p < length (values P (g j)) = omega (arith, values-length P (g j)) in
+          ap (λ (x : ℕ). getD (rowsOf j ++ (values P (g j) ++ z)) x 0) m
+          ∙ getD-append-add (rowsOf j) (values P (g j) ++ z) p 0
+          ∙ List·getD-append (values P (g j)) z 0 p w ∙ values-at P (g j) p l ∙ ap (λ (x : ℕ). g x p) e
+
+-- behind the blocks stand zeros
+pub cell-zero : (P : ℕ) (g : ℕ → ℕ → ℕ) (j m p : ℕ) → cellIn P (rowsOf P g j ++ replicate m 0) j p ≡ 0
+cell-zero P g j m p =
+    ap (λ (x : ℕ). getD (rowsOf P g j ++ replicate m 0) (x + p) 0) (sym (length-rowsOf P g j))
+    ∙ getD-append-add (rowsOf P g j) (replicate m 0) p 0 ∙ zeros m p
+
+-- ---- The slice after j rows
+
+module _ (n P L : ℕ) (xs : List ℕ) where
+  -- the counts of a row
+  abbrev pub counted : ℕ → ℕ → ℕ
+  counted k p = count (rowsIn n xs) p k
+
+  -- the counts of the first j rows, then 0
+  abbrev pub filledTo : ℕ → List ℕ
+  filledTo j = rowsOf P counted j ++ replicate (L - j * P) 0
+
+  module _ (j : ℕ) (h : j < n) where
+    abbrev rows : List Row
+    rows = rowsIn n xs
+
+    at : (k : ℕ) → k < j → rowIn xs k ≡ rowAt rows k
+    at k q = sym (row-in n k xs (omega arith))
+
+    here : rowIn xs j ≡ rowAt rows j
+    here = sym (row-in n j xs h)
+
+    cells : (p : ℕ) → p < P → (k : ℕ) → k < j → cellIn P (filledTo j) k p ≡ counted k p
+    cells p l k q = cell-done P counted j k p (replicate (L - j * P) 0) q l
+
+    -- the clock of the process's last row
+    start-count : (p : ℕ) → p < P →
+        fromLast (λ k. cellIn P (filledTo j) k p) (lastOf (λ k. rowIn xs k .process) (rowIn xs j .process) j)
+        ≡ fromLast (λ k. counted k p) (lastOf (λ k. rowAt rows k .process) (rowAt rows j .process) j)
+    start-count p l =
+        from-same (λ k. cellIn P (filledTo j) k p) (λ k. counted k p) (lastOf (λ k. rowIn xs k .process) (rowIn xs j .process) j) j
+        (last-low (λ k. rowIn xs k .process) (rowIn xs j .process) j) (cells p l)
+        ∙ ap (fromLast (λ k. counted k p))
+        (last-same (λ k. rowIn xs k .process) (λ k. rowAt rows k .process) (rowIn xs j .process) j (λ k q. ap (λ (r : Row). r .process) (at k q))
+        ∙ ap (λ (r : Row). lastOf (λ k. rowAt rows k .process) (r .process) j) here)
+
+    -- joined with those of the sends
+    sends-count : (p : ℕ) → p < P → (a : ℕ) →
+        joinedTo (λ k. delivers (rowIn xs k) (rowIn xs j)) (λ k. cellIn P (filledTo j) k p) a j
+        ≡ joinedTo (λ k. delivers (rowAt rows k) (rowAt rows j)) (λ k. counted k p) a j
+    sends-count p l a =
+        joined-same (λ k. delivers (rowIn xs k) (rowIn xs j)) (λ k. delivers (rowAt rows k) (rowAt rows j))
+        j (λ k q. λ i. delivers (at k q i) (here i)) (cells p l) refl
+
+    -- one row more is filled with its counts
+    filled-count : (p : ℕ) → p < P → filledRow P xs (filledTo j) j p ≡ counted j p
+    unfolding filledRow clock
+    filled-count p l =
+        let in-rows : j < length rows = omega (arith, length-rows n xs) in
+        (λ i. sends-count p l (start-count p l i) i + cond (eqb (here i .process) p) 1 0) ∙ sym (vector-clock rows p j in-rows)
+
+    module _ (room : j * P + P ≤ L) where
+      -- the slice with that row put there is filled one row further
+      pub row-filled : withRow P (filledTo j) j (filledRow P xs (filledTo j) j) ≡ filledTo (suc j)
+      unfolding blocks
+      row-filled =
+          let b = rowsOf P counted j in
+          let z : List ℕ = replicate (L - j * P) 0 in
+          let m : length b ≡ j * P = length-rowsOf P counted j in
+          let rest : L - j * P ≡ P + (L - suc j * P) = omega (arith, suc-mul j P) in
+          let split : z ≡ replicate P 0 ++ replicate (L - suc j * P) 0 = ap (λ (k : ℕ). replicate k 0) rest ∙ sym (replicate-append-replicate P (L - suc j * P) 0) in
+          let front : take (j * P) (filledTo j) ≡ b = take-at b z (j * P) m in
+          let behind : drop (j * P + P) (filledTo j) ≡ replicate (L - suc j * P) 0 =
+          ap (λ (k : ℕ). drop (k + P) (b ++ z)) (sym m) ∙ drop-append-add b z P ∙ ap (drop P) split
+          ∙ drop-at (replicate P 0) (replicate (L - suc j * P) 0) P (length-replicate P 0) in
+          (λ i. front i ++ (values-same P filled-count i ++ behind i)) ∙ sym (append-assoc b (values P (counted j)) (replicate (L - suc j * P) 0))
+
+      -- and it has the bounds that filling a row asks for
+      pub row-empty : (p : ℕ) → p < P → cellIn P (filledTo j) j p ≡ 0
+      row-empty p l = cell-zero P counted j (L - j * P) p
+
+      pub cells-small : n ≤ 4096 → (k p : ℕ) → k < j → p < P → cellIn P (filledTo j) k p ≤ 4096
+      cells-small few k p q l = omega (arith, cells p l k q, count-most rows p k, length-rows n xs)
+
+  -- nothing is filled at first, and all at the end
+  pub none-filled : replicate L 0 ≡ filledTo 0
+  unfolding blocks
+  none-filled = let e : L ≡ L - 0 * P = omega (arith, zero-mul P) in ap (λ (k : ℕ). replicate k 0) e
+
+  pub all-filled : filledTo n ≡ countsOf P (rowsIn n xs) ++ replicate (L - n * P) 0
+  unfolding countsOf
+  all-filled = ap (λ (k : ℕ). rowsOf P counted k ++ replicate (L - n * P) 0) (sym (length-rows n xs))

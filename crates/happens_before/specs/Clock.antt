@@ -1,0 +1,70 @@
+-- How the counts are filled, row after row: the definitions that the contracts of the private functions cite. That they give the counts of
+-- specs/Order.antt is the law `vector-clock` of proofs/Clocks.antt.
+use Prim.Native.Nat.{ℕ, zero, suc, _+_, _*_, max}
+use mathlib.Core.Bool.{Bool, cond}
+use mathlib.Core.List.{List, _++_}
+use lib.ListN.{getD, take, drop}
+use lib.Dec.{eqb}
+use Rattle.rows.specs.declared.Row.{Row}
+use Rattle.rows.specs.Rows.{rowHere, rowAt, rowIn}
+use Rattle.rows.specs.Counting.{values, lastBelow}
+use Rattle.happens_before.specs.Order.{delivers, count}
+
+-- ---- On rows
+
+-- the last row of a process below k, as its place and one; 0 where there is none
+unfoldable pub lastOf : (ℕ → ℕ) → ℕ → ℕ → ℕ
+lastOf processAt process k = lastBelow k (λ i. eqb (processAt i) process)
+
+-- a value from a place and one; 0 where there is none
+abbrev pub fromLast : (ℕ → ℕ) → ℕ → ℕ
+fromLast f zero = 0
+fromLast f (suc k) = f k
+
+-- joined with the values of the sends below k
+unfoldable pub joinedTo : (ℕ → Bool) → (ℕ → ℕ) → ℕ → ℕ → ℕ
+joinedTo sends f start zero = start
+joinedTo sends f start (suc k) = cond (sends k) (max (joinedTo sends f start k) (f k)) (joinedTo sends f start k)
+
+-- The clock of row j for process p without the row itself: that of the process's last row before, joined with those of the sends whose
+-- message row j receives.
+unfoldable pub clock : List Row → ℕ → ℕ → ℕ
+clock rows p j =
+    joinedTo (λ k. delivers (rowAt rows k) (rowAt rows j)) (λ k. count rows p k)
+    (fromLast (λ k. count rows p k) (lastOf (λ k. rowAt rows k .process) (rowAt rows j .process) j)) j
+
+-- ---- On slices
+
+-- the count of process p at row k in the counts' slice
+abbrev pub cellIn : ℕ → List ℕ → ℕ → ℕ → ℕ
+cellIn processLimit counts k p = getD counts (k * processLimit + p) 0
+
+-- the slice with the counts of row j put there
+abbrev pub withRow : ℕ → List ℕ → ℕ → (ℕ → ℕ) → List ℕ
+withRow processLimit counts j f =
+    take (j * processLimit) counts ++ (values processLimit f ++ drop (j * processLimit + processLimit) counts)
+
+-- row j's counts joined with those of row k
+abbrev pub joinedRow : ℕ → List ℕ → ℕ → ℕ → ℕ → ℕ
+joinedRow processLimit counts j k p = max (cellIn processLimit counts j p) (cellIn processLimit counts k p)
+
+-- row j's counts joined with those of a last row, if there is one
+abbrev pub joinedLast : ℕ → List ℕ → ℕ → ℕ → ℕ → ℕ
+joinedLast processLimit counts j last p =
+    max (cellIn processLimit counts j p) (fromLast (λ k. cellIn processLimit counts k p) last)
+
+-- row j's counts joined with those of the sends that it receives
+abbrev pub joinedSends : ℕ → List ℕ → List ℕ → ℕ → ℕ → ℕ
+joinedSends processLimit xs counts j p =
+    joinedTo (λ k. delivers (rowIn xs k) (rowIn xs j)) (λ k. cellIn processLimit counts k p) (cellIn processLimit counts j p) j
+
+-- with the row itself
+abbrev pub withOwn : ℕ → (ℕ → ℕ) → ℕ → ℕ
+withOwn process f p = f p + cond (eqb process p) 1 0
+
+-- what row j's counts become, from 0: the last row of its process, the sends it receives, itself
+unfoldable pub filledRow : ℕ → List ℕ → List ℕ → ℕ → ℕ → ℕ
+filledRow processLimit xs counts j =
+    withOwn (rowIn xs j .process)
+    (λ p. joinedTo (λ k. delivers (rowIn xs k) (rowIn xs j)) (λ k. cellIn processLimit counts k p)
+    (fromLast (λ k. cellIn processLimit counts k p) (lastOf (λ k. rowIn xs k .process) (rowIn xs j .process) j)) j)

@@ -1,0 +1,189 @@
+// The happens-before counts of every row of a trace: how many rows of each process happen before the row or are the row.
+ghost use mathlib.Core.Path.{_≡_};
+ghost use Prim.Native.Nat.{ℕ, max, _+_, _*_, _-_, _<_, _≤_};
+ghost use lib.ListN.{length};
+ghost use Rattle.rows.specs.Questions.{longEnough, firstNo};
+ghost use Rattle.happens_before.specs.Order.{delivers};
+ghost use Rattle.happens_before.specs.Clock.{lastOf, cellIn, withRow, joinedRow, joinedLast, joinedSends, withOwn, filledRow};
+ghost use Rattle.rows.specs.Rows.{rowIn};
+ghost use Rattle.happens_before.specs.Filling.{processesIn, fillQuestions, filledOf, filledLeft};
+
+// The counts were filled, or the number of the question that was answered No.
+pub enum Filled {
+    Done,
+    Refused(u32),
+}
+
+// Fills the counts of the first n rows, each for the processes below the limit, and clears what lies behind them. A refusal changes nothing:
+// 1 for a slice that is too short, 2 for a limit out of its range, 10 for a row whose process is not below the process limit.
+pub fn fill_counts(rows: &[u32], n: u32, process_limit: u32, counts: &mut [u16]) -> Filled
+    ensures answer { λ r. ⌜ r ≡ filledOf (firstNo (fillQuestions n «process_limit» (now (rows .entry)) (length (now (counts .entry))))) ⌝ }
+    ensures left { λ r. ⌜ now (counts .exit) ≡ filledLeft (firstNo (fillQuestions n «process_limit» (now (rows .entry)) (length (now (counts .entry))))) n «process_limit» (now (rows .entry)) (now (counts .entry)) ⌝ }
+{
+    let no = ask_rows(rows, n, process_limit, counts.len());
+    if no != 0 {
+        return Filled::Refused(no);
+    }
+    rows::clear_counts(counts);
+    let total = n as usize;
+    let processes = process_limit as usize;
+    let mut j = 0;
+    while j < total {
+        fill_row(rows, j, processes, counts);
+        j += 1;
+    }
+    Filled::Done
+}
+
+// The questions 1, 2 and 10.
+fn ask_rows(rows: &[u32], n: u32, process_limit: u32, counts_len: usize) -> u32
+    ensures { λ r. ⌜ r ≡ firstNo (fillQuestions n «process_limit» (now (rows .entry)) «counts_len») ⌝ }
+{
+    if !slices_fit(n, process_limit, rows.len(), counts_len) {
+        return 1;
+    }
+    if rows::ROWS < n {
+        return 2;
+    }
+    if process_limit < 1 {
+        return 2;
+    }
+    if rows::PROCESSES < process_limit {
+        return 2;
+    }
+    if !processes_in(rows, n as usize, process_limit) {
+        return 10;
+    }
+    0
+}
+
+// Question 1: both slices are long enough for n rows.
+pub fn slices_fit(n: u32, process_limit: u32, rows_len: usize, counts_len: usize) -> bool
+    ensures { λ r. ⌜ r ≡ longEnough n «process_limit» «rows_len» «counts_len» ⌝ }
+{
+    if (rows_len as u64) < n as u64 * 6 {
+        return false;
+    }
+    n as u64 * process_limit as u64 <= counts_len as u64
+}
+
+// Question 10: every process of the first n rows is below the limit.
+fn processes_in(rows: &[u32], n: usize, process_limit: u32) -> bool
+    requires { ⌜ n * 6 ≤ length (now rows) ⌝ }
+    ensures { λ r. ⌜ r ≡ processesIn n «process_limit» (now (rows .entry)) ⌝ }
+{
+    let mut i = n;
+    while 0 < i {
+        i -= 1;
+        let at = i * 6;
+        if process_limit <= rows[at] {
+            return false;
+        }
+    }
+    true
+}
+
+// Fills the counts of row j, which are 0, from those of the rows before it.
+fn fill_row(rows: &[u32], j: usize, processes: usize, counts: &mut [u16])
+    requires { ⌜ (j * 6 + 6 ≤ length (now rows)) × (processes ≤ 64) × (j * processes + processes ≤ length (now counts)) × (rowIn (now rows) j .process < processes) ⌝ }
+    requires { ⌜ ((p : ℕ) → p < processes → cellIn processes (now counts) j p ≡ 0) ⌝ }
+    requires { ⌜ ((k : ℕ) → (p : ℕ) → k < j → p < processes → cellIn processes (now counts) k p ≤ 4096) ⌝ }
+    ensures { λ r. ⌜ now (counts .exit) ≡ withRow processes (now (counts .entry)) j (filledRow processes (now (rows .entry)) (now (counts .entry)) j) ⌝ }
+{
+    let at = j * 6;
+    let process = rows[at];
+    let last = last_of(rows, j, process);
+    join_last(counts, last, j, processes);
+    join_sends(rows, j, processes, counts);
+    add_own(counts, j, processes, process);
+}
+
+// The last row of the process below j, as its place and one; 0 where there is none.
+fn last_of(rows: &[u32], j: usize, process: u32) -> usize
+    requires { ⌜ j * 6 ≤ length (now rows) ⌝ }
+    ensures { λ r. ⌜ r ≡ lastOf (λ k. rowIn (now (rows .entry)) k .process) process j ⌝ }
+{
+    let mut i = j;
+    while 0 < i {
+        let at = (i - 1) * 6;
+        if rows[at] == process {
+            return i;
+        }
+        i -= 1;
+    }
+    0
+}
+
+// Row j receives what row k sends.
+fn receives(rows: &[u32], k: usize, j: usize) -> bool
+    requires { ⌜ (k * 6 + 6 ≤ length (now rows)) × (j * 6 + 6 ≤ length (now rows)) ⌝ }
+    ensures { λ r. ⌜ r ≡ delivers (rowIn (now (rows .entry)) k) (rowIn (now (rows .entry)) j) ⌝ }
+{
+    let from = k * 6;
+    let to = j * 6;
+    if rows[from + 1] != 6 {
+        return false;
+    }
+    if rows[to + 1] != 7 {
+        return false;
+    }
+    rows[from + 5] == rows[to + 5]
+}
+
+// The larger of two counts.
+fn larger(a: u16, b: u16) -> u16
+    ensures { λ r. ⌜ r ≡ max a b ⌝ }
+{
+    if a < b { b } else { a }
+}
+
+// Joins the counts of row k into those of row j.
+fn join(counts: &mut [u16], k: usize, j: usize, processes: usize)
+    requires { ⌜ (k < j) × (processes ≤ 64) × (j * processes + processes ≤ length (now counts)) ⌝ }
+    ensures { λ r. ⌜ now (counts .exit) ≡ withRow processes (now (counts .entry)) j (joinedRow processes (now (counts .entry)) j k) ⌝ }
+{
+    let from = k * processes;
+    let to = j * processes;
+    let mut p = 0;
+    while p < processes {
+        counts[to + p] = larger(counts[to + p], counts[from + p]);
+        p += 1;
+    }
+}
+
+// Joins the counts of the row before `last` into those of row j; nothing where last is 0.
+fn join_last(counts: &mut [u16], last: usize, j: usize, processes: usize)
+    requires { ⌜ (last ≤ j) × (processes ≤ 64) × (j * processes + processes ≤ length (now counts)) ⌝ }
+    ensures { λ r. ⌜ now (counts .exit) ≡ withRow processes (now (counts .entry)) j (joinedLast processes (now (counts .entry)) j last) ⌝ }
+{
+    if 0 < last {
+        join(counts, last - 1, j, processes);
+    }
+}
+
+// Joins the counts of every send that row j receives into those of row j.
+fn join_sends(rows: &[u32], j: usize, processes: usize, counts: &mut [u16])
+    requires { ⌜ (j * 6 + 6 ≤ length (now rows)) × (processes ≤ 64) × (j * processes + processes ≤ length (now counts)) ⌝ }
+    ensures { λ r. ⌜ now (counts .exit) ≡ withRow processes (now (counts .entry)) j (joinedSends processes (now (rows .entry)) (now (counts .entry)) j) ⌝ }
+{
+    let at = j * 6;
+    if rows[at + 1] != 7 {
+        return;
+    }
+    let mut k = 0;
+    while k < j {
+        if receives(rows, k, j) {
+            join(counts, k, j, processes);
+        }
+        k += 1;
+    }
+}
+
+// Counts row j itself.
+fn add_own(counts: &mut [u16], j: usize, processes: usize, process: u32)
+    requires { ⌜ (processes ≤ 64) × (j * processes + processes ≤ length (now counts)) × (process < processes) × (cellIn processes (now counts) j process ≤ 4096) ⌝ }
+    ensures { λ r. ⌜ now (counts .exit) ≡ withRow processes (now (counts .entry)) j (withOwn process (λ p. cellIn processes (now (counts .entry)) j p)) ⌝ }
+{
+    let at = j * processes + process as usize;
+    counts[at] += 1;
+}

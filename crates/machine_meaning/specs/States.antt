@@ -1,0 +1,75 @@
+-- The state of a machine and of a plain file: a header, and the maps in a slice. The published map stands first, then each process's.
+use Prim.Native.Nat.{ℕ, zero, suc, _+_, _*_}
+use mathlib.Core.Bool.{Bool, true, _&&_}
+use mathlib.Core.List.{List, _++_}
+use lib.ListN.{length, drop}
+use lib.Dec.{leb, ltb}
+use Rattle.rows.specs.Limits.{MODELS, PROCESSES, FILES}
+use Rattle.rows.specs.Counting.{blocks, allBelow}
+use Rattle.extents_meaning.specs.Cells.{Bytes}
+use Rattle.extents_meaning.specs.Runs.{runsOf}
+pub use Rattle.extents_meaning.specs.Maps.{mapFor, mapAt}
+use Rattle.extents_meaning.specs.Maps.{bytesOf, lawful, lawfulPublished}
+use Rattle.machine_meaning.specs.Layers.{Layers, nothing}
+
+-- what a machine is made for; a plain file's model is not read
+pub record Header : Type 0 where
+  pub model : ℕ
+  pub processes : ℕ
+  pub file : ℕ
+  pub space : ℕ
+
+-- ---- Maps of a slice
+
+-- how many numbers the maps of a machine take
+abbrev pub mapsLength : Header → ℕ
+mapsLength h = 4 * h .space * (h .processes + 1)
+
+-- ---- Machines
+
+-- process limit 1 to 64; file 0 to 63
+abbrev pub processLimit : ℕ → Bool
+processLimit n = leb 1 n && leb n PROCESSES
+
+-- Is the state one with model, process limit, file and slice as for making, and lawful runs in its maps?
+unfoldable pub lawfulState : Header → List ℕ → Bool
+lawfulState h xs =
+    ltb (h .model) MODELS
+    && (processLimit (h .processes)
+    && (ltb (h .file) FILES
+    && (leb (mapsLength h) (length xs)
+    && (lawfulPublished (mapAt (h .space) 0 xs) && allBelow (h .processes) (λ p. lawful (mapAt (h .space) (suc p) xs))))))
+
+-- what the maps say of every byte
+abbrev pub layersIn : Header → List ℕ → Layers
+layersIn h xs =
+    record {
+      shared = bytesOf (mapAt (h .space) 0 xs);
+      view = λ p. bytesOf (mapAt (h .space) (suc p) xs);
+    }
+
+-- the slice with the maps of a layered file; numbers past the maps stay
+unfoldable pub layersTo : Header → Layers → List ℕ → List ℕ
+layersTo h s xs =
+    (mapFor (h .space) (s .shared) ++ blocks (h .processes) (λ p. mapFor (h .space) (s .view p))) ++ drop (mapsLength h) xs
+
+-- Does every map fit its space?
+unfoldable pub layersFit : Header → Layers → Bool
+layersFit h s =
+    leb (length (runsOf (s .shared))) (h .space) && allBelow (h .processes) (λ p. leb (length (runsOf (s .view p))) (h .space))
+
+-- ---- Plain files: one map with marks 0
+
+unfoldable pub lawfulPlain : Header → List ℕ → Bool
+lawfulPlain h xs =
+    processLimit (h .processes)
+    && (ltb (h .file) FILES && (leb (4 * h .space) (length xs) && lawfulPublished (mapAt (h .space) 0 xs)))
+
+abbrev pub plainIn : Header → List ℕ → Bytes
+plainIn h xs = bytesOf (mapAt (h .space) 0 xs)
+
+unfoldable pub plainTo : Header → Bytes → List ℕ → List ℕ
+plainTo h f xs = mapFor (h .space) f ++ drop (4 * h .space) xs
+
+abbrev pub plainFits : Header → Bytes → Bool
+plainFits h f = leb (length (runsOf f)) (h .space)

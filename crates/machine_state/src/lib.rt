@@ -1,0 +1,152 @@
+// What a machine and a plain file serve, the questions that both ask, and rows and answers by their numbers.
+ghost use Prim.Native.Nat.{_+_, _*_, _≤_};
+ghost use mathlib.Core.Path.{_≡_};
+ghost use mathlib.Core.Bool.{_&&_};
+ghost use mathlib.Core.List.{_++_};
+ghost use lib.ListN.{length, drop, replicate};
+ghost use lib.Dec.{leb};
+ghost use Rattle.rows.specs.Questions.{firstNo};
+ghost use Rattle.rows.specs.Rows.{rowIn};
+ghost use Rattle.machine_meaning.specs.Layers.{ofFile};
+ghost use Rattle.machine_meaning.specs.States.{processLimit};
+ghost use Rattle.machine_meaning.specs.Steps.{rowAsked};
+ghost use Rattle.machine_state.specs.Answers.{headerOf, fileAsked, rangeAsked, refusalOf, countOf};
+use extents::Answer;
+use rows::Row;
+
+// What a machine serves: a model, processes below a limit, one file, and maps with space for so many pieces each. A plain file's model is not
+// read.
+pub struct Machine {
+    pub model: u32,
+    pub process_limit: u32,
+    pub file: u32,
+    pub map_space: u32,
+}
+
+impl Machine {
+    pub const MODELS: u32 = 4;
+
+    pub const PROCESSES: u32 = 64;
+
+    pub const FILES: u32 = 64;
+
+    pub const ROWS: u32 = 4096;
+
+    // The header of an empty machine.
+    pub fn fresh(model: u32, process_limit: u32, file: u32, map_space: u32) -> Machine
+        ensures { λ r. ⌜ headerOf r ≡ record { model = model; processes = «process_limit»; file = file; space = «map_space» } ⌝ }
+    {
+        Machine {
+            model: model,
+            process_limit: process_limit,
+            file: file,
+            map_space: map_space,
+        }
+    }
+}
+
+// The number is a process limit: 1 to 64.
+pub fn is_process_limit(n: u32) -> bool
+    ensures { λ r. ⌜ r ≡ processLimit n ⌝ }
+{
+    if n < 1 {
+        return false;
+    }
+    n <= Machine::PROCESSES
+}
+
+// The first No of the questions 15, 14, 10 and 11, and 0 where there is none. The kind decides which fields are used.
+pub fn ask_row(machine: Machine, row: Row, number: u32) -> u32
+    ensures { λ r. ⌜ r ≡ firstNo (rowAsked (headerOf machine) row number) ⌝ }
+{
+    let kind = row.kind;
+    match kind {
+        // read, write: process, file, offset and length
+        0 | 1 => ask_range(machine, row, number),
+        // commit, open, close, sync: process and file
+        2 | 3 | 4 | 5 => ask_file(machine, row, number),
+        // send, recv and numbers that are no kind: no file
+        _ => 15,
+    }
+}
+
+// The questions of a row that uses its process and its file: 15, 14 and 10.
+fn ask_file(machine: Machine, row: Row, number: u32) -> u32
+    ensures { λ r. ⌜ r ≡ firstNo (fileAsked (headerOf machine) row number) ⌝ }
+{
+    if row.file != machine.file {
+        return 15;
+    }
+    if number < 1 {
+        return 14;
+    }
+    if Machine::ROWS < number {
+        return 14;
+    }
+    if machine.process_limit <= row.process {
+        return 10;
+    }
+    0
+}
+
+// The questions of a row that uses its offset and its length too: 11 behind the others.
+fn ask_range(machine: Machine, row: Row, number: u32) -> u32
+    ensures { λ r. ⌜ r ≡ firstNo (rangeAsked (headerOf machine) row number) ⌝ }
+{
+    let asked = ask_file(machine, row, number);
+    if asked != 0 {
+        return asked;
+    }
+    let offset = row.offset;
+    let length = row.length;
+    if 4294967295 - offset < length {
+        return 11;
+    }
+    0
+}
+
+// A row of the file: its kind uses a file, and the row names this one.
+pub fn is_of(machine: Machine, row: Row) -> bool
+    ensures { λ r. ⌜ r ≡ ofFile (headerOf machine .file) row ⌝ }
+{
+    let kind = row.kind;
+    match kind {
+        // read, write, commit, open, close, sync
+        0 | 1 | 2 | 3 | 4 | 5 => row.file == machine.file,
+        // send, recv and numbers that are no kind
+        _ => false,
+    }
+}
+
+// Six numbers for each row, and one for its count.
+pub fn slices_fit(rows_len: usize, counts_len: usize, n: u32) -> bool
+    ensures { λ r. ⌜ r ≡ leb (6 * n) «rows_len» && leb n «counts_len» ⌝ }
+{
+    let all = n as usize;
+    if rows_len / 6 < all {
+        return false;
+    }
+    all <= counts_len
+}
+
+// The number of a refusal, and 0 for any other answer.
+pub fn refusal_in(answer: Answer) -> u32
+    ensures { λ r. ⌜ r ≡ refusalOf answer ⌝ }
+{
+    match answer {
+        Answer::Refused(number) => number,
+        Answer::Listed(_) => 0,
+        Answer::Done => 0,
+    }
+}
+
+// The count of pieces, and 0 for any other answer.
+pub fn count_in(answer: Answer) -> u32
+    ensures { λ r. ⌜ r ≡ countOf answer ⌝ }
+{
+    match answer {
+        Answer::Refused(_) => 0,
+        Answer::Listed(count) => count,
+        Answer::Done => 0,
+    }
+}
