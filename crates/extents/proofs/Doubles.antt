@@ -13,7 +13,7 @@ use Rattle.rows.specs.Limits.{ROWS, OFFSET-MAX}
 use Rattle.rows.specs.Questions.{firstNo}
 use Rattle.extents_meaning.specs.Cells.{Bytes, cellOf, numberIn, markIn, unpublished, cleared, overwrite, published, settled, refreshed, inRange}
 use Rattle.extents_meaning.specs.Runs.{Run, cellAt, runsFrom, runsOf, piecesOf, Lawful}
-use Rattle.extents_meaning.specs.Maps.{mapOf, mapFor, bytesOf, runs, lawful, mapAt, withMap}
+use Rattle.extents_meaning.specs.Maps.{mapOf, mapFor, bytesOf, runs, lawful, mapAt, withMap, listedIn}
 use Rattle.extents_meaning.proofs.Longest.{same-from, runs-same, runs-back, runs-mean, runs-lawful, lawful-fine, Fine, pieces-same, range-behind}
 use Rattle.extents_meaning.proofs.Trips.{lawful-map, length-map, map-lawful, map-back}
 use Rattle.extents_meaning.proofs.Points.{runs-by}
@@ -22,9 +22,8 @@ use Rattle.extents_meaning.proofs.Sides.{with-length, at-same, at-other, with-s
 use Rattle.extents.specs.declared.Answer.{Answer}
 use Rattle.extents.specs.declared.Answer.the-variants.{Done, Listed, Refused}
 use Rattle.extents_map.specs.Mixes.{PUBLISH, SETTLE, REFRESH, mixed, mix}
-use Rattle.extents_pair.specs.Pairs.{twoMaps, viewOf, belowOf}
+use Rattle.extents_meaning.specs.Pairs.{twoMaps, viewOf, belowOf}
 use Rattle.extents.specs.Entries.{orRefused, orKept, bothMaps, publishRefusal, publishedMaps, refreshRefusal, refreshedMaps, syncRefusal, syncedMaps, readRefusal, postRefusal, postedMaps, countOf}
-use Rattle.extents_map.specs.Pieces.{listedIn}
 use Rattle.extents_pair.specs.Packing.{marked}
 use Rattle.extents.proofs.Entering.{accepted}
 use Rattle.extents_pair.proofs.Pairing.{Told, two-told, two-apart, map-space, map-whole}

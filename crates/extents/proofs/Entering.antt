@@ -13,7 +13,7 @@ use Rattle.rows.specs.Limits.{ROWS, OFFSET-MAX}
 use Rattle.rows.specs.Questions.{firstNo}
 use Rattle.extents_meaning.specs.Cells.{Bytes, cellOf, numberIn, overwrite}
 use Rattle.extents_meaning.specs.Runs.{Run, runsOf, piecesOf}
-use Rattle.extents_meaning.specs.Maps.{mapOf, mapFor, spaceIn, bytesOf, runs, lawful}
+use Rattle.extents_meaning.specs.Maps.{mapOf, mapFor, spaceIn, bytesOf, runs, lawful, listedIn}
 use Rattle.extents_meaning.proofs.Longest.{runs-same, runs-back}
 use Rattle.extents_meaning.proofs.Trips.{lawful-map}
 use Rattle.extents_meaning.proofs.Points.{count-starts}
@@ -21,7 +21,6 @@ use Rattle.extents_meaning.proofs.Passes.{over-before, over-behind}
 use Rattle.extents_map.proofs.Counting.{starts-most}
 use Rattle.extents.specs.declared.Answer.{Answer}
 use Rattle.extents.specs.declared.Answer.the-variants.{Done, Listed, Refused}
-use Rattle.extents_map.specs.Pieces.{listedIn}
 use Rattle.extents_pair.proofs.Rooms.{pieces-there}
 use Rattle.extents.specs.Entries.{orRefused, orKept, countOf, markOf, writeRefusal, writtenMap, listRefusal}
 

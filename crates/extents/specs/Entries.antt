@@ -9,7 +9,7 @@ use Rattle.rows.specs.Questions.{Question, firstNo}
 use Rattle.extents_meaning.specs.Cells.{Bytes, cellOf, overwrite, published, settled, refreshed}
 use Rattle.extents_meaning.specs.Runs.{Run, runsOf, piecesOf}
 use Rattle.extents_meaning.specs.Maps.{mapFor, spaceIn, bytesOf, lawful, withMap}
-use Rattle.extents_pair.specs.Pairs.{twoMaps, viewOf, belowOf}
+use Rattle.extents_meaning.specs.Pairs.{twoMaps, viewOf, belowOf}
 use Rattle.extents.specs.declared.Answer.{Answer}
 use Rattle.extents.specs.declared.Answer.the-variants.{Listed, Refused}
 

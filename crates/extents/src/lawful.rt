@@ -7,9 +7,8 @@ ghost use lib.ListN.{length};
 ghost use lib.Dec.{ltb};
 ghost use Rattle.extents_meaning.specs.Cells.{cellOf, refreshed};
 ghost use Rattle.extents_meaning.specs.Runs.{piecesOf};
-ghost use Rattle.extents_meaning.specs.Maps.{bytesOf, lawful};
-ghost use Rattle.extents_map.specs.Pieces.{listedIn};
-ghost use Rattle.extents_pair.specs.Pairs.{twoMaps, viewOf, belowOf};
+ghost use Rattle.extents_meaning.specs.Maps.{bytesOf, lawful, listedIn};
+ghost use Rattle.extents_meaning.specs.Pairs.{twoMaps, viewOf, belowOf};
 ghost use Rattle.extents.specs.Entries.{orRefused, orKept, countOf, markOf, writeRefusal, writtenMap, listRefusal, publishRefusal, publishedMaps, refreshRefusal, refreshedMaps, syncRefusal, syncedMaps, postRefusal, postedMaps, readRefusal};
 ghost use Rattle.extents.specs.declared.Answer.the-variants.{Done};
 

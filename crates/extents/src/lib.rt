@@ -3,10 +3,9 @@ ghost use mathlib.Core.Path.{_≡_};
 ghost use lib.ListN.{length};
 ghost use Rattle.extents_meaning.specs.Cells.{refreshed};
 ghost use Rattle.extents_meaning.specs.Runs.{piecesOf};
-ghost use Rattle.extents_meaning.specs.Maps.{bytesOf, lawful, lawfulPublished};
-ghost use Rattle.extents_map.specs.Pieces.{listedIn};
+ghost use Rattle.extents_meaning.specs.Maps.{bytesOf, lawful, lawfulPublished, listedIn};
 ghost use Rattle.extents.specs.Entries.{orRefused, orKept, countOf, writeRefusal, writtenMap, listRefusal, publishRefusal, publishedMaps, refreshRefusal, refreshedMaps, syncRefusal, syncedMaps, postRefusal, postedMaps, readRefusal};
-ghost use Rattle.extents_pair.specs.Pairs.{viewOf, belowOf};
+ghost use Rattle.extents_meaning.specs.Pairs.{viewOf, belowOf};
 ghost use Rattle.extents.specs.declared.Answer.the-variants.{Done};
 
 pub mod lawful;

@@ -7,10 +7,6 @@ use Rattle.rows.specs.Limits.{OFFSET-MAX}
 use Rattle.extents_meaning.specs.Runs.{Run}
 use Rattle.extents_meaning.specs.Maps.{threes}
 
--- pieces at the front of the answer slice, which keeps the rest
-abbrev pub listedIn : List Run → List ℕ → List ℕ
-listedIn pieces out = threes pieces ++ drop (length (threes pieces)) out
-
 -- there is room for a piece behind n others, or for its bytes in the last of them where that has its value
 pub record Room (xs : List ℕ) (n last size value : ℕ) : Type 0 where
   pub some : 1 ≤ value

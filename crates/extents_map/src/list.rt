@@ -4,8 +4,8 @@ ghost use mathlib.Core.Path.{_≡_};
 ghost use mathlib.Core.Bool.{true};
 ghost use lib.ListN.{length};
 ghost use Rattle.extents_meaning.specs.Runs.{piecesOf};
-ghost use Rattle.extents_meaning.specs.Maps.{bytesOf, lawful};
-ghost use Rattle.extents_map.specs.Pieces.{listedIn, Room, Put};
+ghost use Rattle.extents_meaning.specs.Maps.{bytesOf, lawful, listedIn};
+ghost use Rattle.extents_map.specs.Pieces.{Room, Put};
 
 // Puts the pieces of a range of a map into a slice that has room for them, and answers their count.
 pub fn list(map: &[u32], from: u32, to: u32, out: &mut [u32]) -> usize

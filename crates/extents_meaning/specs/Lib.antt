@@ -2,3 +2,4 @@ pub mod Cells
 pub mod Runs
 pub mod Maps
 pub mod Points
+pub mod Pairs

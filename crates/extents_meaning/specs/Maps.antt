@@ -95,3 +95,7 @@ mapAt space k xs = take (4 * space) (drop (k * (4 * space)) xs)
 -- the slice with another map k
 abbrev pub withMap : ℕ → ℕ → List ℕ → List ℕ → List ℕ
 withMap space k m xs = (take (k * (4 * space)) xs ++ m) ++ drop (k * (4 * space) + 4 * space) xs
+
+-- pieces at the front of the answer slice, which keeps the rest
+abbrev pub listedIn : List Run → List ℕ → List ℕ
+listedIn pieces out = threes pieces ++ drop (length (threes pieces)) out

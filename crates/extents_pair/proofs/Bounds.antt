@@ -18,7 +18,7 @@ use Rattle.extents_meaning.proofs.Trips.{lawful-map}
 use Rattle.extents_meaning.proofs.Points.{news, news-same, news-most, count-starts, runs-by}
 use Rattle.extents_meaning.proofs.Passes.{over-in, over-before, over-behind}
 use Rattle.extents_map.specs.Mixes.{PUBLISH, SETTLE, REFRESH, mixed, mix}
-use Rattle.extents_pair.specs.Pairs.{twoMaps, viewOf, belowOf}
+use Rattle.extents_meaning.specs.Pairs.{twoMaps, viewOf, belowOf}
 use Rattle.extents_pair.specs.Packing.{marked, Marked}
 use Rattle.extents_pair.proofs.Spots.{noRun, here-at}
 use Rattle.extents_pair.proofs.Gathering.{marked-all, marked-fewer, marked-mean}

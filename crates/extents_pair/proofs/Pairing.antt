@@ -19,7 +19,7 @@ use Rattle.extents_meaning.proofs.Longest.{runs-back}
 use Rattle.extents_meaning.proofs.Trips.{lawful-map}
 use Rattle.rows.proofs.Bools.{and-out}
 use Rattle.extents_meaning.proofs.Sides.{part-is, with-part}
-use Rattle.extents_pair.specs.Pairs.{twoMaps}
+use Rattle.extents_meaning.specs.Pairs.{twoMaps}
 use Rattle.extents_pair.proofs.Parts.{lent, home, part-length, laid-fit}
 use Rattle.extents_pair.proofs.Spots.{zero-behind}
 

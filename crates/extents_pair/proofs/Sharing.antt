@@ -20,7 +20,7 @@ use Rattle.extents_meaning.proofs.Trips.{lawful-map}
 use Rattle.rows.proofs.Bools.{and-out}
 use Rattle.extents_pair.specs.declared.share.Stroke.{Stroke}
 use Rattle.extents_map.specs.Mixes.{PUBLISH, mixed, mix}
-use Rattle.extents_pair.specs.Pairs.{twoMaps, viewOf, belowOf}
+use Rattle.extents_meaning.specs.Pairs.{twoMaps, viewOf, belowOf}
 use Rattle.extents_pair.specs.Packing.{marked}
 use Rattle.extents_pair.specs.Strokes.{strokeOf, strokes, filled, downs, taken, partAt, withPart, Two, sunk, raised, withBytes, Ready}
 use Rattle.extents_pair.proofs.Gathering.{published-none}

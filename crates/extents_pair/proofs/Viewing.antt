@@ -20,7 +20,7 @@ use Rattle.extents_meaning.specs.Maps.{fours, mapOf, mapFor, spaceIn, runs, byt
 use Rattle.extents_meaning.proofs.Longest.{runs-same}
 use Rattle.extents_meaning.proofs.Trips.{lawful-map, map-back, map-lawful}
 use Rattle.rows.proofs.Bools.{and-out}
-use Rattle.extents_pair.specs.Pairs.{twoMaps, viewOf, belowOf}
+use Rattle.extents_meaning.specs.Pairs.{twoMaps, viewOf, belowOf}
 use Rattle.extents_pair.specs.Packing.{marked, Marked, partAt, withPart, packedIn, mergedOf, Packed}
 use Rattle.extents_pair.proofs.Spots.{outside, zero-behind}
 use Rattle.extents_pair.proofs.Gathering.{marked-all, marked-lawful, marked-refresh, refreshed-none}

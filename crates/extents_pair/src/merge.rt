@@ -8,7 +8,7 @@ ghost use lib.Dec.{eqb};
 ghost use Rattle.extents_meaning.specs.Cells.{settled, refreshed};
 ghost use Rattle.extents_meaning.specs.Runs.{runsOf};
 ghost use Rattle.extents_meaning.specs.Maps.{fours, mapFor, spaceIn, runs, bytesOf, lawful, mapAt, withMap};
-ghost use Rattle.extents_pair.specs.Pairs.{twoMaps, viewOf, belowOf};
+ghost use Rattle.extents_meaning.specs.Pairs.{twoMaps, viewOf, belowOf};
 ghost use Rattle.extents_pair.specs.Packing.{marked, Meet, Alone, withPart, mergedOf, Packed};
 
 // Marks the unpublished runs of a map published, of which there are `own`: a mark is put to 0 where no neighbour touches the run with the same

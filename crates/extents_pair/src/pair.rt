@@ -7,10 +7,9 @@ ghost use lib.ListN.{length};
 ghost use lib.Dec.{leb, ltb};
 ghost use Rattle.extents_meaning.specs.Cells.{numberIn, overwrite, settled, refreshed};
 ghost use Rattle.extents_meaning.specs.Runs.{runsFrom, runsOf, piecesOf};
-ghost use Rattle.extents_meaning.specs.Maps.{mapFor, runs, bytesOf, lawful, mapAt, withMap};
+ghost use Rattle.extents_meaning.specs.Maps.{mapFor, runs, bytesOf, lawful, mapAt, withMap, listedIn};
 ghost use Rattle.extents_map.specs.Mixes.{mix};
-ghost use Rattle.extents_map.specs.Pieces.{listedIn};
-ghost use Rattle.extents_pair.specs.Pairs.{twoMaps, viewOf, belowOf};
+ghost use Rattle.extents_meaning.specs.Pairs.{twoMaps, viewOf, belowOf};
 ghost use Rattle.extents_pair.specs.Packing.{marked};
 
 // Two lawful maps at two places of a slice, the second one published.

@@ -11,7 +11,7 @@ ghost use Rattle.extents_meaning.specs.Cells.{numberIn, cellOf, unpublished, ov
 ghost use Rattle.extents_meaning.specs.Runs.{runOf, runsOf};
 ghost use Rattle.extents_meaning.specs.Maps.{mapFor, spaceIn, runs, bytesOf, lawful, mapAt, withMap};
 ghost use Rattle.extents_map.specs.Mixes.{PUBLISH, mix};
-ghost use Rattle.extents_pair.specs.Pairs.{twoMaps, viewOf, belowOf};
+ghost use Rattle.extents_meaning.specs.Pairs.{twoMaps, viewOf, belowOf};
 ghost use Rattle.extents_pair.specs.Packing.{marked};
 ghost use Rattle.extents_pair.specs.Strokes.{within, stroke, filled, partAt, withBytes, Two, sunk, raised, Ready};
 

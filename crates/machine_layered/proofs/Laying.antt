@@ -17,7 +17,7 @@ use Rattle.rows.specs.declared.Row.{Row}
 use Rattle.rows.specs.Questions.{Question, firstNo}
 use Rattle.extents_meaning.specs.Cells.{Bytes, cellOf, overwrite, published, settled, refreshed}
 use Rattle.extents_meaning.specs.Runs.{Run, runsOf, piecesOf}
-use Rattle.extents_meaning.specs.Maps.{mapFor, threes, bytesOf, lawful, lawfulPublished, mapAt, withMap}
+use Rattle.extents_meaning.specs.Maps.{mapFor, threes, bytesOf, lawful, lawfulPublished, mapAt, withMap, listedIn}
 use Rattle.rows.proofs.Bools.{and-out}
 use Rattle.extents_meaning.proofs.Sides.{with-same}
 use Rattle.machine_meaning.specs.Layers.{Layers, afterRow, piecesRead}
@@ -27,13 +27,11 @@ use Rattle.machine_meaning.specs.Steps.{Answer, done, listed, rowAsked, roomAsk
 use Rattle.machine_meaning.proofs.Slices.{Alike, alike-fit, alike-to}
 use Rattle.machine_meaning.proofs.Lawful.{here-fit, to-same}
 use Rattle.machine_meaning.proofs.Stepping.{AllYes}
-use Rattle.extents_map.specs.Pieces.{listedIn}
 use Rattle.extents.specs.declared.Answer as extents
 use Rattle.extents.specs.declared.Answer.the-variants.{Done, Refused}
-use Rattle.extents_pair.specs.Pairs.{twoMaps, viewOf, belowOf}
+use Rattle.extents_meaning.specs.Pairs.{twoMaps, viewOf, belowOf}
 use Rattle.extents.specs.Entries.{bothMaps, orRefused, orKept, countOf, writeRefusal, writtenMap, listRefusal, publishRefusal, publishedMaps, refreshRefusal, refreshedMaps, syncRefusal, syncedMaps, postRefusal, postedMaps, readRefusal}
-use Rattle.extents_pair.proofs.Parts.{home}
-use Rattle.extents_pair.proofs.Pairing.{two-told, lentMap, map-lent, map-space}
+use Rattle.extents.proofs.Lent.{home, two-told, lentMap, map-lent, map-space}
 use Rattle.machine_state.specs.Answers.{answerOf, Steps, Ready}
 use Rattle.machine_state.proofs.Maps.{first-map, state-two, state-view, state-in, anew, fit-both, to-both, to-view-alone, shared′, view′, row-both}
 use Rattle.machine_state.proofs.Questions.{no-none, no-behind, no-before, room-named, asked-yes, asked-process, asked-range}

@@ -14,14 +14,13 @@ use Rattle.rows.specs.declared.Row.{Row}
 use Rattle.rows.specs.Questions.{firstNo}
 use Rattle.extents_meaning.specs.Cells.{Bytes, cellOf, overwrite}
 use Rattle.extents_meaning.specs.Runs.{Run, runsOf, piecesOf}
-use Rattle.extents_meaning.specs.Maps.{mapFor, threes, spaceIn, bytesOf, lawful, lawfulPublished, mapAt}
+use Rattle.extents_meaning.specs.Maps.{mapFor, threes, spaceIn, bytesOf, lawful, lawfulPublished, mapAt, listedIn}
 use Rattle.rows.proofs.Bools.{and-out}
 use Rattle.machine_meaning.specs.Layers.{afterPlain, piecesRead}
 use Rattle.machine_meaning.specs.States.{Header, processLimit, lawfulPlain, plainIn, plainTo, plainFits}
 use Rattle.machine_meaning.specs.Steps.{Answer, done, listed, plainMakingQuestions, rowAsked, roomAsked, plainStepOf}
 use Rattle.machine_meaning.proofs.Lawful.{here-fit, here-again}
 use Rattle.machine_meaning.proofs.Stepping.{AllYes}
-use Rattle.extents_map.specs.Pieces.{listedIn}
 use Rattle.extents.specs.declared.Answer as extents
 use Rattle.extents.specs.declared.Answer.the-variants.{Done, Refused}
 use Rattle.extents.specs.Entries.{orRefused, orKept, countOf, writeRefusal, writtenMap, listRefusal}

@@ -29,7 +29,7 @@ use Rattle.machine_meaning.proofs.Lawful.{to-is, here-fit, state-told, state-pa
 use Rattle.extents_meaning.proofs.Trips.{length-map}
 use Rattle.rows.proofs.Bools.{and-out, not-passed}
 use Rattle.extents_meaning.proofs.Sides.{with-length, with-other, at-same, at-other}
-use Rattle.extents_pair.specs.Pairs.{twoMaps}
+use Rattle.extents_meaning.specs.Pairs.{twoMaps}
 use Rattle.extents.specs.Entries.{bothMaps}
 
 -- ---- Numbers below a bound

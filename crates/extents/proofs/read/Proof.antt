@@ -1,8 +1,8 @@
 -- `extents::read` meets its contract. Assumes nothing.
 use borrow.Author.Needs.{needs}
 use Rattle.extents.proofs.Doubles.{refused-both, read-unlawful}
-use Rattle.extents_map.specs.Pieces.{listedIn}
-use Rattle.extents_pair.specs.Pairs.{viewOf, belowOf}
+use Rattle.extents_meaning.specs.Maps.{listedIn}
+use Rattle.extents_meaning.specs.Pairs.{viewOf, belowOf}
 use Rattle.extents.specs.Entries.{refreshedMaps, countOf}
 use Rattle.extents_meaning.specs.Runs.{piecesOf}
 use Rattle.extents_meaning.specs.Cells.{refreshed}

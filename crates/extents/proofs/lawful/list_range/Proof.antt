@@ -2,9 +2,8 @@
 use borrow.Author.Needs.{needs}
 use Rattle.extents.proofs.Entering.{refused, list-past, list-full, list-fits, pieces-most, accepted-list}
 use Rattle.extents_pair.proofs.Rooms.{pieces-there, slice-short, slice-enough}
-use Rattle.extents_map.specs.Pieces.{listedIn}
+use Rattle.extents_meaning.specs.Maps.{listedIn, bytesOf}
 use Rattle.extents.specs.Entries.{countOf}
-use Rattle.extents_meaning.specs.Maps.{bytesOf}
 use Rattle.extents_meaning.specs.Runs.{Run, piecesOf}
 use denote.Ref.{now}
 use lib.ListN.{length}

@@ -3,8 +3,8 @@ use borrow.Author.Needs.{needs}
 use Rattle.extents.proofs.Doubles.{view-in-fresh, view-law-fresh, pieces-fresh, refused-both, refresh-enough, refresh-short, read-past, read-full, read-long, read-done}
 use Rattle.extents.proofs.Entering.{pieces-most}
 use Rattle.extents_pair.proofs.Rooms.{slice-short, slice-enough}
-use Rattle.extents_map.specs.Pieces.{listedIn}
-use Rattle.extents_pair.specs.Pairs.{viewOf, belowOf}
+use Rattle.extents_meaning.specs.Maps.{listedIn}
+use Rattle.extents_meaning.specs.Pairs.{viewOf, belowOf}
 use Rattle.extents.specs.Entries.{refreshedMaps, countOf}
 use Rattle.extents_meaning.specs.Runs.{Run, piecesOf}
 use Rattle.extents_meaning.specs.Cells.{refreshed}

@@ -9,7 +9,7 @@ use denote.Ref.{now}
 use Rattle.extents_meaning.specs.Cells.{Bytes}
 use Rattle.extents_meaning.specs.Runs.{runsFrom}
 use Rattle.extents_map.specs.Mixes.{mix}
-use Rattle.extents_pair.specs.Pairs.{viewOf, belowOf}
+use Rattle.extents_meaning.specs.Pairs.{viewOf, belowOf}
 use Rattle.extents_pair.proofs.Bounds.{all-most}
 use Rattle.extents_pair.proofs.pair.fits.Statement.{statement}
 use Rattle.extents_pair.proofs.pair.fits.Tie as tie

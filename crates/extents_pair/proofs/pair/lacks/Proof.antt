@@ -4,7 +4,7 @@ use native.Mathlib.Omega.{arith}
 use mathlib.Core.Path.{ap}
 use lib.Dec.{ltb}
 use denote.Ref.{now}
-use Rattle.extents_pair.specs.Pairs.{viewOf, belowOf}
+use Rattle.extents_meaning.specs.Pairs.{viewOf, belowOf}
 use Rattle.extents_pair.proofs.Rooms.{fresh-enough, fresh-counted}
 use Rattle.extents_pair.proofs.pair.lacks.Statement.{statement}
 use Rattle.extents_pair.proofs.pair.lacks.Tie as tie

@@ -7,8 +7,7 @@ use mathlib.Core.List.{List}
 use lib.ListN.{length}
 use denote.Ref.{now}
 use Rattle.extents_meaning.specs.Runs.{piecesOf}
-use Rattle.extents_meaning.specs.Maps.{bytesOf, lawful}
-use Rattle.extents_map.specs.Pieces.{listedIn}
+use Rattle.extents_meaning.specs.Maps.{bytesOf, lawful, listedIn}
 use Rattle.extents_pair.proofs.Pairing.{map-lent}
 use Rattle.extents_pair.proofs.pair.list.Statement.{statement}
 use Rattle.extents_pair.proofs.pair.list.Tie as tie
