@@ -11,6 +11,7 @@ ghost use Rattle.extents_meaning.specs.Maps.{bytesOf, lawful, listedIn};
 ghost use Rattle.extents_meaning.specs.Pairs.{twoMaps, viewOf, belowOf};
 ghost use Rattle.extents.specs.Entries.{orRefused, orKept, countOf, markOf, writeRefusal, writtenMap, listRefusal, publishRefusal, publishedMaps, refreshRefusal, refreshedMaps, syncRefusal, syncedMaps, postRefusal, postedMaps, readRefusal};
 ghost use Rattle.extents.specs.declared.Answer.the-variants.{Done};
+use rows::refusal;
 
 // Gives a range of a map a row number and a mark.
 pub fn write(map: &mut [u32], start: u32, length: u32, number: u32, unpublished: bool) -> Answer
@@ -20,13 +21,13 @@ pub fn write(map: &mut [u32], start: u32, length: u32, number: u32, unpublished:
         (writtenMap (now (map .entry)) start length number unpublished) (now (map .entry)) ⌝ }
 {
     if number < 1 {
-        return Answer::Refused(14);
+        return Answer::Refused(refusal::ROW_NUMBER);
     }
-    if 4096 < number {
-        return Answer::Refused(14);
+    if rows::ROWS < number {
+        return Answer::Refused(refusal::ROW_NUMBER);
     }
-    if 4294967295 - start < length {
-        return Answer::Refused(11);
+    if rows::OFFSET_MAX - start < length {
+        return Answer::Refused(refusal::RANGE_END);
     }
     if length == 0 {
         return Answer::Done;
@@ -34,7 +35,7 @@ pub fn write(map: &mut [u32], start: u32, length: u32, number: u32, unpublished:
     if extents_map::splice::lay(map, start, start + length, cell_of(number, unpublished)) {
         Answer::Done
     } else {
-        Answer::Refused(16)
+        Answer::Refused(refusal::MAP_SPACE)
     }
 }
 
@@ -56,11 +57,11 @@ pub fn list_range(map: &[u32], start: u32, length: u32, out: &mut [u32]) -> Answ
     ensures left { λ r. ⌜ now (out .exit) ≡ orKept (listRefusal (now (map .entry)) start length (lib.ListN.length (now (out .entry))))
         (listedIn (piecesOf (bytesOf (now (map .entry))) start length) (now (out .entry))) (now (out .entry)) ⌝ }
 {
-    if 4294967295 - start < length {
-        return Answer::Refused(11);
+    if rows::OFFSET_MAX - start < length {
+        return Answer::Refused(refusal::RANGE_END);
     }
     if lacks(map, start, start + length, out.len() / 3) {
-        return Answer::Refused(17);
+        return Answer::Refused(refusal::ANSWER_SPACE);
     }
     let n = extents_map::list::list(map, start, start + length, out);
     Answer::Listed(n as u32)
@@ -87,7 +88,7 @@ pub fn publish(maps: &mut [u32], space: usize, view: usize, below: usize) -> Ans
 {
     let own = extents_pair::pair::own_runs(maps, space, view);
     if !extents_pair::pair::fits(maps, space, view, below, own, 0, 0, 0, 0) {
-        return Answer::Refused(16);
+        return Answer::Refused(refusal::MAP_SPACE);
     }
     extents_pair::share::share(maps, space, view, below, own, 0, 0, 0);
     extents_pair::pair::settle(maps, space, view, own);
@@ -103,7 +104,7 @@ pub fn refresh(maps: &mut [u32], space: usize, view: usize, below: usize) -> Ans
 {
     let own = extents_pair::pair::own_runs(maps, space, view);
     if !extents_pair::pair::fits(maps, space, view, below, own, 2, 0, 0, 0) {
-        return Answer::Refused(16);
+        return Answer::Refused(refusal::MAP_SPACE);
     }
     extents_pair::merge::refresh(maps, space, view, below, own);
     Answer::Done
@@ -118,7 +119,7 @@ pub fn sync(maps: &mut [u32], space: usize, view: usize, below: usize) -> Answer
 {
     let own = extents_pair::pair::own_runs(maps, space, view);
     if !extents_pair::pair::fits(maps, space, view, below, own, 0, 0, 0, 0) {
-        return Answer::Refused(16);
+        return Answer::Refused(refusal::MAP_SPACE);
     }
     extents_pair::share::share(maps, space, view, below, own, 0, 0, 0);
     extents_pair::pair::copy(maps, space, below, view);
@@ -141,22 +142,22 @@ pub fn post(
         (postedMaps space view below (now (maps .entry)) start length number) (now (maps .entry)) ⌝ }
 {
     if number < 1 {
-        return Answer::Refused(14);
+        return Answer::Refused(refusal::ROW_NUMBER);
     }
-    if 4096 < number {
-        return Answer::Refused(14);
+    if rows::ROWS < number {
+        return Answer::Refused(refusal::ROW_NUMBER);
     }
-    if 4294967295 - start < length {
-        return Answer::Refused(11);
+    if rows::OFFSET_MAX - start < length {
+        return Answer::Refused(refusal::RANGE_END);
     }
     let end = start + length;
     let cell = number * 2;
     let own = extents_pair::pair::own_runs(maps, space, view);
     if !extents_pair::pair::fits(maps, space, view, below, own, 0, start, end, cell) {
-        return Answer::Refused(16);
+        return Answer::Refused(refusal::MAP_SPACE);
     }
     if !extents_pair::pair::fits(maps, space, view, below, own, 1, start, end, cell) {
-        return Answer::Refused(16);
+        return Answer::Refused(refusal::MAP_SPACE);
     }
     extents_pair::share::share(maps, space, view, below, own, start, end, number);
     extents_pair::pair::settle(maps, space, view, own);
@@ -187,16 +188,16 @@ pub fn read(
         (listedIn (piecesOf (refreshed (viewOf space view below (now (maps .entry))) (belowOf space view below (now (maps .entry)))) start length)
         (now (out .entry))) (now (out .entry)) ⌝ }
 {
-    if 4294967295 - start < length {
-        return Answer::Refused(11);
+    if rows::OFFSET_MAX - start < length {
+        return Answer::Refused(refusal::RANGE_END);
     }
     let end = start + length;
     let own = extents_pair::pair::own_runs(maps, space, view);
     if !extents_pair::pair::fits(maps, space, view, below, own, 2, 0, 0, 0) {
-        return Answer::Refused(16);
+        return Answer::Refused(refusal::MAP_SPACE);
     }
     if extents_pair::pair::lacks(maps, space, view, below, own, start, end, out.len() / 3) {
-        return Answer::Refused(17);
+        return Answer::Refused(refusal::ANSWER_SPACE);
     }
     extents_pair::merge::refresh(maps, space, view, below, own);
     let n = extents_pair::pair::list(maps, space, view, start, end, out);

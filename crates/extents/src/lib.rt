@@ -10,6 +10,8 @@ ghost use Rattle.extents.specs.declared.Answer.the-variants.{Done};
 
 pub mod lawful;
 
+use rows::refusal;
+
 // Nothing to list, a count of pieces, or a refusal's number.
 pub enum Answer {
     Done,
@@ -38,7 +40,7 @@ pub fn write(map: &mut [u32], start: u32, length: u32, number: u32, unpublished:
         (writtenMap (now (map .entry)) start length number unpublished) (now (map .entry)) ⌝ }
 {
     if !extents_map::scan::is_lawful(map) {
-        return Answer::Refused(13);
+        return Answer::Refused(refusal::STATE);
     }
     lawful::write(map, start, length, number, unpublished)
 }
@@ -51,7 +53,7 @@ pub fn list_range(map: &[u32], start: u32, length: u32, out: &mut [u32]) -> Answ
         (listedIn (piecesOf (bytesOf (now (map .entry))) start length) (now (out .entry))) (now (out .entry)) ⌝ }
 {
     if !extents_map::scan::is_lawful(map) {
-        return Answer::Refused(13);
+        return Answer::Refused(refusal::STATE);
     }
     lawful::list_range(map, start, length, out)
 }
@@ -63,7 +65,7 @@ pub fn publish(maps: &mut [u32], space: usize, view: usize, below: usize) -> Ans
         (publishedMaps space view below (now (maps .entry))) (now (maps .entry)) ⌝ }
 {
     if !extents_pair::pair::two_maps(maps, space, view, below) {
-        return Answer::Refused(13);
+        return Answer::Refused(refusal::STATE);
     }
     lawful::publish(maps, space, view, below)
 }
@@ -75,7 +77,7 @@ pub fn refresh(maps: &mut [u32], space: usize, view: usize, below: usize) -> Ans
         (refreshedMaps space view below (now (maps .entry))) (now (maps .entry)) ⌝ }
 {
     if !extents_pair::pair::two_maps(maps, space, view, below) {
-        return Answer::Refused(13);
+        return Answer::Refused(refusal::STATE);
     }
     lawful::refresh(maps, space, view, below)
 }
@@ -87,7 +89,7 @@ pub fn sync(maps: &mut [u32], space: usize, view: usize, below: usize) -> Answer
         (syncedMaps space view below (now (maps .entry))) (now (maps .entry)) ⌝ }
 {
     if !extents_pair::pair::two_maps(maps, space, view, below) {
-        return Answer::Refused(13);
+        return Answer::Refused(refusal::STATE);
     }
     lawful::sync(maps, space, view, below)
 }
@@ -107,7 +109,7 @@ pub fn post(
         (postedMaps space view below (now (maps .entry)) start length number) (now (maps .entry)) ⌝ }
 {
     if !extents_pair::pair::two_maps(maps, space, view, below) {
-        return Answer::Refused(13);
+        return Answer::Refused(refusal::STATE);
     }
     lawful::post(maps, space, view, below, start, length, number)
 }
@@ -133,7 +135,7 @@ pub fn read(
         (now (out .entry))) (now (out .entry)) ⌝ }
 {
     if !extents_pair::pair::two_maps(maps, space, view, below) {
-        return Answer::Refused(13);
+        return Answer::Refused(refusal::STATE);
     }
     lawful::read(maps, space, view, below, start, length, out)
 }

@@ -67,13 +67,13 @@ fn may_follow(end: u32, cell: u32, start: u32, length: u32, number: u32, mark: u
     if start < end {
         return false;
     }
-    if 4294967295 - start < length {
+    if rows::OFFSET_MAX - start < length {
         return false;
     }
     if number < 1 {
         return false;
     }
-    if 4096 < number {
+    if rows::ROWS < number {
         return false;
     }
     if 1 < mark {
@@ -130,7 +130,7 @@ pub fn see(map: &[u32], from: usize, x: u32) -> Look
         if length == 0 {
             return Look {
                 cell: 0,
-                next: 4294967295,
+                next: rows::OFFSET_MAX,
                 at: i,
             };
         }
@@ -153,7 +153,7 @@ pub fn see(map: &[u32], from: usize, x: u32) -> Look
     }
     Look {
         cell: 0,
-        next: 4294967295,
+        next: rows::OFFSET_MAX,
         at: i,
     }
 }
@@ -267,7 +267,7 @@ fn edge(start: u32, end: u32, x: u32) -> u32
     if x < end {
         return end;
     }
-    4294967295
+    rows::OFFSET_MAX
 }
 
 // The smaller of two numbers.

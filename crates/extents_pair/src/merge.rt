@@ -187,7 +187,7 @@ fn interleave(
     let mut n = 0;
     let mut i = 0;
     let mut x = 0;
-    while x < 4294967295 {
+    while x < rows::OFFSET_MAX {
         let gap = start_of(maps, v, j, space);
         if gap == x {
             let from = v + j * 4;
@@ -234,7 +234,7 @@ fn start_of(maps: &[u32], v: usize, j: usize, space: usize) -> u32
     ensures { λ r. ⌜ (space ≤ j → r ≡ 4294967295) × (j < space → r ≡ getD (now (maps .entry)) (v + j * 4) 0) ⌝ }
 {
     if space <= j {
-        return 4294967295;
+        return rows::OFFSET_MAX;
     }
     maps[v + j * 4]
 }

@@ -118,7 +118,7 @@ pub fn fits(
         below,
         mode,
         0,
-        4294967295,
+        rows::OFFSET_MAX,
         start,
         end,
         cell,

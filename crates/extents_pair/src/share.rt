@@ -46,12 +46,12 @@ pub fn share(
         put(&mut maps[w..w + size], start, end, cell);
         return;
     }
-    pass_down(maps, size, v, w, end, 4294967295);
+    pass_down(maps, size, v, w, end, rows::OFFSET_MAX);
     fill(&mut maps[w..w + size], start, end);
     pass_down(maps, size, v, w, 0, start);
     pass_up(maps, size, v, w, 0, start);
     put(&mut maps[w..w + size], start, end, cell);
-    pass_up(maps, size, v, w, end, 4294967295);
+    pass_up(maps, size, v, w, end, rows::OFFSET_MAX);
 }
 
 // Lays the unpublished runs of a view on the published map one by one, where there is room for two runs more for each.
@@ -65,7 +65,7 @@ fn lay_own(maps: &mut [u32], size: usize, v: usize, w: usize)
     while 0 < i {
         i -= 1;
         if is_own(&maps[v..v + size], i) {
-            let s = stroke_at(&maps[v..v + size], i, 0, 4294967295);
+            let s = stroke_at(&maps[v..v + size], i, 0, rows::OFFSET_MAX);
             put(&mut maps[w..w + size], s.from, s.to, s.cell);
         }
     }
@@ -175,7 +175,7 @@ fn cell_behind(map: &[u32], x: u32) -> u32
     requires { ⌜ lawful (now map) ≡ true ⌝ }
     ensures { λ r. ⌜ r ≡ bytesOf (now (map .entry)) x ⌝ }
 {
-    if x == 4294967295 {
+    if x == rows::OFFSET_MAX {
         return 0;
     }
     let from = extents_map::scan::seek(map, x);

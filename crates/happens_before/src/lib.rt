@@ -7,6 +7,7 @@ ghost use Rattle.happens_before.specs.Order.{delivers};
 ghost use Rattle.happens_before.specs.Clock.{lastOf, cellIn, withRow, joinedRow, joinedLast, joinedSends, withOwn, filledRow};
 ghost use Rattle.rows.specs.Rows.{rowIn};
 ghost use Rattle.happens_before.specs.Filling.{processesIn, fillQuestions, filledOf, filledLeft};
+use rows::refusal;
 
 // The counts were filled, or the number of the question that was answered No.
 pub enum Filled {
@@ -40,19 +41,19 @@ fn ask_rows(rows: &[u32], n: u32, process_limit: u32, counts_len: usize) -> u32
     ensures { λ r. ⌜ r ≡ firstNo (fillQuestions n «process_limit» (now (rows .entry)) «counts_len») ⌝ }
 {
     if !slices_fit(n, process_limit, rows.len(), counts_len) {
-        return 1;
+        return refusal::SHORT_SLICE;
     }
     if rows::ROWS < n {
-        return 2;
+        return refusal::LIMITS;
     }
     if process_limit < 1 {
-        return 2;
+        return refusal::LIMITS;
     }
     if rows::PROCESSES < process_limit {
-        return 2;
+        return refusal::LIMITS;
     }
     if !processes_in(rows, n as usize, process_limit) {
-        return 10;
+        return refusal::RANGE;
     }
     0
 }
@@ -61,7 +62,7 @@ fn ask_rows(rows: &[u32], n: u32, process_limit: u32, counts_len: usize) -> u32
 pub fn slices_fit(n: u32, process_limit: u32, rows_len: usize, counts_len: usize) -> bool
     ensures { λ r. ⌜ r ≡ longEnough n «process_limit» «rows_len» «counts_len» ⌝ }
 {
-    if (rows_len as u64) < n as u64 * 6 {
+    if (rows_len as u64) < n as u64 * rows::FIELDS as u64 {
         return false;
     }
     n as u64 * process_limit as u64 <= counts_len as u64
@@ -75,7 +76,7 @@ fn processes_in(rows: &[u32], n: usize, process_limit: u32) -> bool
     let mut i = n;
     while 0 < i {
         i -= 1;
-        let at = i * 6;
+        let at = i * rows::FIELDS;
         if process_limit <= rows[at] {
             return false;
         }
@@ -90,7 +91,7 @@ fn fill_row(rows: &[u32], j: usize, processes: usize, counts: &mut [u16])
     requires { ⌜ ((k : ℕ) → (p : ℕ) → k < j → p < processes → cellIn processes (now counts) k p ≤ 4096) ⌝ }
     ensures { λ r. ⌜ now (counts .exit) ≡ withRow processes (now (counts .entry)) j (filledRow processes (now (rows .entry)) (now (counts .entry)) j) ⌝ }
 {
-    let at = j * 6;
+    let at = j * rows::FIELDS;
     let process = rows[at];
     let last = last_of(rows, j, process);
     join_last(counts, last, j, processes);
@@ -105,7 +106,7 @@ fn last_of(rows: &[u32], j: usize, process: u32) -> usize
 {
     let mut i = j;
     while 0 < i {
-        let at = (i - 1) * 6;
+        let at = (i - 1) * rows::FIELDS;
         if rows[at] == process {
             return i;
         }
@@ -119,15 +120,15 @@ fn receives(rows: &[u32], k: usize, j: usize) -> bool
     requires { ⌜ (k * 6 + 6 ≤ length (now rows)) × (j * 6 + 6 ≤ length (now rows)) ⌝ }
     ensures { λ r. ⌜ r ≡ delivers (rowIn (now (rows .entry)) k) (rowIn (now (rows .entry)) j) ⌝ }
 {
-    let from = k * 6;
-    let to = j * 6;
-    if rows[from + 1] != 6 {
+    let from = k * rows::FIELDS;
+    let to = j * rows::FIELDS;
+    if rows[from + rows::KIND_AT] != rows::SEND {
         return false;
     }
-    if rows[to + 1] != 7 {
+    if rows[to + rows::KIND_AT] != rows::RECV {
         return false;
     }
-    rows[from + 5] == rows[to + 5]
+    rows[from + rows::MESSAGE_AT] == rows[to + rows::MESSAGE_AT]
 }
 
 // The larger of two counts.
@@ -166,8 +167,8 @@ fn join_sends(rows: &[u32], j: usize, processes: usize, counts: &mut [u16])
     requires { ⌜ (j * 6 + 6 ≤ length (now rows)) × (processes ≤ 64) × (j * processes + processes ≤ length (now counts)) ⌝ }
     ensures { λ r. ⌜ now (counts .exit) ≡ withRow processes (now (counts .entry)) j (joinedSends processes (now (rows .entry)) (now (counts .entry)) j) ⌝ }
 {
-    let at = j * 6;
-    if rows[at + 1] != 7 {
+    let at = j * rows::FIELDS;
+    if rows[at + rows::KIND_AT] != rows::RECV {
         return;
     }
     let mut k = 0;

@@ -11,6 +11,7 @@ ghost use Rattle.machine.specs.Replays.{replayOf, plainReplayOf, Replays
 use extents::Answer;
 use machine_state::Machine;
 use rows::Row;
+use rows::refusal;
 
 // A machine over the slice, or the number of the question that was answered No.
 pub enum Made {
@@ -28,16 +29,16 @@ pub fn make(machine: Machine, maps: &mut [u32]) -> Made
     let file = machine.file;
     let runs = machine.map_space as u64 * (limit as u64 + 1);
     if ((maps.len() / 4) as u64) < runs {
-        return Made::Refused(1);
+        return Made::Refused(refusal::SHORT_SLICE);
     }
     if Machine::MODELS <= model {
-        return Made::Refused(2);
+        return Made::Refused(refusal::LIMITS);
     }
     if !machine_state::is_process_limit(limit) {
-        return Made::Refused(2);
+        return Made::Refused(refusal::LIMITS);
     }
     if Machine::FILES <= file {
-        return Made::Refused(10);
+        return Made::Refused(refusal::RANGE);
     }
     let end = runs as usize * 4;
     rows::clear(&mut maps[..end]);
@@ -53,13 +54,13 @@ pub fn make_plain(plain: Machine, map: &mut [u32]) -> Made
     let file = plain.file;
     let space = plain.map_space as usize;
     if map.len() / 4 < space {
-        return Made::Refused(1);
+        return Made::Refused(refusal::SHORT_SLICE);
     }
     if !machine_state::is_process_limit(limit) {
-        return Made::Refused(2);
+        return Made::Refused(refusal::LIMITS);
     }
     if Machine::FILES <= file {
-        return Made::Refused(10);
+        return Made::Refused(refusal::RANGE);
     }
     let end = space * 4;
     rows::clear(&mut map[..end]);
@@ -71,7 +72,7 @@ pub fn step(machine: Machine, maps: &mut [u32], row: Row, number: u32, out: &mut
     ensures { λ r. ⌜ Steps (stepOf (headerOf machine) (now (maps .entry)) row number (now (out .entry))) r (now (maps .exit)) (now (out .exit)) ⌝ }
 {
     if !machine_layered::is_state(machine, maps) {
-        return Answer::Refused(13);
+        return Answer::Refused(refusal::STATE);
     }
     machine_layered::advance(machine, maps, row, number, out)
 }
@@ -81,7 +82,7 @@ pub fn step_plain(plain: Machine, map: &mut [u32], row: Row, number: u32, out: &
     ensures { λ r. ⌜ Steps (plainStepOf (headerOf plain) (now (map .entry)) row number (now (out .entry))) r (now (map .exit)) (now (out .exit)) ⌝ }
 {
     if !machine_plain::is_plain(plain, map) {
-        return Answer::Refused(13);
+        return Answer::Refused(refusal::STATE);
     }
     machine_plain::advance(plain, map, row, number, out)
 }
@@ -111,14 +112,14 @@ pub fn replay(
         return Replayed {
             rows: first,
             pieces: 0,
-            refusal: 1,
+            refusal: refusal::SHORT_SLICE,
         };
     }
     if !machine_layered::is_state(machine, maps) {
         return Replayed {
             rows: first,
             pieces: 0,
-            refusal: 13,
+            refusal: refusal::STATE,
         };
     }
     let mut k = first;
@@ -164,14 +165,14 @@ pub fn replay_plain(
         return Replayed {
             rows: first,
             pieces: 0,
-            refusal: 1,
+            refusal: refusal::SHORT_SLICE,
         };
     }
     if !machine_plain::is_plain(plain, map) {
         return Replayed {
             rows: first,
             pieces: 0,
-            refusal: 13,
+            refusal: refusal::STATE,
         };
     }
     let mut k = first;

@@ -79,8 +79,8 @@ pub fn advance(machine: Machine, maps: &mut [u32], row: Row, number: u32, out: &
     }
     let kind = row.kind;
     match kind {
-        0 => read(machine, maps, row, number, out),
-        1 => write(machine, maps, row, number),
+        rows::READ => read(machine, maps, row, number, out),
+        rows::WRITE => write(machine, maps, row, number),
         _ => share(machine, maps, row, number),
     }
 }
@@ -94,7 +94,7 @@ fn read(machine: Machine, maps: &mut [u32], row: Row, number: u32, out: &mut [u3
     let view = row.process as usize + 1;
     let offset = row.offset;
     let length = row.length;
-    if models::is_refresh(machine.model, 0) {
+    if models::is_refresh(machine.model, rows::READ) {
         return extents::lawful::read(maps, space, view, 0, offset, length, out);
     }
     let size = 4 * space;
@@ -111,7 +111,7 @@ fn write(machine: Machine, maps: &mut [u32], row: Row, number: u32) -> Answer
     let view = row.process as usize + 1;
     let offset = row.offset;
     let length = row.length;
-    if models::is_publish(machine.model, 1) {
+    if models::is_publish(machine.model, rows::WRITE) {
         return extents::lawful::post(maps, space, view, 0, offset, length, number);
     }
     let size = 4 * space;

@@ -54,8 +54,8 @@ pub fn advance(plain: Machine, map: &mut [u32], row: Row, number: u32, out: &mut
     let length = row.length;
     let kind = row.kind;
     match kind {
-        0 => extents::lawful::list_range(&map[..size], offset, length, out),
-        1 => extents::lawful::write(&mut map[..size], offset, length, number, false),
+        rows::READ => extents::lawful::list_range(&map[..size], offset, length, out),
+        rows::WRITE => extents::lawful::write(&mut map[..size], offset, length, number, false),
         _ => Answer::Done,
     }
 }

@@ -13,6 +13,7 @@ ghost use Rattle.machine_meaning.specs.Steps.{rowAsked};
 ghost use Rattle.machine_state.specs.Answers.{headerOf, fileAsked, rangeAsked, refusalOf, countOf};
 use extents::Answer;
 use rows::Row;
+use rows::refusal;
 
 // What a machine serves: a model, processes below a limit, one file, and maps with space for so many pieces each. A plain file's model is not
 // read.
@@ -24,13 +25,13 @@ pub struct Machine {
 }
 
 impl Machine {
-    pub const MODELS: u32 = 4;
+    pub const MODELS: u32 = rows::MODELS;
 
-    pub const PROCESSES: u32 = 64;
+    pub const PROCESSES: u32 = rows::PROCESSES;
 
-    pub const FILES: u32 = 64;
+    pub const FILES: u32 = rows::FILES;
 
-    pub const ROWS: u32 = 4096;
+    pub const ROWS: u32 = rows::ROWS;
 
     // The header of an empty machine.
     pub fn fresh(model: u32, process_limit: u32, file: u32, map_space: u32) -> Machine
@@ -62,11 +63,11 @@ pub fn ask_row(machine: Machine, row: Row, number: u32) -> u32
     let kind = row.kind;
     match kind {
         // read, write: process, file, offset and length
-        0 | 1 => ask_range(machine, row, number),
+        rows::READ | rows::WRITE => ask_range(machine, row, number),
         // commit, open, close, sync: process and file
-        2 | 3 | 4 | 5 => ask_file(machine, row, number),
+        rows::COMMIT | rows::OPEN | rows::CLOSE | rows::SYNC => ask_file(machine, row, number),
         // send, recv and numbers that are no kind: no file
-        _ => 15,
+        _ => refusal::OF_FILE,
     }
 }
 
@@ -75,16 +76,16 @@ fn ask_file(machine: Machine, row: Row, number: u32) -> u32
     ensures { λ r. ⌜ r ≡ firstNo (fileAsked (headerOf machine) row number) ⌝ }
 {
     if row.file != machine.file {
-        return 15;
+        return refusal::OF_FILE;
     }
     if number < 1 {
-        return 14;
+        return refusal::ROW_NUMBER;
     }
     if Machine::ROWS < number {
-        return 14;
+        return refusal::ROW_NUMBER;
     }
     if machine.process_limit <= row.process {
-        return 10;
+        return refusal::RANGE;
     }
     0
 }
@@ -99,8 +100,8 @@ fn ask_range(machine: Machine, row: Row, number: u32) -> u32
     }
     let offset = row.offset;
     let length = row.length;
-    if 4294967295 - offset < length {
-        return 11;
+    if rows::OFFSET_MAX - offset < length {
+        return refusal::RANGE_END;
     }
     0
 }
@@ -112,7 +113,8 @@ pub fn is_of(machine: Machine, row: Row) -> bool
     let kind = row.kind;
     match kind {
         // read, write, commit, open, close, sync
-        0 | 1 | 2 | 3 | 4 | 5 => row.file == machine.file,
+        rows::READ | rows::WRITE | rows::COMMIT | rows::OPEN | rows::CLOSE | rows::SYNC => row.file
+            == machine.file,
         // send, recv and numbers that are no kind
         _ => false,
     }
@@ -123,7 +125,7 @@ pub fn slices_fit(rows_len: usize, counts_len: usize, n: u32) -> bool
     ensures { λ r. ⌜ r ≡ leb (6 * n) «rows_len» && leb n «counts_len» ⌝ }
 {
     let all = n as usize;
-    if rows_len / 6 < all {
+    if rows_len / rows::FIELDS < all {
         return false;
     }
     all <= counts_len

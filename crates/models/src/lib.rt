@@ -24,6 +24,9 @@ const REFRESH: u8 = 2;
 
 const BOTH: u8 = 3;
 
+// The marks of a model: one for each kind.
+const COLUMNS: usize = 8;
+
 // Models by kinds: read, write, commit, open, close, sync, send, recv.
 const MARKS: [u8; 32] = [
     // POSIX
@@ -71,10 +74,10 @@ fn mark(model: u32, kind: u32) -> u8
     if MODELS <= model {
         return NONE;
     }
-    if 8 <= kind {
+    if rows::KINDS <= kind {
         return NONE;
     }
-    let at = model as usize * 8 + kind as usize;
+    let at = model as usize * COLUMNS + kind as usize;
     MARKS[at]
 }
 

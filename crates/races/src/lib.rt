@@ -14,6 +14,10 @@ ghost use Rattle.races.specs.Search.{refreshAt};
 ghost use Rattle.races.specs.Scan.{noted, lastNoted, inOrder, raceAt, judgeQuestions, foundOf, answerOf};
 ghost use Rattle.races.specs.Given.{Given};
 use happens_before::Filled;
+use rows::refusal;
+
+// One noted row for each process.
+const NOTES: usize = 64;
 
 // Free, the numbers of the earlier and the later row of the first race, or the number of the question that was answered No.
 pub enum Found {
@@ -30,9 +34,9 @@ pub fn verdict(rows: &[u32], n: u32, process_limit: u32, model: u32, counts: &mu
 {
     if rows::MODELS <= model {
         if !happens_before::slices_fit(n, process_limit, rows.len(), counts.len()) {
-            return Found::Refused(1);
+            return Found::Refused(refusal::SHORT_SLICE);
         }
-        return Found::Refused(2);
+        return Found::Refused(refusal::LIMITS);
     }
     match happens_before::fill_counts(rows, n, process_limit, counts) {
         Filled::Refused(number) => Found::Refused(number),
@@ -61,29 +65,34 @@ fn is_conflict(rows: &[u32], x: usize, y: usize) -> bool
     requires { ⌜ (x * 6 + 6 ≤ length (now rows)) × (y * 6 + 6 ≤ length (now rows)) ⌝ }
     ensures { λ r. ⌜ r ≡ conflict (rowIn (now (rows .entry)) x) (rowIn (now (rows .entry)) y) ⌝ }
 {
-    let a = x * 6;
-    let b = y * 6;
-    let first = rows[a + 1];
-    let second = rows[b + 1];
-    if 1 < first {
+    let a = x * rows::FIELDS;
+    let b = y * rows::FIELDS;
+    let first = rows[a + rows::KIND_AT];
+    let second = rows[b + rows::KIND_AT];
+    if rows::WRITE < first {
         return false;
     }
-    if 1 < second {
+    if rows::WRITE < second {
         return false;
     }
-    if rows[a + 2] != rows[b + 2] {
+    if rows[a + rows::FILE_AT] != rows[b + rows::FILE_AT] {
         return false;
     }
-    if !overlap(rows[a + 3], rows[a + 4], rows[b + 3], rows[b + 4]) {
+    if !overlap(
+        rows[a + rows::OFFSET_AT],
+        rows[a + rows::LENGTH_AT],
+        rows[b + rows::OFFSET_AT],
+        rows[b + rows::LENGTH_AT],
+    ) {
         return false;
     }
     if rows[a] == rows[b] {
         return false;
     }
-    if first == 1 {
+    if first == rows::WRITE {
         return true;
     }
-    second == 1
+    second == rows::WRITE
 }
 
 // Some byte lies in both ranges.
@@ -112,16 +121,23 @@ fn refresh_at(rows: &[u32], n: usize, model: u32, y: usize) -> usize
     requires { ⌜ (y < n) × (n * 6 ≤ length (now rows)) ⌝ }
     ensures { λ r. ⌜ r ≡ refreshAt (rowsIn n (now (rows .entry))) model y ⌝ }
 {
-    if models::is_refresh(model, 0) {
+    if models::is_refresh(model, rows::READ) {
         return y + 1;
     }
-    let to = y * 6;
+    let to = y * rows::FIELDS;
     let process = rows[to];
-    let file = rows[to + 2];
+    let file = rows[to + rows::FILE_AT];
     let mut i = y;
     while 0 < i {
-        let at = (i - 1) * 6;
-        if refreshes_file(model, rows[at + 1], file, rows[at + 2], process, rows[at]) {
+        let at = (i - 1) * rows::FIELDS;
+        if refreshes_file(
+            model,
+            rows[at + rows::KIND_AT],
+            file,
+            rows[at + rows::FILE_AT],
+            process,
+            rows[at],
+        ) {
             return i;
         }
         i -= 1;
@@ -165,16 +181,16 @@ fn race_at(rows: &[u32], n: usize, processes: usize, model: u32, counts: &[u16],
     requires { ⌜ y < n ⌝ }
     ensures { λ r. ⌜ r ≡ raceAt (rowsIn n (now (rows .entry))) model y ⌝ }
 {
-    let to = y * 6;
-    if 1 < rows[to + 1] {
+    let to = y * rows::FIELDS;
+    if rows::WRITE < rows[to + rows::KIND_AT] {
         return 0;
     }
     let refresh = refresh_at(rows, n, model, y);
-    let mut last = [0usize; 64];
+    let mut last = [0usize; NOTES];
     let mut c = 0;
     while c < y {
         if is_noted(rows, n, processes, model, counts, y, refresh, c) {
-            let at = c * 6;
+            let at = c * rows::FIELDS;
             let p = rows[at] as usize;
             last[p] = c + 1;
         }
@@ -183,7 +199,7 @@ fn race_at(rows: &[u32], n: usize, processes: usize, model: u32, counts: &[u16],
     let mut x = 0;
     while x < y {
         if is_conflict(rows, x, y) {
-            let at = x * 6;
+            let at = x * rows::FIELDS;
             let p = rows[at] as usize;
             let noted = last[p];
             if !is_in_order(rows, n, processes, model, counts, y, refresh, x, noted) {
@@ -213,12 +229,12 @@ fn is_noted(
     if refresh == 0 {
         return false;
     }
-    let at = c * 6;
-    let to = y * 6;
-    if !models::is_publish(model, rows[at + 1]) {
+    let at = c * rows::FIELDS;
+    let to = y * rows::FIELDS;
+    if !models::is_publish(model, rows[at + rows::KIND_AT]) {
         return false;
     }
-    if rows[to + 2] != rows[at + 2] {
+    if rows[to + rows::FILE_AT] != rows[at + rows::FILE_AT] {
         return false;
     }
     counts_before(counts, processes, rows[at] as usize, c, refresh - 1)
@@ -241,15 +257,15 @@ fn is_in_order(
     requires { ⌜ (0 < refresh → last ≡ lastNoted (rowsIn n (now rows)) model y (refresh - 1) (rowAt (rowsIn n (now rows)) x .process) y) ⌝ }
     ensures { λ r. ⌜ r ≡ inOrder (rowsIn n (now (rows .entry))) model x y ⌝ }
 {
-    let at = x * 6;
+    let at = x * rows::FIELDS;
     let p = rows[at] as usize;
-    if rows[at + 1] != 1 {
+    if rows[at + rows::KIND_AT] != rows::WRITE {
         return counts_before(counts, processes, p, x, y);
     }
     if refresh == 0 {
         return false;
     }
-    if models::is_publish(model, 1) {
+    if models::is_publish(model, rows::WRITE) {
         return counts_before(counts, processes, p, x, refresh - 1);
     }
     x + 1 < last

@@ -1,5 +1,7 @@
 // The ground floor: the limits of the product, the kinds of rows by their numbers, a row, and the slice that holds six numbers for each row.
 // specs/Limits.antt and specs/Kinds.antt have the same numbers for the contracts.
+pub mod refusal;
+
 ghost use mathlib.Core.Path.{_≡_};
 ghost use lib.ListN.{length, getD, replicate};
 ghost use Rattle.rows.specs.Rows.{rowIn, withRow};
@@ -37,6 +39,19 @@ pub const RECV: u32 = 7;
 
 // How many kinds there are.
 pub const KINDS: u32 = 8;
+
+// The numbers of a row by their places in the slice, from the row's first.
+pub const PROCESS_AT: usize = 0;
+
+pub const KIND_AT: usize = 1;
+
+pub const FILE_AT: usize = 2;
+
+pub const OFFSET_AT: usize = 3;
+
+pub const LENGTH_AT: usize = 4;
+
+pub const MESSAGE_AT: usize = 5;
 
 // A row: six numbers in field order. Fields that the kind does not use are 0.
 pub struct Row {

@@ -10,6 +10,7 @@ ghost use Rattle.rows.specs.Questions.{firstNo};
 ghost use Rattle.trace.specs.Reads.{fieldsOf, headed};
 use csv::Answer;
 use csv::Span;
+use rows::refusal;
 
 // The answer to a trace: its row count, or the number of the question that was answered No and the record's place.
 pub enum Checked {
@@ -47,7 +48,7 @@ pub fn check_trace(
     rows::clear_counts(counts);
     match read_trace(text, header, row_limit, process_limit, byte_limit, rows) {
         Checked::Accepted(n) => {
-            let end = n as usize * 6;
+            let end = n as usize * rows::FIELDS;
             rows::clear(&mut rows[end..]);
             Checked::Accepted(n)
         }
@@ -69,29 +70,29 @@ fn ask_call(
 ) -> u32
     ensures { λ r. ⌜ r ≡ firstNo (callQuestions header model «row_limit» «process_limit» «rows_len» «counts_len») ⌝ }
 {
-    if (rows_len as u64) < row_limit as u64 * 6 {
-        return 1;
+    if (rows_len as u64) < row_limit as u64 * rows::FIELDS as u64 {
+        return refusal::SHORT_SLICE;
     }
     if (counts_len as u64) < row_limit as u64 * process_limit as u64 {
-        return 1;
+        return refusal::SHORT_SLICE;
     }
     if rows::MODELS <= model {
-        return 2;
+        return refusal::LIMITS;
     }
     if row_limit < 1 {
-        return 2;
+        return refusal::LIMITS;
     }
     if rows::ROWS < row_limit {
-        return 2;
+        return refusal::LIMITS;
     }
     if process_limit < 1 {
-        return 2;
+        return refusal::LIMITS;
     }
     if rows::PROCESSES < process_limit {
-        return 2;
+        return refusal::LIMITS;
     }
     if 1 < header {
-        return 3;
+        return refusal::HEADER_WORD;
     }
     0
 }
@@ -115,13 +116,13 @@ fn read_trace(
     let r = csv::read_record(text, 0, byte_limit);
     let answer = r.answer;
     match answer {
-        Answer::End => Checked::Refused(5, 0),
-        Answer::Malformed => Checked::Refused(4, 0),
-        Answer::Limit => Checked::Refused(5, 0),
+        Answer::End => Checked::Refused(refusal::HEADER, 0),
+        Answer::Malformed => Checked::Refused(refusal::MALFORMED, 0),
+        Answer::Limit => Checked::Refused(refusal::HEADER, 0),
         Answer::Record => {
             let spans = r.spans;
             if !is_header(text, r.count, spans) {
-                return Checked::Refused(5, 0);
+                return Checked::Refused(refusal::HEADER, 0);
             }
             reading::read_rows(text, r.next, row_limit, process_limit, byte_limit, rows)
         }
@@ -132,23 +133,23 @@ fn read_trace(
 fn is_header(text: &[u8], count: usize, spans: [Span; 6]) -> bool
     ensures { λ r. ⌜ r ≡ headed count (fieldsOf (now (text .entry)) spans) ⌝ }
 {
-    if count != 6 {
+    if count != rows::FIELDS {
         return false;
     }
-    if !csv::content::is_word(text, spans[0], b"process") {
+    if !csv::content::is_word(text, spans[rows::PROCESS_AT], b"process") {
         return false;
     }
-    if !csv::content::is_word(text, spans[1], b"kind") {
+    if !csv::content::is_word(text, spans[rows::KIND_AT], b"kind") {
         return false;
     }
-    if !csv::content::is_word(text, spans[2], b"file") {
+    if !csv::content::is_word(text, spans[rows::FILE_AT], b"file") {
         return false;
     }
-    if !csv::content::is_word(text, spans[3], b"offset") {
+    if !csv::content::is_word(text, spans[rows::OFFSET_AT], b"offset") {
         return false;
     }
-    if !csv::content::is_word(text, spans[4], b"length") {
+    if !csv::content::is_word(text, spans[rows::LENGTH_AT], b"length") {
         return false;
     }
-    csv::content::is_word(text, spans[5], b"message")
+    csv::content::is_word(text, spans[rows::MESSAGE_AT], b"message")
 }

@@ -10,6 +10,7 @@ use crate::Checked;
 use csv::Answer;
 use csv::Span;
 use rows::Row;
+use rows::refusal;
 use trace_fields::Judged;
 
 // The row at a place has this kind and message and, where another process's is asked for, not this process.
@@ -17,10 +18,10 @@ fn row_matches(rows: &[u32], at: usize, kind: u32, message: u32, process: u32, o
     requires { ⌜ at + 6 ≤ length (now rows) ⌝ }
     ensures { λ r. ⌜ r ≡ matches kind message process other (rowHere (drop at (now (rows .entry)))) ⌝ }
 {
-    if rows[at + 1] != kind {
+    if rows[at + rows::KIND_AT] != kind {
         return false;
     }
-    if rows[at + 5] != message {
+    if rows[at + rows::MESSAGE_AT] != message {
         return false;
     }
     if !other {
@@ -36,7 +37,7 @@ fn some_row(rows: &[u32], n: usize, kind: u32, message: u32, process: u32, other
 {
     let mut i = 0;
     while i < n {
-        if row_matches(rows, i * 6, kind, message, process, other) {
+        if row_matches(rows, i * rows::FIELDS, kind, message, process, other) {
             return true;
         }
         i += 1;
@@ -52,13 +53,13 @@ fn in_order(rows: &[u32], n: usize, row: Row) -> bool
     let kind = row.kind;
     match kind {
         // send
-        6 => !some_row(rows, n, 6, row.message, row.process, false),
+        rows::SEND => !some_row(rows, n, rows::SEND, row.message, row.process, false),
         // recv
-        7 => {
-            if !some_row(rows, n, 6, row.message, row.process, true) {
+        rows::RECV => {
+            if !some_row(rows, n, rows::SEND, row.message, row.process, true) {
                 return false;
             }
-            !some_row(rows, n, 7, row.message, row.process, false)
+            !some_row(rows, n, rows::RECV, row.message, row.process, false)
         }
         _ => true,
     }
@@ -78,16 +79,16 @@ fn judge_row(
     ensures { λ r. ⌜ r ≡ judgedRow «row_limit» «process_limit» n (rowsIn n (now (rows .entry))) count (fieldsOf (now (text .entry)) spans) ⌝ }
 {
     if row_limit as usize <= n {
-        return Judged::No(6);
+        return Judged::No(refusal::ROW_LIMIT);
     }
-    if count != 6 {
-        return Judged::No(7);
+    if count != rows::FIELDS {
+        return Judged::No(refusal::SIX_FIELDS);
     }
     match trace_fields::judge_fields(text, spans, process_limit) {
         Judged::No(k) => Judged::No(k),
         Judged::Kept(row) => {
             if !in_order(rows, n, row) {
-                return Judged::No(12);
+                return Judged::No(refusal::MESSAGE_ORDER);
             }
             Judged::Kept(row)
         }
@@ -118,10 +119,10 @@ pub(crate) fn read_rows(
                 return Checked::Accepted(n as u32);
             }
             Answer::Malformed => {
-                return Checked::Refused(4, place);
+                return Checked::Refused(refusal::MALFORMED, place);
             }
             Answer::Limit => {
-                return Checked::Refused(6, place);
+                return Checked::Refused(refusal::ROW_LIMIT, place);
             }
             Answer::Record => {
                 let spans = r.spans;

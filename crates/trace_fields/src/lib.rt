@@ -7,6 +7,7 @@ ghost use Rattle.trace_fields.specs.Questions.{asUsed, OFFSETS};
 ghost use Rattle.trace_fields.specs.Reads.{fieldsOf, fillsAs, numberWhere, judgedFields};
 use csv::Span;
 use rows::Row;
+use rows::refusal;
 
 // The bound of a file's number.
 const FILES: u64 = rows::FILES as u64;
@@ -41,30 +42,30 @@ fn kind_of(text: &[u8], span: Span) -> u32
     ensures { λ r. ⌜ r ≡ kindOf (contentOf (now (text .entry)) span) ⌝ }
 {
     if csv::content::is_word(text, span, b"read") {
-        return 0;
+        return rows::READ;
     }
     if csv::content::is_word(text, span, b"write") {
-        return 1;
+        return rows::WRITE;
     }
     if csv::content::is_word(text, span, b"commit") {
-        return 2;
+        return rows::COMMIT;
     }
     if csv::content::is_word(text, span, b"open") {
-        return 3;
+        return rows::OPEN;
     }
     if csv::content::is_word(text, span, b"close") {
-        return 4;
+        return rows::CLOSE;
     }
     if csv::content::is_word(text, span, b"sync") {
-        return 5;
+        return rows::SYNC;
     }
     if csv::content::is_word(text, span, b"send") {
-        return 6;
+        return rows::SEND;
     }
     if csv::content::is_word(text, span, b"recv") {
-        return 7;
+        return rows::RECV;
     }
-    8
+    rows::KINDS
 }
 
 // The fields that a kind uses.
@@ -73,19 +74,19 @@ fn used_by(kind: u32) -> Used
 {
     match kind {
         // read, write
-        0 | 1 => Used {
+        rows::READ | rows::WRITE => Used {
             file: true,
             range: true,
             message: false,
         },
         // commit, open, close, sync
-        2 | 3 | 4 | 5 => Used {
+        rows::COMMIT | rows::OPEN | rows::CLOSE | rows::SYNC => Used {
             file: true,
             range: false,
             message: false,
         },
         // send, recv
-        6 | 7 => Used {
+        rows::SEND | rows::RECV => Used {
             file: false,
             range: false,
             message: true,
@@ -113,19 +114,19 @@ fn filled_as_used(text: &[u8], spans: [Span; 6], used: Used) -> bool
     let file = used.file;
     let range = used.range;
     let message = used.message;
-    if !as_used(text, spans[0], true) {
+    if !as_used(text, spans[rows::PROCESS_AT], true) {
         return false;
     }
-    if !as_used(text, spans[2], file) {
+    if !as_used(text, spans[rows::FILE_AT], file) {
         return false;
     }
-    if !as_used(text, spans[3], range) {
+    if !as_used(text, spans[rows::OFFSET_AT], range) {
         return false;
     }
-    if !as_used(text, spans[4], range) {
+    if !as_used(text, spans[rows::LENGTH_AT], range) {
         return false;
     }
-    as_used(text, spans[5], message)
+    as_used(text, spans[rows::MESSAGE_AT], message)
 }
 
 // At least one byte, and no leading zero.
@@ -183,31 +184,37 @@ fn number_in(text: &[u8], span: Span, below: u64, used: bool) -> Number
 pub fn judge_fields(text: &[u8], spans: [Span; 6], process_limit: u32) -> Judged
     ensures { λ r. ⌜ r ≡ judgedFields «process_limit» (fieldsOf (now (text .entry)) spans) ⌝ }
 {
-    let kind = kind_of(text, spans[1]);
-    if 8 <= kind {
-        return Judged::No(8);
+    let kind = kind_of(text, spans[rows::KIND_AT]);
+    if rows::KINDS <= kind {
+        return Judged::No(refusal::KNOWN_KIND);
     }
     let used = used_by(kind);
     if !filled_as_used(text, spans, used) {
-        return Judged::No(9);
+        return Judged::No(refusal::USED_FIELDS);
     }
-    let Number::Plain(process) = number_in(text, spans[0], process_limit as u64, true) else {
-        return Judged::No(10);
+    let Number::Plain(process) = number_in(
+        text,
+        spans[rows::PROCESS_AT],
+        process_limit as u64,
+        true,
+    ) else {
+        return Judged::No(refusal::RANGE);
     };
-    let Number::Plain(file) = number_in(text, spans[2], FILES, used.file) else {
-        return Judged::No(10);
+    let Number::Plain(file) = number_in(text, spans[rows::FILE_AT], FILES, used.file) else {
+        return Judged::No(refusal::RANGE);
     };
-    let Number::Plain(offset) = number_in(text, spans[3], OFFSETS, used.range) else {
-        return Judged::No(10);
+    let Number::Plain(offset) = number_in(text, spans[rows::OFFSET_AT], OFFSETS, used.range) else {
+        return Judged::No(refusal::RANGE);
     };
-    let Number::Plain(length) = number_in(text, spans[4], OFFSETS, used.range) else {
-        return Judged::No(10);
+    let Number::Plain(length) = number_in(text, spans[rows::LENGTH_AT], OFFSETS, used.range) else {
+        return Judged::No(refusal::RANGE);
     };
-    let Number::Plain(message) = number_in(text, spans[5], MESSAGES, used.message) else {
-        return Judged::No(10);
+    let Number::Plain(message) = number_in(text, spans[rows::MESSAGE_AT], MESSAGES, used.message)
+    else {
+        return Judged::No(refusal::RANGE);
     };
     if rows::OFFSET_MAX - offset < length {
-        return Judged::No(11);
+        return Judged::No(refusal::RANGE_END);
     }
     Judged::Kept(Row {
         process,
