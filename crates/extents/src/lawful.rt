@@ -12,6 +12,7 @@ ghost use Rattle.extents_meaning.specs.Pairs.{twoMaps, viewOf, belowOf};
 ghost use Rattle.extents.specs.Entries.{orRefused, orKept, countOf, markOf, writeRefusal, writtenMap, listRefusal, publishRefusal, publishedMaps, refreshRefusal, refreshedMaps, syncRefusal, syncedMaps, postRefusal, postedMaps, readRefusal};
 ghost use Rattle.extents.specs.declared.Answer.the-variants.{Done};
 use rows::refusal;
+ghost use Rattle.rows.specs.Limits.{ROWS};
 
 // Gives a range of a map a row number and a mark.
 pub fn write(map: &mut [u32], start: u32, length: u32, number: u32, unpublished: bool) -> Answer
@@ -40,7 +41,7 @@ pub fn write(map: &mut [u32], start: u32, length: u32, number: u32, unpublished:
 }
 
 fn cell_of(number: u32, unpublished: bool) -> u32
-    requires { ⌜ number ≤ 4096 ⌝ }
+    requires { ⌜ number ≤ ROWS ⌝ }
     ensures { λ r. ⌜ r ≡ cellOf number (markOf unpublished) ⌝ }
 {
     if unpublished {

@@ -9,6 +9,7 @@ ghost use Rattle.extents_meaning.specs.Runs.{runsFrom};
 ghost use Rattle.extents_meaning.specs.Maps.{runs, bytesOf, allZero, follows, lawful, noMarks, lawfulPublished};
 ghost use Rattle.extents_map.specs.Mixes.{mixed as Mixes·mixed, mix};
 ghost use Rattle.extents_map.specs.Cursors.{Passed, Seen};
+ghost use Rattle.rows.specs.Limits.{OFFSET-MAX, ROWS};
 
 // What stands at a byte: its cell, the next byte that may have another, and the run to go on from.
 pub struct Look {
@@ -119,7 +120,7 @@ fn has_no_marks(map: &[u32]) -> bool
 // What stands at byte x, from a run on before which all end at x or earlier.
 pub fn see(map: &[u32], from: usize, x: u32) -> Look
     requires { ⌜ lawful (now map) ≡ true ⌝ }
-    requires { ⌜ Passed (runs (now map)) from x × (x < 4294967295) ⌝ }
+    requires { ⌜ Passed (runs (now map)) from x × (x < OFFSET-MAX) ⌝ }
     ensures { λ r. ⌜ Seen (now (map .entry)) x r ⌝ }
 {
     let space = map.len() / 4;
@@ -259,7 +260,7 @@ fn is_inside(start: u32, end: u32, x: u32) -> bool
 
 // The next end of a range behind x.
 fn edge(start: u32, end: u32, x: u32) -> u32
-    ensures { λ r. ⌜ (x < 4294967295 → x < r) × ((b : ℕ) → x ≤ b → b < r → inRange start (end - start) b ≡ inRange start (end - start) x) ⌝ }
+    ensures { λ r. ⌜ (x < OFFSET-MAX → x < r) × ((b : ℕ) → x ≤ b → b < r → inRange start (end - start) b ≡ inRange start (end - start) x) ⌝ }
 {
     if x < start {
         return start;

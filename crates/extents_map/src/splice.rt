@@ -12,6 +12,7 @@ ghost use Rattle.extents_meaning.specs.Runs.{cellAt, runsOf};
 ghost use Rattle.extents_meaning.specs.Maps.{mapOf, mapFor, spaceIn, runs, bytesOf, lawful};
 ghost use Rattle.extents_map.specs.Cursors.{partOf, putRuns};
 ghost use Rattle.extents_map.specs.Beside.{endOf, runNo, runBefore, sideOf, partsOf, Met, Behind, Front, Back};
+ghost use Rattle.rows.specs.Limits.{ROWS};
 
 // A part of a run that stays beside a range: its start, its length, which may be 0, and its cell; and where the range then ends on this side.
 pub struct Side {
@@ -24,7 +25,7 @@ pub struct Side {
 // Gives a range a cell, 0 to clear it, where the map that this makes fits its space. Answers whether it does.
 pub fn lay(map: &mut [u32], start: u32, end: u32, cell: u32) -> bool
     requires { ⌜ (lawful (now map) ≡ true) × (start < end) ⌝ }
-    requires { ⌜ (cell ≡ 0) ⊎ ((1 ≤ numberIn cell) × (numberIn cell ≤ 4096)) ⌝ }
+    requires { ⌜ (cell ≡ 0) ⊎ ((1 ≤ numberIn cell) × (numberIn cell ≤ ROWS)) ⌝ }
     ensures { λ r. ⌜ r ≡ leb (length (runsOf (overwrite start (end - start) cell (bytesOf (now (map .entry)))))) (spaceIn (now (map .entry))) ⌝ }
     ensures { λ r. ⌜ now (map .exit) ≡ cond r (mapFor (spaceIn (now (map .entry))) (overwrite start (end - start) cell (bytesOf (now (map .entry))))) (now (map .entry)) ⌝ }
 {

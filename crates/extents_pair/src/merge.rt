@@ -10,6 +10,7 @@ ghost use Rattle.extents_meaning.specs.Runs.{runsOf};
 ghost use Rattle.extents_meaning.specs.Maps.{fours, mapFor, spaceIn, runs, bytesOf, lawful, mapAt, withMap};
 ghost use Rattle.extents_meaning.specs.Pairs.{twoMaps, viewOf, belowOf};
 ghost use Rattle.extents_pair.specs.Packing.{marked, Meet, Alone, withPart, mergedOf, Packed};
+ghost use Rattle.rows.specs.Limits.{OFFSET-MAX};
 
 // Marks the unpublished runs of a map published, of which there are `own`: a mark is put to 0 where no neighbour touches the run with the same
 // row; where one does, all runs are gone through and joined.
@@ -231,7 +232,7 @@ pub fn larger(a: usize, b: usize) -> usize
 // Where run j starts, and the end of all bytes where there is none.
 fn start_of(maps: &[u32], v: usize, j: usize, space: usize) -> u32
     requires { ⌜ (j < space → v + j * 4 < length (now maps)) ⌝ }
-    ensures { λ r. ⌜ (space ≤ j → r ≡ 4294967295) × (j < space → r ≡ getD (now (maps .entry)) (v + j * 4) 0) ⌝ }
+    ensures { λ r. ⌜ (space ≤ j → r ≡ OFFSET-MAX) × (j < space → r ≡ getD (now (maps .entry)) (v + j * 4) 0) ⌝ }
 {
     if space <= j {
         return rows::OFFSET_MAX;

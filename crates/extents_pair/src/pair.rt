@@ -11,6 +11,7 @@ ghost use Rattle.extents_meaning.specs.Maps.{mapFor, runs, bytesOf, lawful, map
 ghost use Rattle.extents_map.specs.Mixes.{mix};
 ghost use Rattle.extents_meaning.specs.Pairs.{twoMaps, viewOf, belowOf};
 ghost use Rattle.extents_pair.specs.Packing.{marked};
+ghost use Rattle.rows.specs.Limits.{OFFSET-MAX, ROWS};
 
 // Two lawful maps at two places of a slice, the second one published.
 pub fn two_maps(maps: &[u32], space: usize, view: usize, below: usize) -> bool
@@ -105,7 +106,7 @@ pub fn fits(
 ) -> bool
     requires { ⌜ twoMaps space view below (now maps) ≡ true ⌝ }
     requires { ⌜ (mode ≤ 2) × (start ≤ end) × (own ≡ length (marked (runs (mapAt space view (now maps))))) ⌝ }
-    ensures { λ r. ⌜ r ≡ leb (length (runsFrom (4294967295 - 0) 0 (mix mode start (end - start) cell
+    ensures { λ r. ⌜ r ≡ leb (length (runsFrom (OFFSET-MAX - 0) 0 (mix mode start (end - start) cell
         (viewOf space view below (now (maps .entry))) (belowOf space view below (now (maps .entry)))))) space ⌝ }
 {
     if most_runs(maps, space, view, below, own, mode) <= space {
@@ -194,7 +195,7 @@ pub fn settle(maps: &mut [u32], space: usize, k: usize, own: usize)
 pub fn lay(maps: &mut [u32], space: usize, k: usize, start: u32, end: u32, cell: u32)
     requires { ⌜ (k + 1) * (4 * space) ≤ length (now maps) ⌝ }
     requires { ⌜ lawful (mapAt space k (now maps)) ≡ true ⌝ }
-    requires { ⌜ (start < end) × ((cell ≡ 0) ⊎ ((1 ≤ numberIn cell) × (numberIn cell ≤ 4096))) ⌝ }
+    requires { ⌜ (start < end) × ((cell ≡ 0) ⊎ ((1 ≤ numberIn cell) × (numberIn cell ≤ ROWS))) ⌝ }
     requires { ⌜ length (runsOf (overwrite start (end - start) cell (bytesOf (mapAt space k (now maps))))) ≤ space ⌝ }
     ensures { λ _. ⌜ now (maps .exit) ≡ withMap space k (mapFor space (overwrite start (end - start) cell (bytesOf (mapAt space k (now (maps .entry)))))) (now (maps .entry)) ⌝ }
 {

@@ -161,7 +161,7 @@ fn fill(map: &mut [u32], start: u32, end: u32)
 
 // Gives a range a cell, where the map fits then.
 fn put(map: &mut [u32], start: u32, end: u32, cell: u32)
-    requires { ⌜ (lawful (now map) ≡ true) × ((cell ≡ 0) ⊎ ((1 ≤ numberIn cell) × (numberIn cell ≤ 4096))) ⌝ }
+    requires { ⌜ (lawful (now map) ≡ true) × ((cell ≡ 0) ⊎ ((1 ≤ numberIn cell) × (numberIn cell ≤ ROWS))) ⌝ }
     requires { ⌜ length (runsOf (overwrite start (end - start) cell (bytesOf (now map)))) ≤ spaceIn (now map) ⌝ }
     ensures { λ _. ⌜ now (map .exit) ≡ mapFor (spaceIn (now (map .entry))) (overwrite start (end - start) cell (bytesOf (now (map .entry)))) ⌝ }
 {

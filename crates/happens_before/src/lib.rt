@@ -8,6 +8,7 @@ ghost use Rattle.happens_before.specs.Clock.{lastOf, cellIn, withRow, jo
 ghost use Rattle.rows.specs.Rows.{rowIn};
 ghost use Rattle.happens_before.specs.Filling.{processesIn, fillQuestions, filledOf, filledLeft};
 use rows::refusal;
+ghost use Rattle.rows.specs.Limits.{ROWS, PROCESSES};
 
 // The counts were filled, or the number of the question that was answered No.
 pub enum Filled {
@@ -86,9 +87,9 @@ fn processes_in(rows: &[u32], n: usize, process_limit: u32) -> bool
 
 // Fills the counts of row j, which are 0, from those of the rows before it.
 fn fill_row(rows: &[u32], j: usize, processes: usize, counts: &mut [u16])
-    requires { ⌜ (j * 6 + 6 ≤ length (now rows)) × (processes ≤ 64) × (j * processes + processes ≤ length (now counts)) × (rowIn (now rows) j .process < processes) ⌝ }
+    requires { ⌜ (j * 6 + 6 ≤ length (now rows)) × (processes ≤ PROCESSES) × (j * processes + processes ≤ length (now counts)) × (rowIn (now rows) j .process < processes) ⌝ }
     requires { ⌜ ((p : ℕ) → p < processes → cellIn processes (now counts) j p ≡ 0) ⌝ }
-    requires { ⌜ ((k : ℕ) → (p : ℕ) → k < j → p < processes → cellIn processes (now counts) k p ≤ 4096) ⌝ }
+    requires { ⌜ ((k : ℕ) → (p : ℕ) → k < j → p < processes → cellIn processes (now counts) k p ≤ ROWS) ⌝ }
     ensures { λ r. ⌜ now (counts .exit) ≡ withRow processes (now (counts .entry)) j (filledRow processes (now (rows .entry)) (now (counts .entry)) j) ⌝ }
 {
     let at = j * rows::FIELDS;
@@ -140,7 +141,7 @@ fn larger(a: u16, b: u16) -> u16
 
 // Joins the counts of row k into those of row j.
 fn join(counts: &mut [u16], k: usize, j: usize, processes: usize)
-    requires { ⌜ (k < j) × (processes ≤ 64) × (j * processes + processes ≤ length (now counts)) ⌝ }
+    requires { ⌜ (k < j) × (processes ≤ PROCESSES) × (j * processes + processes ≤ length (now counts)) ⌝ }
     ensures { λ r. ⌜ now (counts .exit) ≡ withRow processes (now (counts .entry)) j (joinedRow processes (now (counts .entry)) j k) ⌝ }
 {
     let from = k * processes;
@@ -154,7 +155,7 @@ fn join(counts: &mut [u16], k: usize, j: usize, processes: usize)
 
 // Joins the counts of the row before `last` into those of row j; nothing where last is 0.
 fn join_last(counts: &mut [u16], last: usize, j: usize, processes: usize)
-    requires { ⌜ (last ≤ j) × (processes ≤ 64) × (j * processes + processes ≤ length (now counts)) ⌝ }
+    requires { ⌜ (last ≤ j) × (processes ≤ PROCESSES) × (j * processes + processes ≤ length (now counts)) ⌝ }
     ensures { λ r. ⌜ now (counts .exit) ≡ withRow processes (now (counts .entry)) j (joinedLast processes (now (counts .entry)) j last) ⌝ }
 {
     if 0 < last {
@@ -164,7 +165,7 @@ fn join_last(counts: &mut [u16], last: usize, j: usize, processes: usize)
 
 // Joins the counts of every send that row j receives into those of row j.
 fn join_sends(rows: &[u32], j: usize, processes: usize, counts: &mut [u16])
-    requires { ⌜ (j * 6 + 6 ≤ length (now rows)) × (processes ≤ 64) × (j * processes + processes ≤ length (now counts)) ⌝ }
+    requires { ⌜ (j * 6 + 6 ≤ length (now rows)) × (processes ≤ PROCESSES) × (j * processes + processes ≤ length (now counts)) ⌝ }
     ensures { λ r. ⌜ now (counts .exit) ≡ withRow processes (now (counts .entry)) j (joinedSends processes (now (rows .entry)) (now (counts .entry)) j) ⌝ }
 {
     let at = j * rows::FIELDS;
@@ -182,7 +183,7 @@ fn join_sends(rows: &[u32], j: usize, processes: usize, counts: &mut [u16])
 
 // Counts row j itself.
 fn add_own(counts: &mut [u16], j: usize, processes: usize, process: u32)
-    requires { ⌜ (processes ≤ 64) × (j * processes + processes ≤ length (now counts)) × (process < processes) × (cellIn processes (now counts) j process ≤ 4096) ⌝ }
+    requires { ⌜ (processes ≤ PROCESSES) × (j * processes + processes ≤ length (now counts)) × (process < processes) × (cellIn processes (now counts) j process ≤ ROWS) ⌝ }
     ensures { λ r. ⌜ now (counts .exit) ≡ withRow processes (now (counts .entry)) j (withOwn process (λ p. cellIn processes (now (counts .entry)) j p)) ⌝ }
 {
     let at = j * processes + process as usize;

@@ -15,6 +15,7 @@ ghost use Rattle.races.specs.Scan.{noted, lastNoted, inOrder, raceAt, ju
 ghost use Rattle.races.specs.Given.{Given};
 use happens_before::Filled;
 use rows::refusal;
+ghost use Rattle.rows.specs.Limits.{PROCESSES};
 
 // One noted row for each process.
 const NOTES: usize = 64;
@@ -167,7 +168,7 @@ fn refreshes_file(
 
 // The count of process p at row i is at most that at row j.
 fn counts_before(counts: &[u16], processes: usize, p: usize, i: usize, j: usize) -> bool
-    requires { ⌜ (p < processes) × (i * processes + processes ≤ length (now counts)) × (j * processes + processes ≤ length (now counts)) × (processes ≤ 64) ⌝ }
+    requires { ⌜ (p < processes) × (i * processes + processes ≤ length (now counts)) × (j * processes + processes ≤ length (now counts)) × (processes ≤ PROCESSES) ⌝ }
     ensures { λ r. ⌜ r ≡ leb (cellIn processes (now (counts .entry)) i p) (cellIn processes (now (counts .entry)) j p) ⌝ }
 {
     let from = i * processes + p;

@@ -11,6 +11,7 @@ ghost use Rattle.trace.specs.Reads.{fieldsOf, headed};
 use csv::Answer;
 use csv::Span;
 use rows::refusal;
+ghost use Rattle.rows.specs.Limits.{ROWS};
 
 // The answer to a trace: its row count, or the number of the question that was answered No and the record's place.
 pub enum Checked {
@@ -106,7 +107,7 @@ fn read_trace(
     byte_limit: usize,
     rows: &mut [u32],
 ) -> Checked
-    requires { ⌜ («row_limit» ≤ 4096) × (6 * «row_limit» ≤ length (now rows)) ⌝ }
+    requires { ⌜ («row_limit» ≤ ROWS) × (6 * «row_limit» ≤ length (now rows)) ⌝ }
     ensures answer { λ r. ⌜ r ≡ checkedOf (readTrace header «row_limit» «process_limit» (records (now (text .entry)) «byte_limit»)) ⌝ }
     ensures held { λ r. ⌜ Holds (readTrace header «row_limit» «process_limit» (records (now (text .entry)) «byte_limit»)) (now (rows .entry)) (now (rows .exit)) ⌝ }
 {

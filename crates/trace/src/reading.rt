@@ -12,6 +12,7 @@ use csv::Span;
 use rows::Row;
 use rows::refusal;
 use trace_fields::Judged;
+ghost use Rattle.rows.specs.Limits.{ROWS};
 
 // The row at a place has this kind and message and, where another process's is asked for, not this process.
 fn row_matches(rows: &[u32], at: usize, kind: u32, message: u32, process: u32, other: bool) -> bool
@@ -104,7 +105,7 @@ pub(crate) fn read_rows(
     byte_limit: usize,
     rows: &mut [u32],
 ) -> Checked
-    requires { ⌜ («row_limit» ≤ 4096) × (6 * «row_limit» ≤ length (now rows)) ⌝ }
+    requires { ⌜ («row_limit» ≤ ROWS) × (6 * «row_limit» ≤ length (now rows)) ⌝ }
     ensures answer { λ r. ⌜ r ≡ checkedOf (judgeFrom «row_limit» «process_limit» (now (text .entry)) «byte_limit» start) ⌝ }
     ensures held { λ r. ⌜ Holds (judgeFrom «row_limit» «process_limit» (now (text .entry)) «byte_limit» start) (now (rows .entry)) (now (rows .exit)) ⌝ }
 {
