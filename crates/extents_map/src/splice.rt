@@ -90,7 +90,7 @@ fn cell_at(map: &[u32], i: usize) -> u32
 }
 
 // The first run that ends behind byte x.
-pub fn first_past(map: &[u32], all: usize, x: u32) -> usize
+pub(crate) fn first_past(map: &[u32], all: usize, x: u32) -> usize
     requires { ⌜ (lawful (now map) ≡ true) × (all ≡ length (runs (now map))) ⌝ }
     ensures { λ r. ⌜ r ≤ all ⌝ }
     ensures { λ r. ⌜ endOf (runBefore (runs (now (map .entry))) r) ≤ x ⌝ }
@@ -311,7 +311,7 @@ fn move_down(map: &mut [u32], to: usize, end: usize, by: usize)
 }
 
 // Puts a run at a place, if it has a length, and answers the place behind it.
-pub fn put_part(map: &mut [u32], i: usize, start: u32, length: u32, cell: u32) -> usize
+fn put_part(map: &mut [u32], i: usize, start: u32, length: u32, cell: u32) -> usize
     requires { ⌜ 4 * (i + sizeOf (partOf start length cell)) ≤ sizeOf (now map) ⌝ }
     ensures { λ r. ⌜ r ≡ i + sizeOf (partOf start length cell) ⌝ }
     ensures { λ r. ⌜ now (map .exit) ≡ putRuns (now (map .entry)) i (partOf start length cell) ⌝ }

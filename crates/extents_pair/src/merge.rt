@@ -14,7 +14,7 @@ ghost use Rattle.rows.specs.Limits.{OFFSET-MAX};
 
 // Marks the unpublished runs of a map published, of which there are `own`: a mark is put to 0 where no neighbour touches the run with the same
 // row; where one does, all runs are gone through and joined.
-pub fn settle(map: &mut [u32], own: usize)
+pub(crate) fn settle(map: &mut [u32], own: usize)
     requires { ⌜ (lawful (now map) ≡ true) × (own ≡ length (marked (runs (now map)))) ⌝ }
     ensures { λ _. ⌜ now (map .exit) ≡ mapFor (spaceIn (now (map .entry))) (settled (bytesOf (now (map .entry)))) ⌝ }
 {
@@ -223,7 +223,7 @@ fn interleave(
 }
 
 // The larger of two numbers.
-pub fn larger(a: usize, b: usize) -> usize
+pub(crate) fn larger(a: usize, b: usize) -> usize
     ensures { λ r. ⌜ r ≡ max a b ⌝ }
 {
     if a < b { b } else { a }

@@ -49,7 +49,7 @@ fn has_map(maps: &[u32], space: usize, k: usize) -> bool
 }
 
 // How many runs a mix of a view, the published map and a range has.
-pub fn count(
+fn count(
     maps: &[u32],
     space: usize,
     view: usize,
