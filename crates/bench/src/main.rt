@@ -157,9 +157,9 @@ fn run_pairs() {
     put_maps(&maps);
     put_done(extents::refresh(&mut maps, 3, 1, 0));
     put_maps(&maps);
-    put_done(extents::post(&mut maps, 3, 1, 0, 1, 1, 4));
+    put_done(extents::write_through(&mut maps, 3, 1, 0, 1, 1, 4));
     put_maps(&maps);
-    put_done(extents::post(&mut maps, 3, 1, 0, 0, 4, 4));
+    put_done(extents::write_through(&mut maps, 3, 1, 0, 0, 4, 4));
     put_maps(&maps);
     maps[15] = 1;
     put_done(extents::sync(&mut maps, 3, 1, 0));

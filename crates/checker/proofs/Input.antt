@@ -1,4 +1,4 @@
--- The program's input buffer: its first bytes are a text, and the text behind its last byte does not matter. Assumes nothing.
+-- The program's input buffer: its first bytes are a text, and the text behind its last byte does not matter.
 use Prim.Native.Nat.{ℕ, _*_, _≤_, _<_}
 use native.Mathlib.Omega.{arith}
 use mathlib.Core.Path.{_≡_, sym, ap, subst}

@@ -1,4 +1,4 @@
--- Lines laid one behind the other, and how long they are. Assumes nothing.
+-- Lines laid one behind the other, and how long they are.
 use Prim.Native.Nat.{ℕ, zero, suc, _+_, _/_, _≤_}
 use native.Mathlib.Omega.{arith}
 use mathlib.Core.Path.{_≡_, sym, ap, _∙_}

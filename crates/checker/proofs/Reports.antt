@@ -1,4 +1,4 @@
--- The report, line after line. Assumes nothing.
+-- The report, line after line.
 use Prim.Native.Nat.{ℕ, _+_, _≤_, _<_}
 use native.Mathlib.Omega.{arith}
 use native.Mathlib.Nat.{zero-add}

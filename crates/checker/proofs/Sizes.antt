@@ -1,4 +1,4 @@
--- The numbers of what the whole call answers are small. Assumes nothing.
+-- The numbers of what the whole call answers are small.
 use Prim.Native.Nat.{ℕ, _≤_, _<_}
 use native.Mathlib.Omega.{arith}
 use mathlib.Core.Path.{_≡_, refl}

@@ -1,4 +1,4 @@
--- An accepted trace passes the questions of the verdict, and what the whole call decides. Assumes nothing.
+-- An accepted trace passes the questions of the verdict, and what the whole call decides.
 use Prim.Native.Nat.{ℕ, _*_, _-_, _≤_, _<_}
 use native.Mathlib.Omega.{arith}
 use native.Mathlib.Nat.{mul-le-mul-right}

@@ -1,4 +1,4 @@
--- What two files answer to a row is the same exactly when a read finds the same row numbers. Assumes nothing.
+-- What two files answer to a row is the same exactly when a read finds the same row numbers.
 use Prim.Native.Nat.{ℕ}
 use native.Mathlib.Omega.{arith}
 use mathlib.Core.Path.{_≡_, refl}

@@ -1,4 +1,4 @@
--- The bench traces A to J and L, from their texts to their verdicts in all models, by the definitions. Assumes nothing.
+-- The bench traces A to J and L, from their texts to their verdicts in all models, by the definitions.
 use Prim.Native.Nat.{ℕ}
 use mathlib.Core.Path.{_≡_, refl}
 use mathlib.Core.List.{List, [], _∷_, _++_, map}

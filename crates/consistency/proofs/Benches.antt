@@ -1,4 +1,4 @@
--- Bench trace K: what is published and what is plain after its rows in trace order. Assumes nothing.
+-- Bench trace K: what is published and what is plain after its rows in trace order.
 use Prim.Native.Nat.{ℕ, _*_, _<_}
 use native.Mathlib.Omega.{arith}
 use native.Mathlib.Decide.{decLt}

@@ -1,4 +1,4 @@
--- Allowed orders and races of a trace, as one byte of one file sees them. Assumes nothing.
+-- Allowed orders and races of a trace, as one byte of one file sees them.
 use Prim.Native.Nat.{ℕ, zero, suc, _<_}
 use native.Mathlib.Omega.{arith}
 use native.Mathlib.Decide.{ℕ-discrete}

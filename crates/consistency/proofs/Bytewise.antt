@@ -1,4 +1,4 @@
--- Runs by the bytes are, at each byte, the runs of that byte's rows. Assumes nothing.
+-- Runs by the bytes are, at each byte, the runs of that byte's rows.
 use Prim.Native.Nat.{ℕ, suc}
 use native.Mathlib.Omega.{arith}
 use mathlib.Core.Path.{_≡_, refl, sym, ap, _∙_}
@@ -13,7 +13,7 @@ use Rattle.models.specs.Table.{publishes, refreshes}
 use Rattle.rows.specs.declared.Row.{Row}
 use Rattle.rows.specs.Rows.{rowAt}
 use Rattle.rows.proofs.Bools.{and-out}
-use Rattle.extents_meaning.specs.Cells.{Bytes, cellOf, numberIn, unpublished, cleared, inRange, overwrite, settled, refreshed}
+use Rattle.extents_meaning.specs.Cells.{Bytes, cellOf, numberIn, unpublished, cleared, inRange, overwrite, asPublished, refreshed}
 use Rattle.machine_meaning.specs.Layers.{Layers, fresh, nothing, written, publishing, refreshing, afterRow, afterPlain, ofFile}
 use Rattle.consistency.specs.Files.{Numbered, rowsFor, End, endRows, processesOf}
 use Rattle.consistency.proofs.Byte.{Byte, freshByte, writeByte, publishByte, refreshByte, stepByte}
@@ -64,8 +64,8 @@ module _ {s : Layers} {b : ℕ} {c : Byte} (a : At s b c) where
   publish-at p =
       record {
         shared = rw (a .marks p) (cond-shows numberIn (c .unpublished p) (cleared v) (s .shared b) number (a .shared));
-        view = view-same numberIn b p (settled (s .view p)) (s .view) (a .view) number;
-        marks = view-put unpublished b p (settled (s .view p)) (s .view) (a .marks) (cleared-mark v);
+        view = view-same numberIn b p (asPublished (s .view p)) (s .view) (a .view) number;
+        marks = view-put unpublished b p (asPublished (s .view p)) (s .view) (a .marks) (cleared-mark v);
         no-mark = no-mark (unpublished v);
       }
     where

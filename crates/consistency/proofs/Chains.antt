@@ -1,4 +1,4 @@
--- What a byte of a file sees of the rows: who covers, publishes and refreshes it, and the chains. Assumes nothing.
+-- What a byte of a file sees of the rows: who covers, publishes and refreshes it, and the chains.
 use Prim.Native.Nat.{ℕ, _+_, _≤_, _<_}
 use native.Mathlib.Omega.{arith}
 use native.Mathlib.Decide.{decLt}

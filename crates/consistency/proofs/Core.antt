@@ -1,5 +1,5 @@
 -- The core of demands 2 and 3, at one byte of one file and over any edges: what a row does there is all that is known of it. Orders are lists
--- with the latest row first, so that a prefix is a tail. Assumes nothing.
+-- with the latest row first, so that a prefix is a tail.
 use Prim.Native.Nat.{ℕ, suc, _<_}
 use mathlib.Core.Path.{_≡_}
 use mathlib.Core.Logic.{_⊎_, inl, inr}

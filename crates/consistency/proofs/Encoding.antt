@@ -1,5 +1,5 @@
 -- Runs of the machine and of the plain file in their slices are runs by the bytes: nothing is refused, and the slices hold the maps of what the
--- bytes are. Assumes nothing.
+-- bytes are.
 use Prim.Native.Nat.{ℕ, _+_, _*_, _≤_, _<_}
 use native.Mathlib.Omega.{arith}
 use mathlib.Core.Path.{_≡_, refl, ap, _∙_}

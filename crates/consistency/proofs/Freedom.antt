@@ -1,6 +1,6 @@
 -- Race free: every read is the plain file's, and so is what is published in the end. Who is unpublished has a write that no row publishes yet
 -- (`waiting`, in any run). So where no pair races nobody else is unpublished when a process writes (`alone`), and whoever wrote the last write,
--- or refreshes after it was published, holds the plain byte (`holds`). Assumes nothing.
+-- or refreshes after it was published, holds the plain byte (`holds`).
 use Prim.Native.Nat.{ℕ, zero, suc, _<_}
 use native.Mathlib.Omega.{arith}
 use native.Mathlib.Decide.{decLt, ℕ-discrete}
@@ -14,7 +14,7 @@ use Rattle.rows.proofs.Bools.{not-passed}
 use Rattle.happens_before.proofs.Clocks.{HB-less, HB-trans}
 use Rattle.rows.specs.Lists.{In}
 use Rattle.consistency.proofs.Core.{Trace, run, plain, Ok, none, next, Published, Refreshed, Chain, Synchronized, Free, publishAll}
-use Rattle.consistency.proofs.Holding.{Settled, Holds, holds-view, write-holds, shared-holds, shared-settled, all-publish, shared-left, write-own, write-other}
+use Rattle.consistency.proofs.Holding.{Settled, Holds, holds-view, write-holds, shared-holds, shared-as-published, all-publish, shared-left, write-own, write-other}
 
 -- row c stands in an order before row o
 abbrev Before : ℕ → ℕ → List ℕ → Type 0
@@ -190,11 +190,11 @@ module _ (t : Trace) where
   row-holds : (n y q : ℕ) (s : Byte) → Holds n q s → Holds n q (stepByte false (t .publishes y) (t .refreshes y) (t .process y) (suc y) s)
   row-holds n y q s = shared-holds n (t .process y) q s (t .publishes y) (t .refreshes y)
 
-  -- where a row that stands publishes the last write, all is settled
-  settled : {h : List ℕ} → Ok t h → (x c : ℕ) → plain t h ≡ suc x → Published t x c → In c h → Holds (plain t h) (t .process x) (run t h) →
+  -- where a row that stands publishes the last write, all is marked published
+  asPublished : {h : List ℕ} → Ok t h → (x c : ℕ) → plain t h ≡ suc x → Published t x c → In c h → Holds (plain t h) (t .process x) (run t h) →
       Settled (plain t h) (run t h)
-  settled ok x c e p m (inr k) = k .0
-  settled ok x c e p m (inl k) =
+  asPublished ok x c e p m (inr k) = k .0
+  asPublished ok x c e p m (inl k) =
       let w = waiting ok (t .process x) (k .0) in
       let q : x ≡ w .row = omega (arith, w .number, k .1) in
       absurd (w .unshared c (rw q at p) m)
@@ -254,8 +254,8 @@ module _ (t : Trace) (free : Free t) where
   holds-step {y} {h} ok before false w q (inr (x, e, inr (c, o, p, inr b, r, k))) =
       row-holds t (plain t h) y q (run t h) (before q (inr (x, e, inr (c, o, p, b, r, k))))
   holds-step {y} {h} ok before false w q (inr (x, e, inr (c, o, p, inl b, r, k))) =
-      let now = settled t (rest t ok) x c e p (b .1) (before (t .process x) (inr (x, e, inl refl))) in
-      shared-settled (plain t h) (t .process y) q (run t h) (t .publishes y) (t .refreshes y)
+      let now = asPublished t (rest t ok) x c e p (b .1) (before (t .process x) (inr (x, e, inl refl))) in
+      shared-as-published (plain t h) (t .process y) q (run t h) (t .publishes y) (t .refreshes y)
       (sym k ∙ ap (t .process) (b .0)) (ap (t .refreshes) (sym (b .0)) ∙ r) now
 
   -- who sees the plain byte holds it

@@ -1,4 +1,4 @@
--- The layered byte by itself: who is unpublished, and who holds a number whatever is published and refreshed. Assumes nothing.
+-- The layered byte by itself: who is unpublished, and who holds a number whatever is published and refreshed.
 use Prim.Native.Nat.{ℕ}
 use native.Mathlib.Decide.{ℕ-discrete}
 use mathlib.Core.Path.{_≡_, refl, sym, _∙_}
@@ -54,15 +54,15 @@ pub write-holds : (n p : ℕ) (s : Byte) → ((q : ℕ) → (q ≡ p → ⊥) �
 unfolding writeByte
 write-holds n p s alone = inl (put-same p p true _ refl, put-same p p n _ refl, λ q o. put-other p q true _ o ∙ alone q o)
 
--- what is settled stays so when a process publishes
-publish-settled : (n p : ℕ) (s : Byte) → Settled n s → Settled n (publishByte p s)
+-- what is marked published stays so when a process publishes
+publish-as-published : (n p : ℕ) (s : Byte) → Settled n s → Settled n (publishByte p s)
 unfolding publishByte
-publish-settled n p s w = (rw (w .1 p) (w .0), λ q. put-either p q false false _ (λ e. refl) (λ o. w .1 q))
+publish-as-published n p s w = (rw (w .1 p) (w .0), λ q. put-either p q false false _ (λ e. refl) (λ o. w .1 q))
 
 -- what is held stays so when a process publishes
 publish-holds : (n p q : ℕ) (s : Byte) → Holds n q s → Holds n q (publishByte p s)
 unfolding publishByte
-publish-holds n p q s (inr w) = inr (publish-settled n p s (w .0), w .1)
+publish-holds n p q s (inr w) = inr (publish-as-published n p s (w .0), w .1)
 publish-holds n p q s (inl w) = go (ℕ-discrete q p)
   where
     go : Dec (q ≡ p) → Holds n q (publishByte p s)
@@ -76,10 +76,10 @@ unfolding refreshByte
 refresh-holds n p q s (inl w) = inl (w .0, put-either p q _ n _ (λ e. rw (← e, w .0) (w .1)) (λ o. w .1), w .2)
 refresh-holds n p q s (inr w) = inr (w .0, put-either p q _ n _ (λ e. rw (w .0 .1 p) (w .0 .0)) (λ o. w .1))
 
--- who refreshes holds what is settled
-refresh-settled : (n p : ℕ) (s : Byte) → Settled n s → Holds n p (refreshByte p s)
+-- who refreshes holds what is marked published
+refresh-as-published : (n p : ℕ) (s : Byte) → Settled n s → Holds n p (refreshByte p s)
 unfolding refreshByte
-refresh-settled n p s w = inr (w, put-either p p _ n _ (λ e. rw (w .1 p) (w .0)) (λ o. absurd (o refl)))
+refresh-as-published n p s w = inr (w, put-either p p _ n _ (λ e. rw (w .1 p) (w .0)) (λ o. absurd (o refl)))
 
 -- ---- What a row does after its write
 
@@ -91,10 +91,10 @@ mayPublish b p s = cond b (publishByte p s) s
 abbrev pub mayRefresh : Bool → ℕ → Byte → Byte
 mayRefresh r p s = cond r (refreshByte p s) s
 
--- what is settled stays so when a process may publish
-may-publish-settled : (n p : ℕ) (s : Byte) (b : Bool) → Settled n s → Settled n (mayPublish b p s)
-may-publish-settled n p s true w = publish-settled n p s w
-may-publish-settled n p s false w = w
+-- what is marked published stays so when a process may publish
+may-publish-as-published : (n p : ℕ) (s : Byte) (b : Bool) → Settled n s → Settled n (mayPublish b p s)
+may-publish-as-published n p s true w = publish-as-published n p s w
+may-publish-as-published n p s false w = w
 
 -- what is held stays so when a process may publish
 may-publish-holds : (n p q : ℕ) (s : Byte) (b : Bool) → Holds n q s → Holds n q (mayPublish b p s)
@@ -110,10 +110,10 @@ may-refresh-holds n p q s false w = w
 pub shared-holds : (n p q : ℕ) (s : Byte) (b r : Bool) → Holds n q s → Holds n q (mayRefresh r p (mayPublish b p s))
 shared-holds n p q s b r w = may-refresh-holds n p q (mayPublish b p s) r (may-publish-holds n p q s b w)
 
--- the process of a row that refreshes holds what is settled
-pub shared-settled : (n p q : ℕ) (s : Byte) (b r : Bool) → q ≡ p → r ≡ true → Settled n s → Holds n q (mayRefresh r p (mayPublish b p s))
-shared-settled n p q s b true e h w = rw e (refresh-settled n p (mayPublish b p s) (may-publish-settled n p s b w))
-shared-settled n p q s b false e h w = absurd (false≢true h)
+-- the process of a row that refreshes holds what is marked published
+pub shared-as-published : (n p q : ℕ) (s : Byte) (b r : Bool) → q ≡ p → r ≡ true → Settled n s → Holds n q (mayRefresh r p (mayPublish b p s))
+shared-as-published n p q s b true e h w = rw e (refresh-as-published n p (mayPublish b p s) (may-publish-as-published n p s b w))
+shared-as-published n p q s b false e h w = absurd (false≢true h)
 
 -- ---- Who is left unpublished
 

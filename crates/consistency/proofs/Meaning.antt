@@ -1,4 +1,4 @@
--- Runs by the bytes alone, and the rows as one byte of one file sees them. Assumes nothing.
+-- Runs by the bytes alone, and the rows as one byte of one file sees them.
 use Prim.Native.Nat.{ℕ, suc, _<_}
 use mathlib.Core.Path.{_≡_, refl, sym, ap, _∙_}
 use mathlib.Core.Bool.{Bool, true, false, _&&_, and-false}

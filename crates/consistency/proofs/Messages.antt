@@ -1,4 +1,4 @@
--- Question 12 in document 01's words, and what it leaves of an accepted trace: a recv stands after its send. Assumes nothing.
+-- Question 12 in document 01's words, and what it leaves of an accepted trace: a recv stands after its send.
 use Prim.Native.Nat.{ℕ, zero, suc, _≤_, _<_}
 use native.Mathlib.Omega.{arith}
 use native.Mathlib.Decide.{decLt}

@@ -1,4 +1,4 @@
--- Allowed orders of a trace are those that one byte of one file sees, latest row first. Assumes nothing.
+-- Allowed orders of a trace are those that one byte of one file sees, latest row first.
 use Prim.Native.Nat.{ℕ, zero, suc}
 use native.Mathlib.Omega.{arith}
 use mathlib.Core.Path.{_≡_, refl, ap, _∙_}

@@ -1,5 +1,5 @@
 -- What runs of allowed orders keep under commit: what is published was published by its process after its write, and what is unpublished stays
--- so until its process publishes. Assumes nothing.
+-- so until its process publishes.
 use Prim.Native.Nat.{ℕ, suc, _<_}
 use native.Mathlib.Omega.{arith}
 use native.Mathlib.Decide.{decLt, ℕ-discrete}

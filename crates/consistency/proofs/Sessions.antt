@@ -1,4 +1,4 @@
--- The trace whose race under session no order shows. Assumes nothing.
+-- The trace whose race under session no order shows.
 use Prim.Native.Nat.{ℕ, zero, suc, _<_}
 use native.Mathlib.Omega.{arith}
 use mathlib.Core.Path.{_≡_, refl, sym, ap, subst, _∙_}

@@ -1,4 +1,4 @@
--- Demands 2 and 3 about whole runs. Assumes nothing.
+-- Demands 2 and 3 about whole runs.
 use Prim.Native.Nat.{ℕ, zero, suc, _+_, _*_, _≤_, _<_}
 use native.Mathlib.Omega.{arith}
 use mathlib.Core.Path.{_≡_, refl, sym, ap, subst, _∙_}

@@ -1,4 +1,4 @@
--- What the cells and the views of a layered file show. Assumes nothing.
+-- What the cells and the views of a layered file show.
 use Prim.Native.Nat.{ℕ}
 use native.Mathlib.Omega.{arith}
 use mathlib.Core.Path.{_≡_, refl, sym, ap, _∙_}

@@ -1,4 +1,4 @@
--- A race under commit is shown by an allowed order, and which one. Assumes nothing.
+-- A race under commit is shown by an allowed order, and which one.
 use Prim.Native.Nat.{ℕ, zero, suc, _≤_, _<_}
 use native.Mathlib.Omega.{arith}
 use mathlib.Core.Path.{_≡_, refl, sym, ap, _∙_}

@@ -1,4 +1,4 @@
--- What a caller learns from the answer of a reading. Assumes nothing.
+-- What a caller learns from the answer of a reading.
 use Prim.Native.Nat.{ℕ}
 use mathlib.Core.Path.{_≡_, refl, sym, ap, subst, _∙_}
 use mathlib.Core.List.{List, _++_}

@@ -1,4 +1,4 @@
--- The tests of a byte are the grammar's rules. Assumes nothing.
+-- The tests of a byte are the grammar's rules.
 use Prim.Native.Nat.{ℕ, _≤_, _<_}
 use native.Mathlib.Decide.{decLt}
 use native.Mathlib.Omega.{arith}

@@ -1,4 +1,4 @@
--- What a field is, by what was found of it. Assumes nothing.
+-- What a field is, by what was found of it.
 use Prim.Native.Nat.{ℕ, _+_, _-_}
 use native.Mathlib.Nat.{add-sub-cancel-left}
 use mathlib.Core.Path.{_≡_, refl, sym, ap, _∙_}

@@ -1,4 +1,4 @@
--- The content of a field and its comparison. Assumes nothing.
+-- The content of a field and its comparison.
 use Prim.Native.Nat.{ℕ, zero, suc, _+_, _-_, _≤_, _<_}
 use native.Mathlib.Nat.{add-sub-cancel-left}
 use native.Mathlib.Numerals.{add-one}

@@ -1,4 +1,4 @@
--- A reader with a limit needs no more bytes than the limit and one: what lies behind them changes no record. Assumes nothing.
+-- A reader with a limit needs no more bytes than the limit and one: what lies behind them changes no record.
 use Prim.Native.Nat.{ℕ, suc, zero, _+_, _-_, _≤_, _<_}
 use native.Mathlib.Omega.{arith}
 use native.Mathlib.Decide.{decLt}

@@ -1,4 +1,4 @@
--- The examples of RFC 4180, section 2, read by the definitions. Assumes nothing.
+-- The examples of RFC 4180, section 2, read by the definitions.
 use Prim.Native.Nat.{ℕ}
 use mathlib.Core.Path.{_≡_, refl}
 use mathlib.Core.List.{List, [], _∷_}

@@ -1,4 +1,4 @@
--- A field is read where, and as, the grammar derives one before a comma, a CR or the end of the text. Assumes nothing.
+-- A field is read where, and as, the grammar derives one before a comma, a CR or the end of the text.
 use Prim.Native.Nat.{ℕ, suc, zero, _+_}
 use native.Mathlib.Nat.{add-zero}
 use native.Mathlib.Numerals.{add-one}

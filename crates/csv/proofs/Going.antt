@@ -1,4 +1,4 @@
--- Reading field after field: what is known after some fields, and how it goes on. Assumes nothing.
+-- Reading field after field: what is known after some fields, and how it goes on.
 use Prim.Native.Nat.{ℕ, zero, suc, _+_, _-_, _≤_, _<_}
 use native.Mathlib.Omega.{arith}
 use mathlib.Core.Path.{_≡_, refl, sym, ap, _∙_}

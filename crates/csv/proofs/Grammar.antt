@@ -1,5 +1,5 @@
 -- Reading finds a record with these contents exactly where the grammar of RFC 4180 derives one, and the grammar is unambiguous.
--- Assumes nothing.
+--
 use Prim.Native.Nat.{ℕ, suc, zero, _+_, _-_, _≤_, _<_}
 use native.Mathlib.Omega.{arith}
 use native.Mathlib.Nat.{le-refl}

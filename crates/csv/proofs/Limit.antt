@@ -1,4 +1,4 @@
--- What a byte limit changes, and that reading record after record ends. Assumes nothing.
+-- What a byte limit changes, and that reading record after record ends.
 use Prim.Native.Nat.{ℕ, suc, zero, _+_, _-_, _≤_, _<_}
 use native.Mathlib.Omega.{arith}
 use native.Mathlib.Decide.{decLe, decLt}

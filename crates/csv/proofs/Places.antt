@@ -1,4 +1,4 @@
--- Where fields and records end: within the text, and each record after its start. Assumes nothing.
+-- Where fields and records end: within the text, and each record after its start.
 use Prim.Native.Nat.{ℕ, suc, zero, _+_, _-_, _≤_, _<_}
 use native.Mathlib.Omega.{arith}
 use native.Mathlib.Decide.{decLe}

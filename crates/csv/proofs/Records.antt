@@ -1,4 +1,4 @@
--- A record is read where, and as, the grammar derives one before CR LF or the end of the text. Assumes nothing.
+-- A record is read where, and as, the grammar derives one before CR LF or the end of the text.
 use Prim.Native.Nat.{ℕ, suc, zero, _+_, _<_}
 use native.Mathlib.Omega.{arith}
 use mathlib.Core.Path.{_≡_, refl, sym, ap, _∙_}

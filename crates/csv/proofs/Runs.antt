@@ -1,4 +1,4 @@
--- What runs of bytes are: TEXTDATA, and what stands between quotes. Assumes nothing.
+-- What runs of bytes are: TEXTDATA, and what stands between quotes.
 use Prim.Native.Nat.{ℕ, suc, _+_, _<_}
 use native.Mathlib.Omega.{arith}
 use mathlib.Core.Path.{_≡_, refl, ap, _∙_}

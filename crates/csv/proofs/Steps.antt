@@ -1,4 +1,4 @@
--- One step of each function of the reader, at a place of a list. Assumes nothing.
+-- One step of each function of the reader, at a place of a list.
 use Prim.Native.Nat.{ℕ, suc, zero, _+_, _≤_, _<_}
 use native.Mathlib.Omega.{arith}
 use mathlib.Core.Path.{_≡_, refl, sym, ap, _∙_}

@@ -1,4 +1,4 @@
--- What the entries for a view and the published map answer and leave, from what they test. Assumes nothing.
+-- What the entries for a view and the published map answer and leave, from what they test.
 use Prim.Native.Nat.{ℕ, _+_, _*_, _-_, _≤_, _<_}
 use native.Mathlib.Omega.{arith}
 use native.Mathlib.Decide.{decLt}
@@ -11,7 +11,7 @@ use lib.Dec.{leb}
 use borrow.Author.Tests.{le-leb, lt-leb, leb-true, leb-false, eq-eqb, ne-eqb, not-true, not-false}
 use Rattle.rows.specs.Limits.{ROWS, OFFSET-MAX}
 use Rattle.rows.specs.Questions.{firstNo}
-use Rattle.extents_meaning.specs.Cells.{Bytes, cellOf, numberIn, markIn, unpublished, cleared, overwrite, published, settled, refreshed, inRange}
+use Rattle.extents_meaning.specs.Cells.{Bytes, cellOf, numberIn, markIn, unpublished, cleared, overwrite, published, asPublished, refreshed, inRange}
 use Rattle.extents_meaning.specs.Runs.{Run, cellAt, runsFrom, runsOf, piecesOf, Lawful}
 use Rattle.extents_meaning.specs.Maps.{mapOf, mapFor, bytesOf, runs, lawful, mapAt, withMap, listedIn}
 use Rattle.extents_meaning.proofs.Longest.{same-from, runs-same, runs-back, runs-mean, runs-lawful, lawful-fine, Fine, pieces-same, range-behind}
@@ -21,9 +21,9 @@ use Rattle.extents_meaning.proofs.Passes.{over-before, over-behind}
 use Rattle.extents_meaning.proofs.Sides.{with-length, at-same, at-other, with-same, with-comm, with-over}
 use Rattle.extents.specs.declared.Answer.{Answer}
 use Rattle.extents.specs.declared.Answer.the-variants.{Done, Listed, Refused}
-use Rattle.extents_map.specs.Mixes.{PUBLISH, SETTLE, REFRESH, mixed, mix}
+use Rattle.extents_map.specs.Mixes.{PUBLISH, MARK-PUBLISHED, REFRESH, mixed, mix}
 use Rattle.extents_meaning.specs.Pairs.{twoMaps, viewOf, belowOf}
-use Rattle.extents.specs.Entries.{orRefused, orKept, bothMaps, publishRefusal, publishedMaps, refreshRefusal, refreshedMaps, syncRefusal, syncedMaps, readRefusal, postRefusal, postedMaps, countOf}
+use Rattle.extents.specs.Entries.{orRefused, orKept, bothMaps, publishRefusal, publishedMaps, refreshRefusal, refreshedMaps, syncRefusal, syncedMaps, readRefusal, writeThroughRefusal, writtenThroughMaps, countOf}
 use Rattle.extents_pair.specs.Packing.{marked}
 use Rattle.extents.proofs.Entering.{accepted}
 use Rattle.extents_pair.proofs.Pairing.{Told, two-told, two-apart, map-space, map-whole}
@@ -91,8 +91,8 @@ module _ (space view below : ℕ) (xs : List ℕ) where
         omega (arith, e, m .fit, map-space space below xs (told .below-in))
 
     -- marked published, a view fits too
-    pub settled-fits : length (runsOf (settled own)) ≤ space
-    settled-fits = omega (arith, runs-by cleared refl own, view-fits)
+    pub as-published-fits : length (runsOf (asPublished own)) ≤ space
+    as-published-fits = omega (arith, runs-by cleared refl own, view-fits)
 
     -- the published map is what its bytes write
     pub below-whole : mapFor space base ≡ mapAt space below xs
@@ -133,7 +133,7 @@ module _ (space view below : ℕ) (xs : List ℕ) where
   -- ---- Publishing
 
   publish-asks : publishRefusal space view below xs ≡
-      cond (twoMaps space view below xs) (cond (leb (length (runsOf (settled own))) space && leb (length (runsOf (published own base))) space) 0 16) 13
+      cond (twoMaps space view below xs) (cond (leb (length (runsOf (asPublished own))) space && leb (length (runsOf (published own base))) space) 0 16) 13
   unfolding publishRefusal firstNo
   publish-asks = refl
 
@@ -150,7 +150,7 @@ module _ (space view below : ℕ) (xs : List ℕ) where
 
   sync-asks : syncRefusal space view below xs ≡
       cond (twoMaps space view below xs)
-      (cond (leb (length (runsOf (refreshed (settled own) (published own base)))) space && leb (length (runsOf (published own base))) space) 0 16) 13
+      (cond (leb (length (runsOf (refreshed (asPublished own) (published own base)))) space && leb (length (runsOf (published own base))) space) 0 16) 13
   unfolding syncRefusal firstNo
   sync-asks = refl
 
@@ -166,7 +166,7 @@ module _ (space view below : ℕ) (xs : List ℕ) where
 
     module _ (fit : length (runsOf (published own base)) ≤ space) where
       pub publish-fits : publishRefusal space view below xs ≡ 0
-      publish-fits = publish-asks ∙ rw (two, le-leb (length (runsOf (settled own))) space (settled-fits two), le-leb (length (runsOf (published own base))) space fit)
+      publish-fits = publish-asks ∙ rw (two, le-leb (length (runsOf (asPublished own))) space (as-published-fits two), le-leb (length (runsOf (published own base))) space fit)
 
       -- what sharing leaves, said by publishing
       same-runs : runsOf (mix PUBLISH 0 0 0 own base) ≡ runsOf (published own base)
@@ -205,20 +205,20 @@ module _ (space view below : ℕ) (xs : List ℕ) where
                 clear-fine (own b) (lawful-fine (runs (mapAt space view xs)) (lawful-map (mapAt space view xs) (told two .view-law) .lawful-runs) b)
             go b false = lawful-fine (runs (mapAt space below xs)) (lawful-map (mapAt space below xs) (told two .below-law) .lawful-runs) b
 
-        pub publish-done : {zs : List ℕ} → zs ≡ withMap space view (mapFor space (settled (bytesOf (mapAt space view ys)))) ys →
+        pub publish-done : {zs : List ℕ} → zs ≡ withMap space view (mapFor space (asPublished (bytesOf (mapAt space view ys)))) ys →
             (Done ≡ orRefused (publishRefusal space view below xs) Done)
             × (zs ≡ orKept (publishRefusal space view below xs) (publishedMaps space view below xs) xs)
         unfolding publishedMaps
         publish-done z =
-            accepted Done (bothMaps space view below xs (settled own) (published own base)) xs publish-fits
-            (z ∙ (λ i. withMap space view (mapFor space (settled (bytesOf (view-after i)))) (after-share i))
-            ∙ both-last two (settled own) (published own base) (settled-fits two) fit)
+            accepted Done (bothMaps space view below xs (asPublished own) (published own base)) xs publish-fits
+            (z ∙ (λ i. withMap space view (mapFor space (asPublished (bytesOf (view-after i)))) (after-share i))
+            ∙ both-last two (asPublished own) (published own base) (as-published-fits two) fit)
 
       -- a view without marks is the published map after a refresh
-      synced-runs : runsOf (refreshed (settled own) (published own base)) ≡ runsOf (published own base)
+      synced-runs : runsOf (refreshed (asPublished own) (published own base)) ≡ runsOf (published own base)
       synced-runs =
-          runs-same (refreshed (settled own) (published own base)) (published own base)
-          (λ b l. rw (ne-eqb (markIn (settled own b)) 1 (omega arith)))
+          runs-same (refreshed (asPublished own) (published own base)) (published own base)
+          (λ b l. rw (ne-eqb (markIn (asPublished own b)) 1 (omega arith)))
 
       sync-fits : syncRefusal space view below xs ≡ 0
       sync-fits = sync-asks ∙ rw (two, ap (λ (l : List Run). length l) synced-runs, le-leb (length (runsOf (published own base))) space fit)
@@ -230,11 +230,11 @@ module _ (space view below : ℕ) (xs : List ℕ) where
             × (zs ≡ orKept (syncRefusal space view below xs) (syncedMaps space view below xs) xs)
         unfolding syncedMaps
         sync-done z =
-            accepted Done (bothMaps space view below xs (refreshed (settled own) (published own base)) (published own base)) xs sync-fits
+            accepted Done (bothMaps space view below xs (refreshed (asPublished own) (published own base)) (published own base)) xs sync-fits
             (z ∙ (λ i. withMap space view (mapAt space below (after-share y i)) (after-share y i))
             ∙ ap (λ (m : List ℕ). withMap space view m (shared two (published own base) fit)) (shared-below two (published own base) fit)
             ∙ ap (λ (l : List Run). withMap space view (mapOf space l) (shared two (published own base) fit)) (sym synced-runs)
-            ∙ both-last two (refreshed (settled own) (published own base)) (published own base) (omega (arith, fit, ap (λ (l : List Run). length l) synced-runs)) fit)
+            ∙ both-last two (refreshed (asPublished own) (published own base)) (published own base) (omega (arith, fit, ap (λ (l : List Run). length l) synced-runs)) fit)
 
   -- ---- Refreshing
 
@@ -354,9 +354,9 @@ module _ (space view below : ℕ) (xs : List ℕ) where
     wrote = overwrite start n (cellOf number 1) own
 
     -- the walk's mixes say the same at every byte, the range in or not
-    mix-post : (b : ℕ) → mix PUBLISH start n (cellOf number 0) own base b ≡ published wrote base b
+    mix-write-through : (b : ℕ) → mix PUBLISH start n (cellOf number 0) own base b ≡ published wrote base b
     unfolding mixed
-    mix-post b = go (inRange start n b)
+    mix-write-through b = go (inRange start n b)
       where
         go : (x : Bool) → cond x (cellOf number 0) (cond (unpublished (own b)) (cleared (own b)) (base b)) ≡
             cond (unpublished (cond x (cellOf number 1) (own b))) (cleared (cond x (cellOf number 1) (own b))) (base b)
@@ -365,17 +365,17 @@ module _ (space view below : ℕ) (xs : List ℕ) where
             rw (eq-eqb (markIn (cellOf number 1)) 1 (omega arith)) q
         go false = refl
 
-    mix-settle : (b : ℕ) → mix SETTLE start n (cellOf number 0) own base b ≡ settled wrote b
+    mix-mark-published : (b : ℕ) → mix MARK-PUBLISHED start n (cellOf number 0) own base b ≡ asPublished wrote b
     unfolding mixed
-    mix-settle b = go (inRange start n b)
+    mix-mark-published b = go (inRange start n b)
       where
         go : (x : Bool) → cond x (cellOf number 0) (cleared (own b)) ≡ cleared (cond x (cellOf number 1) (own b))
         go true = omega arith
         go false = refl
 
-    -- a range laid on the settled view is the settled view of the write
-    lay-settled : (b : ℕ) → overwrite start n (cellOf number 0) (settled own) b ≡ settled wrote b
-    lay-settled b = go (inRange start n b)
+    -- a range laid on the marked published view is the marked published view of the write
+    lay-as-published : (b : ℕ) → overwrite start n (cellOf number 0) (asPublished own) b ≡ asPublished wrote b
+    lay-as-published b = go (inRange start n b)
       where
         go : (x : Bool) → cond x (cellOf number 0) (cleared (own b)) ≡ cleared (cond x (cellOf number 1) (own b))
         go true = omega arith
@@ -387,117 +387,117 @@ module _ (space view below : ℕ) (xs : List ℕ) where
     module _ {cell : ℕ} (q : cell ≡ cellOf number 0) where
       -- whether the published map fits
       module _ {r : Bool} (e : r ≡ leb (length (runsFrom (4294967295 - 0) 0 (mix PUBLISH start (start + n - start) cell own base))) space) where
-        post-told : r ≡ leb (length (runsFrom (4294967295 - 0) 0 (mix PUBLISH start n (cellOf number 0) own base))) space
-        post-told = e ∙ (λ i. leb (length (runsFrom (4294967295 - 0) 0 (mix PUBLISH start (there i) (q i) own base))) space)
+        write-through-told : r ≡ leb (length (runsFrom (4294967295 - 0) 0 (mix PUBLISH start n (cellOf number 0) own base))) space
+        write-through-told = e ∙ (λ i. leb (length (runsFrom (4294967295 - 0) 0 (mix PUBLISH start (there i) (q i) own base))) space)
 
-        pub post-enough : not r ≡ false → length (runsOf (published wrote base)) ≤ space
-        post-enough = enough (mix PUBLISH start n (cellOf number 0) own base) (published wrote base) mix-post space post-told
+        pub write-through-enough : not r ≡ false → length (runsOf (published wrote base)) ≤ space
+        write-through-enough = enough (mix PUBLISH start n (cellOf number 0) own base) (published wrote base) mix-write-through space write-through-told
 
-        pub post-short : not r ≡ true → space < length (runsOf (published wrote base))
-        post-short = short (mix PUBLISH start n (cellOf number 0) own base) (published wrote base) mix-post space post-told
+        pub write-through-short : not r ≡ true → space < length (runsOf (published wrote base))
+        write-through-short = short (mix PUBLISH start n (cellOf number 0) own base) (published wrote base) mix-write-through space write-through-told
 
       -- whether the view fits
-      module _ {r : Bool} (e : r ≡ leb (length (runsFrom (4294967295 - 0) 0 (mix SETTLE start (start + n - start) cell own base))) space) where
-        settle-told : r ≡ leb (length (runsFrom (4294967295 - 0) 0 (mix SETTLE start n (cellOf number 0) own base))) space
-        settle-told = e ∙ (λ i. leb (length (runsFrom (4294967295 - 0) 0 (mix SETTLE start (there i) (q i) own base))) space)
+      module _ {r : Bool} (e : r ≡ leb (length (runsFrom (4294967295 - 0) 0 (mix MARK-PUBLISHED start (start + n - start) cell own base))) space) where
+        mark-published-told : r ≡ leb (length (runsFrom (4294967295 - 0) 0 (mix MARK-PUBLISHED start n (cellOf number 0) own base))) space
+        mark-published-told = e ∙ (λ i. leb (length (runsFrom (4294967295 - 0) 0 (mix MARK-PUBLISHED start (there i) (q i) own base))) space)
 
-        pub settle-enough : not r ≡ false → length (runsOf (settled wrote)) ≤ space
-        settle-enough = enough (mix SETTLE start n (cellOf number 0) own base) (settled wrote) mix-settle space settle-told
+        pub mark-published-enough : not r ≡ false → length (runsOf (asPublished wrote)) ≤ space
+        mark-published-enough = enough (mix MARK-PUBLISHED start n (cellOf number 0) own base) (asPublished wrote) mix-mark-published space mark-published-told
 
-        pub settle-short : not r ≡ true → space < length (runsOf (settled wrote))
-        settle-short = short (mix SETTLE start n (cellOf number 0) own base) (settled wrote) mix-settle space settle-told
+        pub mark-published-short : not r ≡ true → space < length (runsOf (asPublished wrote))
+        mark-published-short = short (mix MARK-PUBLISHED start n (cellOf number 0) own base) (asPublished wrote) mix-mark-published space mark-published-told
 
-    post-asks : start ≤ OFFSET-MAX → n ≤ OFFSET-MAX → postRefusal space view below xs start n number ≡
+    write-through-asks : start ≤ OFFSET-MAX → n ≤ OFFSET-MAX → writeThroughRefusal space view below xs start n number ≡
         cond (twoMaps space view below xs)
         (cond (leb 1 number && leb number ROWS)
-        (cond (leb (start + n) OFFSET-MAX) (cond (leb (length (runsOf (settled wrote))) space && leb (length (runsOf (published wrote base))) space) 0 16) 11) 14) 13
-    unfolding postRefusal firstNo
-    post-asks s l = rw (le-leb start OFFSET-MAX s, le-leb n OFFSET-MAX l)
+        (cond (leb (start + n) OFFSET-MAX) (cond (leb (length (runsOf (asPublished wrote))) space && leb (length (runsOf (published wrote base))) space) 0 16) 11) 14) 13
+    unfolding writeThroughRefusal firstNo
+    write-through-asks s l = rw (le-leb start OFFSET-MAX s, le-leb n OFFSET-MAX l)
 
     module _ (s : start ≤ OFFSET-MAX) (l : n ≤ OFFSET-MAX) where
-      pub post-unlawful : twoMaps space view below xs ≡ false → postRefusal space view below xs start n number ≡ 13
-      post-unlawful e = post-asks s l ∙ rw e
+      pub write-through-unlawful : twoMaps space view below xs ≡ false → writeThroughRefusal space view below xs start n number ≡ 13
+      write-through-unlawful e = write-through-asks s l ∙ rw e
 
       module _ (two : twoMaps space view below xs ≡ true) where
-        pub post-low : number < 1 → postRefusal space view below xs start n number ≡ 14
-        post-low h = post-asks s l ∙ rw (two, lt-leb 1 number h)
+        pub write-through-low : number < 1 → writeThroughRefusal space view below xs start n number ≡ 14
+        write-through-low h = write-through-asks s l ∙ rw (two, lt-leb 1 number h)
 
-        pub post-high : ROWS < number → postRefusal space view below xs start n number ≡ 14
-        post-high h = post-asks s l ∙ rw (two, lt-leb number ROWS h, and-false)
+        pub write-through-high : ROWS < number → writeThroughRefusal space view below xs start n number ≡ 14
+        write-through-high h = write-through-asks s l ∙ rw (two, lt-leb number ROWS h, and-false)
 
         module _ (low : 1 ≤ number) (high : number ≤ ROWS) where
-          pub post-past : OFFSET-MAX < start + n → postRefusal space view below xs start n number ≡ 11
-          post-past h = post-asks s l ∙ rw (two, le-leb 1 number low, le-leb number ROWS high, lt-leb (start + n) OFFSET-MAX h)
+          pub write-through-past : OFFSET-MAX < start + n → writeThroughRefusal space view below xs start n number ≡ 11
+          write-through-past h = write-through-asks s l ∙ rw (two, le-leb 1 number low, le-leb number ROWS high, lt-leb (start + n) OFFSET-MAX h)
 
           module _ (end : start + n ≤ OFFSET-MAX) where
-            pub post-full : space < length (runsOf (published wrote base)) → postRefusal space view below xs start n number ≡ 16
-            post-full h =
-                post-asks s l
+            pub write-through-full : space < length (runsOf (published wrote base)) → writeThroughRefusal space view below xs start n number ≡ 16
+            write-through-full h =
+                write-through-asks s l
                 ∙ rw (two, le-leb 1 number low, le-leb number ROWS high, le-leb (start + n) OFFSET-MAX end, lt-leb (length (runsOf (published wrote base))) space h, and-false)
 
-            pub post-view-full : space < length (runsOf (settled wrote)) → postRefusal space view below xs start n number ≡ 16
-            post-view-full h =
-                post-asks s l
-                ∙ rw (two, le-leb 1 number low, le-leb number ROWS high, le-leb (start + n) OFFSET-MAX end, lt-leb (length (runsOf (settled wrote))) space h)
+            pub write-through-view-full : space < length (runsOf (asPublished wrote)) → writeThroughRefusal space view below xs start n number ≡ 16
+            write-through-view-full h =
+                write-through-asks s l
+                ∙ rw (two, le-leb 1 number low, le-leb number ROWS high, le-leb (start + n) OFFSET-MAX end, lt-leb (length (runsOf (asPublished wrote))) space h)
 
-            module _ (fit : length (runsOf (published wrote base)) ≤ space) (view-fit : length (runsOf (settled wrote)) ≤ space) where
-              post-fits : postRefusal space view below xs start n number ≡ 0
-              post-fits =
-                  post-asks s l
+            module _ (fit : length (runsOf (published wrote base)) ≤ space) (view-fit : length (runsOf (asPublished wrote)) ≤ space) where
+              write-through-fits : writeThroughRefusal space view below xs start n number ≡ 0
+              write-through-fits =
+                  write-through-asks s l
                   ∙ rw (
                     two,
                     le-leb 1 number low,
                     le-leb number ROWS high,
                     le-leb (start + n) OFFSET-MAX end,
-                    le-leb (length (runsOf (settled wrote))) space view-fit,
+                    le-leb (length (runsOf (asPublished wrote))) space view-fit,
                     le-leb (length (runsOf (published wrote base))) space fit,
                   )
 
-              posted-runs : runsOf (mix PUBLISH start (start + n - start) (cellOf number 0) own base) ≡ runsOf (published wrote base)
-              posted-runs =
+              written-through-runs : runsOf (mix PUBLISH start (start + n - start) (cellOf number 0) own base) ≡ runsOf (published wrote base)
+              written-through-runs =
                   (λ i. runsOf (mix PUBLISH start (there i) (cellOf number 0) own base))
-                  ∙ runs-same (mix PUBLISH start n (cellOf number 0) own base) (published wrote base) (λ b l. mix-post b)
+                  ∙ runs-same (mix PUBLISH start n (cellOf number 0) own base) (published wrote base) (λ b l. mix-write-through b)
 
-              pub post-share : length (runsOf (mix PUBLISH start (start + n - start) (cellOf number 0) own base)) ≤ space
-              post-share = omega (arith, fit, ap (λ (l : List Run). length l) posted-runs)
+              pub write-through-share : length (runsOf (mix PUBLISH start (start + n - start) (cellOf number 0) own base)) ≤ space
+              write-through-share = omega (arith, fit, ap (λ (l : List Run). length l) written-through-runs)
 
               module _ {ys : List ℕ} (y : ys ≡ withMap space below (mapFor space (mix PUBLISH start (start + n - start) (cellOf number 0) own base)) xs) where
-                posted : ys ≡ shared two (published wrote base) fit
-                posted = y ∙ ap (λ (l : List Run). withMap space below (mapOf space l) xs) posted-runs
+                written-through : ys ≡ shared two (published wrote base) fit
+                written-through = y ∙ ap (λ (l : List Run). withMap space below (mapOf space l) xs) written-through-runs
 
-                pub view-in-posted : (view + 1) * (4 * space) ≤ length ys
-                view-in-posted = omega (arith, told two .view-in, ap length posted, shared-length two (published wrote base) fit)
+                pub view-in-written-through : (view + 1) * (4 * space) ≤ length ys
+                view-in-written-through = omega (arith, told two .view-in, ap length written-through, shared-length two (published wrote base) fit)
 
-                view-posted : mapAt space view ys ≡ mapAt space view xs
-                view-posted = ap (mapAt space view) posted ∙ shared-view two (published wrote base) fit
+                view-written-through : mapAt space view ys ≡ mapAt space view xs
+                view-written-through = ap (mapAt space view) written-through ∙ shared-view two (published wrote base) fit
 
-                pub view-law-posted : lawful (mapAt space view ys) ≡ true
-                view-law-posted = ap lawful view-posted ∙ told two .view-law
+                pub view-law-written-through : lawful (mapAt space view ys) ≡ true
+                view-law-written-through = ap lawful view-written-through ∙ told two .view-law
 
                 -- as many unpublished runs
-                pub own-posted : {k : ℕ} → k ≡ length (marked (runs (mapAt space view xs))) → k ≡ length (marked (runs (mapAt space view ys)))
-                own-posted e = e ∙ ap (λ (m : List ℕ). length (marked (runs m))) (sym view-posted)
+                pub own-written-through : {k : ℕ} → k ≡ length (marked (runs (mapAt space view xs))) → k ≡ length (marked (runs (mapAt space view ys)))
+                own-written-through e = e ∙ ap (λ (m : List ℕ). length (marked (runs m))) (sym view-written-through)
 
-                module _ {zs : List ℕ} (z : zs ≡ withMap space view (mapFor space (settled (bytesOf (mapAt space view ys)))) ys) where
-                  settled-there : zs ≡ withMap space view (mapFor space (settled own)) (shared two (published wrote base) fit)
-                  settled-there = z ∙ (λ i. withMap space view (mapFor space (settled (bytesOf (view-posted i)))) (posted i))
+                module _ {zs : List ℕ} (z : zs ≡ withMap space view (mapFor space (asPublished (bytesOf (mapAt space view ys)))) ys) where
+                  as-published-there : zs ≡ withMap space view (mapFor space (asPublished own)) (shared two (published wrote base) fit)
+                  as-published-there = z ∙ (λ i. withMap space view (mapFor space (asPublished (bytesOf (view-written-through i)))) (written-through i))
 
-                  own-size : length (mapFor space (settled own)) ≡ 4 * space
-                  own-size = length-map space (runsOf (settled own)) (settled-fits two)
+                  own-size : length (mapFor space (asPublished own)) ≡ 4 * space
+                  own-size = length-map space (runsOf (asPublished own)) (as-published-fits two)
 
                   view-in-shared : (view + 1) * (4 * space) ≤ length (shared two (published wrote base) fit)
                   view-in-shared = omega (arith, told two .view-in, shared-length two (published wrote base) fit)
 
                   -- nothing to lay: the range is empty
-                  pub post-empty : start + n ≤ start → (Done ≡ orRefused (postRefusal space view below xs start n number) Done)
-                      × (zs ≡ orKept (postRefusal space view below xs start n number) (postedMaps space view below xs start n number) xs)
-                  unfolding postedMaps
-                  post-empty h =
-                      let same : runsOf (settled own) ≡ runsOf (settled wrote) = runs-same (settled own) (settled wrote)
+                  pub write-through-empty : start + n ≤ start → (Done ≡ orRefused (writeThroughRefusal space view below xs start n number) Done)
+                      × (zs ≡ orKept (writeThroughRefusal space view below xs start n number) (writtenThroughMaps space view below xs start n number) xs)
+                  unfolding writtenThroughMaps
+                  write-through-empty h =
+                      let same : runsOf (asPublished own) ≡ runsOf (asPublished wrote) = runs-same (asPublished own) (asPublished wrote)
                       (λ b l. ap cleared (sym (untouched b))) in
-                      accepted Done (bothMaps space view below xs (settled wrote) (published wrote base)) xs post-fits
-                      (settled-there ∙ ap (λ (l : List Run). withMap space view (mapOf space l) (shared two (published wrote base) fit)) same
-                      ∙ both-last two (settled wrote) (published wrote base) view-fit fit)
+                      accepted Done (bothMaps space view below xs (asPublished wrote) (published wrote base)) xs write-through-fits
+                      (as-published-there ∙ ap (λ (l : List Run). withMap space view (mapOf space l) (shared two (published wrote base) fit)) same
+                      ∙ both-last two (asPublished wrote) (published wrote base) view-fit fit)
                     where
                       untouched : (b : ℕ) → wrote b ≡ own b
                       untouched b = go (decLt b start)
@@ -506,35 +506,35 @@ module _ (space view below : ℕ) (xs : List ℕ) where
                           go (yes k) = over-before start n (cellOf number 1) own b k
                           go (no k) = over-behind start n (cellOf number 1) own b (omega (arith, h, k))
 
-                  -- the range laid on the settled view
-                  view-settled : mapAt space view zs ≡ mapFor space (settled own)
-                  view-settled =
-                      ap (mapAt space view) settled-there
-                      ∙ at-same space view (mapFor space (settled own)) (shared two (published wrote base) fit) own-size view-in-shared
+                  -- the range laid on the marked published view
+                  view-as-published : mapAt space view zs ≡ mapFor space (asPublished own)
+                  view-as-published =
+                      ap (mapAt space view) as-published-there
+                      ∙ at-same space view (mapFor space (asPublished own)) (shared two (published wrote base) fit) own-size view-in-shared
 
-                  own-lawful : Lawful (runsOf (settled own))
+                  own-lawful : Lawful (runsOf (asPublished own))
                   own-lawful =
-                      runs-lawful (settled own)
+                      runs-lawful (asPublished own)
                       (λ b l. clear-fine (own b) (lawful-fine (runs (mapAt space view xs)) (lawful-map (mapAt space view xs) (told two .view-law) .lawful-runs) b))
 
-                  pub view-in-settled : (view + 1) * (4 * space) ≤ length zs
-                  view-in-settled =
-                      omega (arith, view-in-shared, ap length settled-there, with-length space view (mapFor space (settled own)) (shared two (published wrote base) fit) own-size view-in-shared)
+                  pub view-in-as-published : (view + 1) * (4 * space) ≤ length zs
+                  view-in-as-published =
+                      omega (arith, view-in-shared, ap length as-published-there, with-length space view (mapFor space (asPublished own)) (shared two (published wrote base) fit) own-size view-in-shared)
 
-                  pub view-law-settled : lawful (mapAt space view zs) ≡ true
-                  view-law-settled = ap lawful view-settled ∙ map-lawful space (runsOf (settled own)) own-lawful (settled-fits two)
+                  pub view-law-as-published : lawful (mapAt space view zs) ≡ true
+                  view-law-as-published = ap lawful view-as-published ∙ map-lawful space (runsOf (asPublished own)) own-lawful (as-published-fits two)
 
-                  laid-runs : runsOf (overwrite start (start + n - start) (cellOf number 0) (bytesOf (mapAt space view zs))) ≡ runsOf (settled wrote)
+                  laid-runs : runsOf (overwrite start (start + n - start) (cellOf number 0) (bytesOf (mapAt space view zs))) ≡ runsOf (asPublished wrote)
                   laid-runs =
-                      (λ i. runsOf (overwrite start (there i) (cellOf number 0) (bytesOf (view-settled i))))
-                      ∙ runs-same (overwrite start n (cellOf number 0) (bytesOf (mapFor space (settled own)))) (settled wrote)
+                      (λ i. runsOf (overwrite start (there i) (cellOf number 0) (bytesOf (view-as-published i))))
+                      ∙ runs-same (overwrite start n (cellOf number 0) (bytesOf (mapFor space (asPublished own)))) (asPublished wrote)
                       (λ b l. ap (λ (c : ℕ). cond (inRange start n b) (cellOf number 0) c)
-                      (ap (λ (rs : List Run). cellAt rs b) (map-back space (runsOf (settled own)) own-lawful (settled-fits two)) ∙ runs-mean (settled own) b l)
-                      ∙ lay-settled b)
+                      (ap (λ (rs : List Run). cellAt rs b) (map-back space (runsOf (asPublished own)) own-lawful (as-published-fits two)) ∙ runs-mean (asPublished own) b l)
+                      ∙ lay-as-published b)
 
-                  pub post-lay : {cell : ℕ} → cell ≡ cellOf number 0 →
+                  pub write-through-lay : {cell : ℕ} → cell ≡ cellOf number 0 →
                       length (runsOf (overwrite start (start + n - start) cell (bytesOf (mapAt space view zs)))) ≤ space
-                  post-lay q =
+                  write-through-lay q =
                       omega (
                         arith,
                         view-fit,
@@ -542,18 +542,18 @@ module _ (space view below : ℕ) (xs : List ℕ) where
                         ap (λ (l : List Run). length l) laid-runs,
                       )
 
-                  pub post-done : {cell : ℕ} {us : List ℕ} → cell ≡ cellOf number 0 →
+                  pub write-through-done : {cell : ℕ} {us : List ℕ} → cell ≡ cellOf number 0 →
                       us ≡ withMap space view (mapFor space (overwrite start (start + n - start) cell (bytesOf (mapAt space view zs)))) zs →
-                      (Done ≡ orRefused (postRefusal space view below xs start n number) Done)
-                      × (us ≡ orKept (postRefusal space view below xs start n number) (postedMaps space view below xs start n number) xs)
-                  unfolding postedMaps
-                  post-done q u =
-                      accepted Done (bothMaps space view below xs (settled wrote) (published wrote base)) xs post-fits
+                      (Done ≡ orRefused (writeThroughRefusal space view below xs start n number) Done)
+                      × (us ≡ orKept (writeThroughRefusal space view below xs start n number) (writtenThroughMaps space view below xs start n number) xs)
+                  unfolding writtenThroughMaps
+                  write-through-done q u =
+                      accepted Done (bothMaps space view below xs (asPublished wrote) (published wrote base)) xs write-through-fits
                       (u ∙ (λ i. withMap space view (mapFor space (overwrite start (start + n - start) (q i) (bytesOf (mapAt space view zs)))) zs)
-                      ∙ (λ i. withMap space view (mapOf space (laid-runs i)) (settled-there i))
-                      ∙ with-over space view (mapFor space (settled wrote)) (mapFor space (settled own)) (shared two (published wrote base) fit)
-                      (length-map space (runsOf (settled wrote)) view-fit) own-size view-in-shared
-                      ∙ both-last two (settled wrote) (published wrote base) view-fit fit)
+                      ∙ (λ i. withMap space view (mapOf space (laid-runs i)) (as-published-there i))
+                      ∙ with-over space view (mapFor space (asPublished wrote)) (mapFor space (asPublished own)) (shared two (published wrote base) fit)
+                      (length-map space (runsOf (asPublished wrote)) view-fit) own-size view-in-shared
+                      ∙ both-last two (asPublished wrote) (published wrote base) view-fit fit)
 
 -- a refusal that leaves both slices
 pub refused-both : (k : ℕ) {r : ℕ} (a : Answer) (ys xs vs us : List ℕ) → r ≡ k → 0 < k →

@@ -1,4 +1,4 @@
--- What the entries answer and leave, from what they test. Assumes nothing.
+-- What the entries answer and leave, from what they test.
 use Prim.Native.Nat.{ℕ, suc, _+_, _*_, _-_, _≤_, _<_}
 use native.Mathlib.Omega.{arith}
 use native.Mathlib.Decide.{decLt}

@@ -6,7 +6,7 @@ use lib.ListN.{length}
 use lib.Dec.{leb, eqb}
 use Rattle.rows.specs.Limits.{ROWS, OFFSET-MAX}
 use Rattle.rows.specs.Questions.{Question, firstNo}
-use Rattle.extents_meaning.specs.Cells.{Bytes, cellOf, overwrite, published, settled, refreshed}
+use Rattle.extents_meaning.specs.Cells.{Bytes, cellOf, overwrite, published, asPublished, refreshed}
 use Rattle.extents_meaning.specs.Runs.{Run, runsOf, piecesOf}
 use Rattle.extents_meaning.specs.Maps.{mapFor, spaceIn, bytesOf, lawful, withMap}
 use Rattle.extents_meaning.specs.Pairs.{twoMaps, viewOf, belowOf}
@@ -93,10 +93,10 @@ module _ (space view below : ℕ) (xs : List ℕ) where
 
   -- publish the view
   unfoldable pub publishRefusal : ℕ
-  publishRefusal = firstNo (asksLaw (twoMaps space view below xs) ∷ asksBoth (settled own) (published own base))
+  publishRefusal = firstNo (asksLaw (twoMaps space view below xs) ∷ asksBoth (asPublished own) (published own base))
 
   unfoldable pub publishedMaps : List ℕ
-  publishedMaps = bothMaps (settled own) (published own base)
+  publishedMaps = bothMaps (asPublished own) (published own base)
 
   -- refresh it
   unfoldable pub refreshRefusal : ℕ
@@ -110,24 +110,24 @@ module _ (space view below : ℕ) (xs : List ℕ) where
   syncRefusal =
       firstNo
       (asksLaw (twoMaps space view below xs)
-      ∷ asksBoth (refreshed (settled own) (published own base)) (published own base))
+      ∷ asksBoth (refreshed (asPublished own) (published own base)) (published own base))
 
   unfoldable pub syncedMaps : List ℕ
-  syncedMaps = bothMaps (refreshed (settled own) (published own base)) (published own base)
+  syncedMaps = bothMaps (refreshed (asPublished own) (published own base)) (published own base)
 
   module _ (start length : ℕ) where
     -- write a range, then publish
     abbrev pub writing : ℕ → Bytes
     writing number = overwrite start length (cellOf number 1) own
 
-    unfoldable pub postRefusal : ℕ → ℕ
-    postRefusal number =
+    unfoldable pub writeThroughRefusal : ℕ → ℕ
+    writeThroughRefusal number =
         firstNo
         (asksLaw (twoMaps space view below xs)
-        ∷ (asksNumber number ∷ (asksRange start length ++ asksBoth (settled (writing number)) (published (writing number) base))))
+        ∷ (asksNumber number ∷ (asksRange start length ++ asksBoth (asPublished (writing number)) (published (writing number) base))))
 
-    unfoldable pub postedMaps : ℕ → List ℕ
-    postedMaps number = bothMaps (settled (writing number)) (published (writing number) base)
+    unfoldable pub writtenThroughMaps : ℕ → List ℕ
+    writtenThroughMaps number = bothMaps (asPublished (writing number)) (published (writing number) base)
 
     -- refresh, then list the pieces of a range
     unfoldable pub readRefusal : ℕ → ℕ

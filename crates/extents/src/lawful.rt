@@ -9,7 +9,7 @@ ghost use Rattle.extents_meaning.specs.Cells.{cellOf, refreshed};
 ghost use Rattle.extents_meaning.specs.Runs.{piecesOf};
 ghost use Rattle.extents_meaning.specs.Maps.{bytesOf, lawful, listedIn};
 ghost use Rattle.extents_meaning.specs.Pairs.{twoMaps, viewOf, belowOf};
-ghost use Rattle.extents.specs.Entries.{orRefused, orKept, countOf, markOf, writeRefusal, writtenMap, listRefusal, publishRefusal, publishedMaps, refreshRefusal, refreshedMaps, syncRefusal, syncedMaps, postRefusal, postedMaps, readRefusal};
+ghost use Rattle.extents.specs.Entries.{orRefused, orKept, countOf, markOf, writeRefusal, writtenMap, listRefusal, publishRefusal, publishedMaps, refreshRefusal, refreshedMaps, syncRefusal, syncedMaps, writeThroughRefusal, writtenThroughMaps, readRefusal};
 ghost use Rattle.extents.specs.declared.Answer.the-variants.{Done};
 use rows::refusal;
 ghost use Rattle.rows.specs.Limits.{ROWS};
@@ -92,7 +92,7 @@ pub fn publish(maps: &mut [u32], space: usize, view: usize, below: usize) -> Ans
         return Answer::Refused(refusal::MAP_SPACE);
     }
     extents_pair::share::share(maps, space, view, below, own, 0, 0, 0);
-    extents_pair::pair::settle(maps, space, view, own);
+    extents_pair::pair::mark_published(maps, space, view, own);
     Answer::Done
 }
 
@@ -128,7 +128,7 @@ pub fn sync(maps: &mut [u32], space: usize, view: usize, below: usize) -> Answer
 }
 
 // Writes a range into a view, then publishes it.
-pub fn post(
+pub fn write_through(
     maps: &mut [u32],
     space: usize,
     view: usize,
@@ -138,9 +138,9 @@ pub fn post(
     number: u32,
 ) -> Answer
     requires { ⌜ twoMaps space view below (now maps) ≡ true ⌝ }
-    ensures answer { λ r. ⌜ r ≡ orRefused (postRefusal space view below (now (maps .entry)) start length number) Done ⌝ }
-    ensures left { λ r. ⌜ now (maps .exit) ≡ orKept (postRefusal space view below (now (maps .entry)) start length number)
-        (postedMaps space view below (now (maps .entry)) start length number) (now (maps .entry)) ⌝ }
+    ensures answer { λ r. ⌜ r ≡ orRefused (writeThroughRefusal space view below (now (maps .entry)) start length number) Done ⌝ }
+    ensures left { λ r. ⌜ now (maps .exit) ≡ orKept (writeThroughRefusal space view below (now (maps .entry)) start length number)
+        (writtenThroughMaps space view below (now (maps .entry)) start length number) (now (maps .entry)) ⌝ }
 {
     if number < 1 {
         return Answer::Refused(refusal::ROW_NUMBER);
@@ -161,7 +161,7 @@ pub fn post(
         return Answer::Refused(refusal::MAP_SPACE);
     }
     extents_pair::share::share(maps, space, view, below, own, start, end, number);
-    extents_pair::pair::settle(maps, space, view, own);
+    extents_pair::pair::mark_published(maps, space, view, own);
     if start < end {
         extents_pair::pair::lay(maps, space, view, start, end, cell);
     }

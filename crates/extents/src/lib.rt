@@ -4,7 +4,7 @@ ghost use lib.ListN.{length};
 ghost use Rattle.extents_meaning.specs.Cells.{refreshed};
 ghost use Rattle.extents_meaning.specs.Runs.{piecesOf};
 ghost use Rattle.extents_meaning.specs.Maps.{bytesOf, lawful, lawfulPublished, listedIn};
-ghost use Rattle.extents.specs.Entries.{orRefused, orKept, countOf, writeRefusal, writtenMap, listRefusal, publishRefusal, publishedMaps, refreshRefusal, refreshedMaps, syncRefusal, syncedMaps, postRefusal, postedMaps, readRefusal};
+ghost use Rattle.extents.specs.Entries.{orRefused, orKept, countOf, writeRefusal, writtenMap, listRefusal, publishRefusal, publishedMaps, refreshRefusal, refreshedMaps, syncRefusal, syncedMaps, writeThroughRefusal, writtenThroughMaps, readRefusal};
 ghost use Rattle.extents_meaning.specs.Pairs.{viewOf, belowOf};
 ghost use Rattle.extents.specs.declared.Answer.the-variants.{Done};
 
@@ -95,7 +95,7 @@ pub fn sync(maps: &mut [u32], space: usize, view: usize, below: usize) -> Answer
 }
 
 // Writes a range into a view, then publishes it.
-pub fn post(
+pub fn write_through(
     maps: &mut [u32],
     space: usize,
     view: usize,
@@ -104,14 +104,14 @@ pub fn post(
     length: u32,
     number: u32,
 ) -> Answer
-    ensures answer { λ r. ⌜ r ≡ orRefused (postRefusal space view below (now (maps .entry)) start length number) Done ⌝ }
-    ensures left { λ r. ⌜ now (maps .exit) ≡ orKept (postRefusal space view below (now (maps .entry)) start length number)
-        (postedMaps space view below (now (maps .entry)) start length number) (now (maps .entry)) ⌝ }
+    ensures answer { λ r. ⌜ r ≡ orRefused (writeThroughRefusal space view below (now (maps .entry)) start length number) Done ⌝ }
+    ensures left { λ r. ⌜ now (maps .exit) ≡ orKept (writeThroughRefusal space view below (now (maps .entry)) start length number)
+        (writtenThroughMaps space view below (now (maps .entry)) start length number) (now (maps .entry)) ⌝ }
 {
     if !extents_pair::pair::two_maps(maps, space, view, below) {
         return Answer::Refused(refusal::STATE);
     }
-    lawful::post(maps, space, view, below, start, length, number)
+    lawful::write_through(maps, space, view, below, start, length, number)
 }
 
 // Refreshes a view, then puts the pieces of a range of it into an answer slice.

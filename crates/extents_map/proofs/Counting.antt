@@ -1,4 +1,4 @@
--- Counting the runs of a mix of two maps and a range, from one byte that may start a run to the next. Assumes nothing.
+-- Counting the runs of a mix of two maps and a range, from one byte that may start a run to the next.
 use Prim.Native.Nat.{ℕ, zero, suc, _+_, _-_, _≤_, _<_, min}
 use native.Mathlib.Omega.{arith}
 use mathlib.Core.Path.{_≡_, refl, sym, ap, _∙_}
@@ -10,7 +10,7 @@ use Rattle.extents_meaning.specs.Cells.{Bytes, inRange}
 use Rattle.extents_meaning.specs.Runs.{runsFrom}
 use Rattle.extents_meaning.specs.Maps.{runs, bytesOf}
 use Rattle.extents_meaning.specs.Points.{starts}
-use Rattle.extents_meaning.proofs.Points.{news, news-same, news-most, count-starts}
+use Rattle.extents_meaning.proofs.Points.{begins, begins-same, begins-most, count-starts}
 use Rattle.extents_map.specs.Mixes.{mixed, mix}
 use Rattle.extents_map.specs.Cursors.{Passed, Seen}
 use Rattle.extents_map.specs.declared.scan.Look.{Look}
@@ -22,34 +22,34 @@ use Rattle.extents_map.proofs.Scanning.{passed-on}
 pub starts-most : (n s c : ℕ) (f : Bytes) → starts n s c f ≤ n
 unfolding starts
 starts-most zero s c f = omega arith
-starts-most (suc n) s c f = omega (arith, news-most (f s) c, starts-most n (suc s) (f s) f)
+starts-most (suc n) s c f = omega (arith, begins-most (f s) c, starts-most n (suc s) (f s) f)
 
 -- bytes of one cell start at most one run
 starts-same : (k n x c here : ℕ) (f : Bytes) → ((b : ℕ) → x ≤ b → b < x + suc k → f b ≡ here) →
-    starts (suc (k + n)) x c f ≡ news here c + starts n (x + suc k) here f
+    starts (suc (k + n)) x c f ≡ begins here c + starts n (x + suc k) here f
 unfolding starts
 starts-same zero n x c here f h =
     let e : suc x ≡ x + 1 = omega arith in
     let d : 0 + n ≡ n = omega arith in
     let q = h x (omega arith) (omega arith) in
-    λ i. news (q i) c + starts (d i) (e i) (q i) f
+    λ i. begins (q i) c + starts (d i) (e i) (q i) f
 starts-same (suc k) n x c here f h =
     let e : suc x + suc k ≡ x + suc (suc k) = omega arith in
     let d : suc k + n ≡ suc (k + n) = omega arith in
     let q = h x (omega arith) (omega arith) in
     let r = starts-same k n (suc x) here here f (λ b l m. h b (omega arith) (omega arith)) in
     let t : starts n (suc x + suc k) here f ≡ starts n (x + suc (suc k)) here f = ap (λ (y : ℕ). starts n y here f) e in
-    (λ i. news (q i) c + starts (d i) (suc x) (q i) f) ∙ omega (arith, r, news-same here here refl, t)
+    (λ i. begins (q i) c + starts (d i) (suc x) (q i) f) ∙ omega (arith, r, begins-same here here refl, t)
 
 -- the bytes from x to y, of one cell, count once; the rest stands behind that cell
 starts-on : (x y to c here : ℕ) (f : Bytes) → x < y → y ≤ to → ((b : ℕ) → x ≤ b → b < y → f b ≡ here) →
-    starts (to - x) x c f ≡ news here c + starts (to - y) y here f
+    starts (to - x) x c f ≡ begins here c + starts (to - y) y here f
 starts-on x y to c here f l m h =
     let k : to - x ≡ suc (y - suc x + (to - y)) = omega arith in
     let e : x + suc (y - suc x) ≡ y = omega arith in
     ap (λ (n : ℕ). starts n x c f) k
     ∙ starts-same (y - suc x) (to - y) x c here f (λ b o p. h b o (omega arith))
-    ∙ ap (λ (z : ℕ). news here c + starts (to - y) z here f) e
+    ∙ ap (λ (z : ℕ). begins here c + starts (to - y) z here f) e
 
 -- ---- The walk
 
@@ -92,7 +92,7 @@ module _ {map below : List ℕ} {mode from to start end cell x n last i j : ℕ}
     count-less = omega (arith, further)
 
     module _ {inside : Bool} {here new : ℕ} (q : inside ≡ inRange start (end - start) x) (m : here ≡ mixed mode inside cell (v .cell) (w .cell))
-        (r : new ≡ news here last) where
+        (r : new ≡ begins here last) where
       -- up to there the mix has one cell
       same-there : (z : ℕ) → x ≤ z → z < y → mixOf z ≡ here
       same-there z o u =

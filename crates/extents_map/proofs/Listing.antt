@@ -1,4 +1,4 @@
--- Pieces listed from the first byte on: each stretch of one value lengthens the latest piece or makes one more. Assumes nothing.
+-- Pieces listed from the first byte on: each stretch of one value lengthens the latest piece or makes one more.
 use Prim.Native.Nat.{ℕ, zero, suc, _+_, _*_, _-_, _≤_, _<_, min}
 use native.Mathlib.Omega.{arith}
 use native.Mathlib.Decide.{ℕ-discrete}

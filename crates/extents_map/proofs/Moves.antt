@@ -1,4 +1,4 @@
--- Runs put into a map, and runs moved within it. Assumes nothing.
+-- Runs put into a map, and runs moved within it.
 use Prim.Native.Nat.{ℕ, suc, _+_, _*_, _-_, _/_, _%_, _≤_, _<_}
 use native.Mathlib.Numerals.{add-one, add-two, add-three}
 use native.Mathlib.Omega.{arith}

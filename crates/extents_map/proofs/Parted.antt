@@ -1,4 +1,4 @@
--- Runs parted at a place, and a range laid between the parts. Assumes nothing.
+-- Runs parted at a place, and a range laid between the parts.
 use Prim.Native.Nat.{ℕ, zero, suc, _+_, _-_, _≤_, _<_}
 use native.Mathlib.Decide.{decLt}
 use native.Mathlib.Numerals.{add-one}

@@ -1,4 +1,4 @@
--- The numbers of a run in a lawful map, and how many runs it has. Assumes nothing.
+-- The numbers of a run in a lawful map, and how many runs it has.
 use Prim.Native.Nat.{ℕ, zero, suc, _+_, _*_, _-_, _≤_, _<_}
 use native.Mathlib.Decide.{decLt}
 use native.Mathlib.Omega.{arith}

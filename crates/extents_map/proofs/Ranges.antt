@@ -1,4 +1,4 @@
--- A range laid into a lawful map: the map that its parts make with the runs before and behind them. Assumes nothing.
+-- A range laid into a lawful map: the map that its parts make with the runs before and behind them.
 use Prim.Native.Nat.{ℕ, _+_, _*_, _-_, _≤_, _<_}
 use native.Mathlib.Omega.{arith}
 use mathlib.Core.Path.{_≡_, refl, sym, ap, _∙_}

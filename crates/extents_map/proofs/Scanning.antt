@@ -1,4 +1,4 @@
--- Scans of one map, run by run: whether it is lawful, whether it has marks, and what stands at a byte. Assumes nothing.
+-- Scans of one map, run by run: whether it is lawful, whether it has marks, and what stands at a byte.
 use Prim.Native.Nat.{ℕ, zero, suc, _+_, _*_, _-_, _%_, _≤_, _<_}
 use native.Mathlib.Nat.{sub-zero}
 use native.Mathlib.Decide.{ℕ-discrete}

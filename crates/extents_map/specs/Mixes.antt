@@ -9,8 +9,8 @@ abbrev pub PUBLISH : ℕ
 PUBLISH = 0
 
 -- the view then
-abbrev pub SETTLE : ℕ
-SETTLE = 1
+abbrev pub MARK-PUBLISHED : ℕ
+MARK-PUBLISHED = 1
 
 -- a view after a refresh
 abbrev pub REFRESH : ℕ
@@ -26,7 +26,7 @@ READ-FRESH = 4
 unfoldable pub mixed : ℕ → Bool → ℕ → ℕ → ℕ → ℕ
 mixed mode inside c v w =
     cond (eqb mode PUBLISH) (cond inside c (cond (unpublished v) (cleared v) w))
-    (cond (eqb mode SETTLE) (cond inside c (cleared v))
+    (cond (eqb mode MARK-PUBLISHED) (cond inside c (cleared v))
     (cond (eqb mode REFRESH) (cond (unpublished v) v w)
     (cond (eqb mode READ-MAP) (suc (numberIn v)) (suc (numberIn (cond (unpublished v) v w))))))
 

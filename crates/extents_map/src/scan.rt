@@ -192,7 +192,7 @@ pub fn count(
         let v = see(map, i, x);
         let w = see(below, j, x);
         let here = mixed(mode, is_inside(start, end, x), cell, v.cell, w.cell);
-        n += news(here, last);
+        n += begins(here, last);
         last = here;
         i = v.at;
         j = w.at;
@@ -236,7 +236,7 @@ fn mixed(mode: u32, inside: bool, c: u32, v: u32, w: u32) -> u32
 }
 
 // 1 where a cell other than 0 differs from the one before it.
-fn news(here: u32, last: u32) -> usize
+fn begins(here: u32, last: u32) -> usize
     ensures { λ r. ⌜ r ≡ cond (not (eqb here 0) && not (eqb here last)) 1 0 ⌝ }
 {
     if here == 0 {

@@ -1,4 +1,4 @@
--- Longest runs of a byte function: what they mean, that they are lawful, and that nothing else is. Assumes nothing.
+-- Longest runs of a byte function: what they mean, that they are lawful, and that nothing else is.
 use Prim.Native.Nat.{ℕ, zero, suc, _+_, _≤_, _<_}
 use native.Mathlib.Omega.{arith}
 use native.Mathlib.Decide.{decLt}

@@ -1,5 +1,5 @@
 -- Overwriting in two passes: giving a range the cell behind it never makes more runs, and then giving it a cell other than 0 never makes fewer.
--- Assumes nothing.
+--
 use Prim.Native.Nat.{ℕ, zero, suc, _+_, _≤_, _<_}
 use native.Mathlib.Omega.{arith}
 use native.Mathlib.Decide.{decLt, ℕ-discrete}
@@ -10,7 +10,7 @@ use Rattle.extents_meaning.specs.Cells.{Bytes, overwrite}
 use Rattle.extents_meaning.specs.Runs.{runsOf}
 use Rattle.extents_meaning.specs.Points.{starts}
 use Rattle.extents_meaning.proofs.Longest.{range-in, range-before, range-behind}
-use Rattle.extents_meaning.proofs.Points.{news, news-zero, news-same, news-one, count-starts}
+use Rattle.extents_meaning.proofs.Points.{begins, begins-zero, begins-same, begins-one, count-starts}
 
 -- ---- Overwritten bytes
 
@@ -27,20 +27,20 @@ over-behind s n c f b h = rw (range-behind s n b h)
 -- ---- Starts
 
 -- a byte put between two makes no fewer starts
-news-between : (w v c : ℕ) → news w c ≤ news v c + news w v
-news-between w v c = go (ℕ-discrete w 0) (ℕ-discrete w c) (ℕ-discrete w v)
+begins-between : (w v c : ℕ) → begins w c ≤ begins v c + begins w v
+begins-between w v c = go (ℕ-discrete w 0) (ℕ-discrete w c) (ℕ-discrete w v)
   where
-    go : Dec (w ≡ 0) → Dec (w ≡ c) → Dec (w ≡ v) → news w c ≤ news v c + news w v
-    go (yes p) q r = omega (arith, news-zero w c p)
-    go (no p) (yes q) r = omega (arith, news-same w c q)
+    go : Dec (w ≡ 0) → Dec (w ≡ c) → Dec (w ≡ v) → begins w c ≤ begins v c + begins w v
+    go (yes p) q r = omega (arith, begins-zero w c p)
+    go (no p) (yes q) r = omega (arith, begins-same w c q)
     go (no p) (no q) (yes r) = rw r (omega arith)
-    go (no p) (no q) (no r) = omega (arith, news-one w c p q, news-one w v p r)
+    go (no p) (no q) (no r) = omega (arith, begins-one w c p q, begins-one w v p r)
 
 -- the first byte alone asks for the cell before it
-starts-first : (n s c : ℕ) (f : Bytes) → (n ≡ 0 → f s ≡ 0) → starts n s c f ≡ news (f s) c + starts n s (f s) f
+starts-first : (n s c : ℕ) (f : Bytes) → (n ≡ 0 → f s ≡ 0) → starts n s c f ≡ begins (f s) c + starts n s (f s) f
 unfolding starts
-starts-first zero s c f h = omega (arith, news-zero (f s) c (h refl))
-starts-first (suc n) s c f h = omega (arith, news-same (f s) (f s) refl)
+starts-first zero s c f h = omega (arith, begins-zero (f s) c (h refl))
+starts-first (suc n) s c f h = omega (arith, begins-same (f s) (f s) refl)
 
 -- bytes g that have one cell from a to e, and elsewhere the cells of f, have no more starts than f up to a top of cell 0
 module _ (a e top : ℕ) (f g : Bytes) (one : (b : ℕ) → a ≤ b → b < e → g b ≡ g e) (before : (b : ℕ) → b < a → g b ≡ f b)
@@ -56,17 +56,17 @@ module _ (a e top : ℕ) (f g : Bytes) (one : (b : ℕ) → a ≤ b → b < e �
   fewer-starts (suc n) s c h = go (decLt s a) (decLt s e) (fewer-starts n (suc s) (f s) (omega arith))
     where
       same : g s ≡ f s → starts n (suc s) (f s) g ≤ starts n (suc s) (f s) f →
-          news (g s) c + starts n (suc s) (g s) g ≤ news (f s) c + starts n (suc s) (f s) f
+          begins (g s) c + starts n (suc s) (g s) g ≤ begins (f s) c + starts n (suc s) (f s) f
       same q ih = rw q (omega arith)
 
       go : Dec (s < a) → Dec (s < e) → starts n (suc s) (f s) g ≤ starts n (suc s) (f s) f →
-          news (g s) c + starts n (suc s) (g s) g ≤ news (f s) c + starts n (suc s) (f s) f
+          begins (g s) c + starts n (suc s) (g s) g ≤ begins (f s) c + starts n (suc s) (f s) f
       go (yes p) q ih = same (before s p) ih
       go (no p) (no q) ih = same (behind s (omega arith)) ih
       go (no p) (yes q) ih =
           let z : n ≡ 0 → g (suc s) ≡ 0 = λ o. let t : suc s ≡ top = omega arith in ap g t ∙ last in
           rw (one-next s (omega arith) q (decLt (suc s) e))
-          (omega (arith, ih, starts-first n (suc s) (f s) g z, news-between (g (suc s)) (f s) c))
+          (omega (arith, ih, starts-first n (suc s) (f s) g z, begins-between (g (suc s)) (f s) c))
 
 -- ---- Runs
 

@@ -1,10 +1,10 @@
--- The rules of document 01 on one byte, each as a law of its definition. Assumes nothing.
+-- The rules of document 01 on one byte, each as a law of its definition.
 use Prim.Native.Nat.{ℕ, _+_, _*_, _/_, _≤_, _<_}
 use native.Mathlib.Omega.{arith}
 use mathlib.Core.Path.{_≡_, refl}
 use mathlib.Core.Bool.{true, false}
 use borrow.Author.Tests.{eq-eqb}
-use Rattle.extents_meaning.specs.Cells.{Bytes, cellOf, numberIn, markIn, unpublished, cleared, published, settled, refreshed, overwrite}
+use Rattle.extents_meaning.specs.Cells.{Bytes, cellOf, numberIn, markIn, unpublished, cleared, published, asPublished, refreshed, overwrite}
 use Rattle.extents_meaning.proofs.Passes.{over-in, over-before, over-behind}
 
 -- a write puts its row number into its range, with its mark
@@ -24,10 +24,10 @@ pub publish-keeps : (view below : Bytes) (b : ℕ) → unpublished (view b) ≡ 
 publish-keeps view below b e = rw e
 
 -- afterwards the view's bytes are the same and published
-pub publish-settles : (view : Bytes) (b : ℕ) → numberIn (settled view b) ≡ numberIn (view b)
-publish-settles view b = omega arith
+pub publish-keeps-number : (view : Bytes) (b : ℕ) → numberIn (asPublished view b) ≡ numberIn (view b)
+publish-keeps-number view b = omega arith
 
-pub publish-clears : (view : Bytes) (b : ℕ) → markIn (settled view b) ≡ 0
+pub publish-clears : (view : Bytes) (b : ℕ) → markIn (asPublished view b) ≡ 0
 publish-clears view b = omega arith
 
 -- a refresh takes the published byte, but for an unpublished one

@@ -1,4 +1,4 @@
--- Maps side by side in a slice: putting one leaves the others. Assumes nothing.
+-- Maps side by side in a slice: putting one leaves the others.
 use Prim.Native.Nat.{ℕ, zero, suc, _+_, _*_, _-_, min, _≤_, _<_}
 use native.Mathlib.Omega.{arith}
 use native.Mathlib.Decide.{decLt}

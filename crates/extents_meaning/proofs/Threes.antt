@@ -1,4 +1,4 @@
--- Pieces as numbers, three for each: at the front of a slice they tell the pieces. Assumes nothing.
+-- Pieces as numbers, three for each: at the front of a slice they tell the pieces.
 use Prim.Native.Nat.{ℕ, suc, _+_, _*_}
 use native.Mathlib.Omega.{arith}
 use mathlib.Core.Path.{_≡_, refl, sym, ap, _∙_}

@@ -1,4 +1,4 @@
--- Maps in slices: what is lawful is what was written from lawful runs, and it is read back as them. Assumes nothing.
+-- Maps in slices: what is lawful is what was written from lawful runs, and it is read back as them.
 use Prim.Native.Nat.{ℕ, zero, suc, _+_, _*_, _-_, _/_, _%_, _≤_, _<_}
 use native.Mathlib.Nat.{suc-sub-suc, sub-zero, add-zero}
 use native.Mathlib.Decide.{decLt}

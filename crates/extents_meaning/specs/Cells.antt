@@ -36,8 +36,8 @@ abbrev pub published : Bytes → Bytes → Bytes
 published view below b = cond (unpublished (view b)) (cleared (view b)) (below b)
 
 -- the view then: its bytes are marked published
-abbrev pub settled : Bytes → Bytes
-settled view b = cleared (view b)
+abbrev pub asPublished : Bytes → Bytes
+asPublished view b = cleared (view b)
 
 -- a view after a refresh: each byte that is not unpublished is taken from the published map
 abbrev pub refreshed : Bytes → Bytes → Bytes

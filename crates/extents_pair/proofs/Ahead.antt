@@ -1,5 +1,5 @@
 -- Where a merge stands at byte x: the unpublished runs to come, the published runs from some on, and bytes f that are both from x up to a top.
--- Assumes nothing.
+--
 use Prim.Native.Nat.{ℕ, _+_, _-_, _≤_, _<_, min, max}
 use native.Mathlib.Omega.{arith}
 use native.Mathlib.Decide.{decLt}

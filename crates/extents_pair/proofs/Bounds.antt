@@ -1,4 +1,4 @@
--- How many runs a mix has at most, from the runs of the maps. Assumes nothing.
+-- How many runs a mix has at most, from the runs of the maps.
 use Prim.Native.Nat.{ℕ, zero, suc, _+_, _*_, _-_, _≤_, _<_}
 use native.Mathlib.Omega.{arith}
 use native.Mathlib.Decide.{decLt}
@@ -9,15 +9,15 @@ use lib.ListN.{length, getD, drop, drop-of-length-le}
 use lib.Seq.{drop-cons}
 use borrow.Author.Tests.{eqb-true, eqb-false}
 use Rattle.rows.specs.Limits.{OFFSET-MAX}
-use Rattle.extents_meaning.specs.Cells.{Bytes, markIn, unpublished, cleared, inRange, overwrite, settled}
+use Rattle.extents_meaning.specs.Cells.{Bytes, markIn, unpublished, cleared, inRange, overwrite, asPublished}
 use Rattle.extents_meaning.specs.Runs.{Run, cellAt, runsFrom, runsOf, Lawful}
 use Rattle.extents_meaning.specs.Maps.{runs, bytesOf, lawful, mapAt}
 use Rattle.extents_meaning.specs.Points.{starts}
 use Rattle.extents_meaning.proofs.Longest.{runs-same, runs-back}
 use Rattle.extents_meaning.proofs.Trips.{lawful-map}
-use Rattle.extents_meaning.proofs.Points.{news, news-same, news-most, count-starts, runs-by}
+use Rattle.extents_meaning.proofs.Points.{begins, begins-same, begins-most, count-starts, runs-by}
 use Rattle.extents_meaning.proofs.Passes.{over-in, over-before, over-behind}
-use Rattle.extents_map.specs.Mixes.{PUBLISH, SETTLE, REFRESH, mixed, mix}
+use Rattle.extents_map.specs.Mixes.{PUBLISH, MARK-PUBLISHED, REFRESH, mixed, mix}
 use Rattle.extents_meaning.specs.Pairs.{twoMaps, viewOf, belowOf}
 use Rattle.extents_pair.specs.Packing.{marked, Marked}
 use Rattle.extents_pair.proofs.Spots.{noRun, here-at}
@@ -42,11 +42,11 @@ module _ (a e c : ℕ) (f g : Bytes) (inside : (b : ℕ) → a ≤ b → b < e �
   starts-inside (suc n) s p h k = go (decLt s e) (starts-inside n (suc s) (f s) (omega arith))
     where
       go : Dec (s < e) → (suc s ≤ e → starts n (suc s) c g ≤ starts n (suc s) (f s) f + 1) →
-          news (g s) c + starts n (suc s) (g s) g ≤ news (f s) p + starts n (suc s) (f s) f + 1
-      go (yes l) ih = rw (inside s h l) (omega (arith, news-same c c refl, ih (omega arith)))
+          begins (g s) c + starts n (suc s) (g s) g ≤ begins (f s) p + starts n (suc s) (f s) f + 1
+      go (yes l) ih = rw (inside s h l) (omega (arith, begins-same c c refl, ih (omega arith)))
       go (no l) ih =
           let r = starts-behind n (suc s) (f s) (omega arith) (omega arith) in
-          rw (behind s h (omega arith)) (omega (arith, news-most (f s) c, r))
+          rw (behind s h (omega arith)) (omega (arith, begins-most (f s) c, r))
 
   -- from a byte before it on at most two
   starts-before : (n s p : ℕ) → s ≤ a → starts n s p g ≤ starts n s p f + 2
@@ -55,11 +55,11 @@ module _ (a e c : ℕ) (f g : Bytes) (inside : (b : ℕ) → a ≤ b → b < e �
   starts-before (suc n) s p h = go (decLt s a) (decLt s e) (starts-before n (suc s) (f s))
     where
       go : Dec (s < a) → Dec (s < e) → (suc s ≤ a → starts n (suc s) (f s) g ≤ starts n (suc s) (f s) f + 2) →
-          news (g s) p + starts n (suc s) (g s) g ≤ news (f s) p + starts n (suc s) (f s) f + 2
+          begins (g s) p + starts n (suc s) (g s) g ≤ begins (f s) p + starts n (suc s) (f s) f + 2
       go (yes l) k ih = rw (before s l) (omega (arith, ih (omega arith)))
       go (no l) (yes k) ih =
           let r = starts-inside n (suc s) (f s) (omega arith) (omega arith) in
-          rw (inside s (omega arith) k) (omega (arith, news-most c p, r))
+          rw (inside s (omega arith) k) (omega (arith, begins-most c p, r))
       go (no l) (no k) ih =
           let r = starts-behind n (suc s) (f s) (omega arith) (omega arith) in
           rw (behind s (omega arith) (omega arith)) (omega (arith, r))
@@ -139,9 +139,9 @@ module _ (rs : List Run) (law : Lawful rs) (w : Bytes) where
         omega (arith, ap (λ (l : List Run). length l) e, laid-more h (marked rs) w)
 
 -- the view then: two runs more for the range
-pub settle-most : (v w : Bytes) (start n c : ℕ) → length (runsOf (mix SETTLE start n c v w)) ≤ length (runsOf v) + 2
+pub mark-published-most : (v w : Bytes) (start n c : ℕ) → length (runsOf (mix MARK-PUBLISHED start n c v w)) ≤ length (runsOf v) + 2
 unfolding mixed
-settle-most v w start n c = omega (arith, over-more start n c (settled v), runs-by cleared refl v)
+mark-published-most v w start n c = omega (arith, over-more start n c (asPublished v), runs-by cleared refl v)
 
 -- ---- Two maps
 
@@ -179,10 +179,10 @@ module _ (space view below : ℕ) (xs : List ℕ) (two : twoMaps space view belo
 
   module _ (start n c : ℕ) where
     -- the view marked published
-    pub most-settle : (mode : ℕ) → mode ≡ 1 → {k : ℕ} → k ≡ length (runs (lentMap space view xs)) →
+    pub most-mark-published : (mode : ℕ) → mode ≡ 1 → {k : ℕ} → k ≡ length (runs (lentMap space view xs)) →
         length (runsOf (mix mode start n c own base)) ≤ k + 2
-    most-settle mode q e =
-        rw q (omega (arith, e, lent-count view (told .view-in) (told .view-law) .0, settle-most own base start n c))
+    most-mark-published mode q e =
+        rw q (omega (arith, e, lent-count view (told .view-in) (told .view-law) .0, mark-published-most own base start n c))
 
     -- the published map, and the refreshed view
     pub most-other : (mode : ℕ) → (mode ≡ 1 → ⊥) → mode ≤ 2 → {k u : ℕ} → k ≡ length (runs (lentMap space below xs)) →

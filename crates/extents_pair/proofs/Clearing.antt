@@ -1,4 +1,4 @@
--- Clearing the marks of a map one by one, where no neighbour joins: what the loop keeps. Assumes nothing.
+-- Clearing the marks of a map one by one, where no neighbour joins: what the loop keeps.
 use Prim.Native.Nat.{ℕ, zero, suc, _+_, _*_, _-_, _≤_, _<_}
 use native.Mathlib.Omega.{arith}
 use native.Mathlib.Decide.{decLt}
@@ -10,15 +10,15 @@ use lib.Seq.{drop-cons, set-append-left}
 use lib.Dec.{eqb}
 use borrow.Author.Tests.{eq-eqb}
 use Rattle.rows.specs.Limits.{OFFSET-MAX}
-use Rattle.extents_meaning.specs.Cells.{numberIn, markIn, cleared, inRange, settled}
+use Rattle.extents_meaning.specs.Cells.{numberIn, markIn, cleared, inRange, asPublished}
 use Rattle.extents_meaning.specs.Runs.{Run, runOf, cellAt, Rising, Numbered, Lawful}
 use Rattle.extents_meaning.specs.Maps.{fours, mapOf, mapFor, spaceIn, runs, bytesOf, lawful}
 use Rattle.extents_meaning.proofs.Longest.{runs-same, runs-back}
 use Rattle.extents_meaning.proofs.Trips.{length-fours, map-back, map-lawful, lawful-map}
 use Rattle.extents_pair.specs.Packing.{marked, Meet, Alone}
 use Rattle.extents_pair.proofs.Spots.{noRun, here-at}
-use Rattle.extents_pair.proofs.Settling.{next-at}
-use Rattle.extents_pair.proofs.Gathering.{marked-fewer, settled-none}
+use Rattle.extents_pair.proofs.Marking.{next-at}
+use Rattle.extents_pair.proofs.Gathering.{marked-fewer, as-published-none}
 use Rattle.extents_pair.proofs.Bounds.{marked-first}
 
 -- ---- One run of a list
@@ -54,7 +54,7 @@ clear-marked [] i h = absurd (omega arith)
 clear-marked (r ∷ rs) zero h = omega (arith, marked-first (clearRun r) rs, marked-first r rs)
 clear-marked (r ∷ rs) (suc i) h = omega (arith, marked-first r (clearAt rs i), marked-first r rs, clear-marked rs i (omega arith))
 
--- every byte is settled to the same
+-- every byte is marked published to the same
 clear-mean : (rs : List Run) (i b : ℕ) → cleared (cellAt (clearAt rs i) b) ≡ cleared (cellAt rs b)
 unfolding clearAt cellAt
 clear-mean [] i b = refl
@@ -218,12 +218,12 @@ no-behind xs i law e m = let k = lawful-map xs law in absurd (omega (arith, e, m
 
 -- ---- The loop
 
--- what it keeps: `left` runs are unpublished, none of the first i among them, and every byte is settled to the same as at the start
+-- what it keeps: `left` runs are unpublished, none of the first i among them, and every byte is marked published to the same as at the start
 pub record Clearing (xs₀ xs : List ℕ) (left i : ℕ) : Type 0 where
   pub law : lawful xs ≡ true
   pub same : length xs ≡ length xs₀
   pub count : length (runs xs) ≡ length (runs xs₀)
-  pub mean : (b : ℕ) → settled (bytesOf xs) b ≡ settled (bytesOf xs₀) b
+  pub mean : (b : ℕ) → asPublished (bytesOf xs) b ≡ asPublished (bytesOf xs₀) b
   pub rest : left ≡ length (marked (drop i (runs xs)))
   pub all : left ≡ length (marked (runs xs))
 
@@ -245,19 +245,19 @@ module _ (xs₀ : List ℕ) {xs : List ℕ} {left i : ℕ} (k : Clearing xs₀ x
           let d : length (runs xs) ≤ i = omega (arith, l) in
           absurd (omega (arith, h, k .rest, ap (λ (q : List Run). length (marked q)) (drop-of-length-le (runs xs) d), marked-fewer []))
 
-  -- all through at once: the rest is settled as the whole
-  pub clear-all : {ys : List ℕ} → ys ≡ mapFor (spaceIn xs) (settled (bytesOf xs)) → ys ≡ mapFor (spaceIn xs₀) (settled (bytesOf xs₀))
+  -- all through at once: the rest is marked published as the whole
+  pub clear-all : {ys : List ℕ} → ys ≡ mapFor (spaceIn xs) (asPublished (bytesOf xs)) → ys ≡ mapFor (spaceIn xs₀) (asPublished (bytesOf xs₀))
   clear-all e =
       let s : spaceIn xs ≡ spaceIn xs₀ = omega (arith, k .same) in
-      e ∙ (λ j. mapOf (s j) (runs-same (settled (bytesOf xs)) (settled (bytesOf xs₀)) (λ b _. k .mean b) j))
+      e ∙ (λ j. mapOf (s j) (runs-same (asPublished (bytesOf xs)) (asPublished (bytesOf xs₀)) (λ b _. k .mean b) j))
 
-  -- none left: the map is settled
-  pub clear-end : left ≤ 0 → xs ≡ mapFor (spaceIn xs₀) (settled (bytesOf xs₀))
+  -- none left: the map is marked published
+  pub clear-end : left ≤ 0 → xs ≡ mapFor (spaceIn xs₀) (asPublished (bytesOf xs₀))
   clear-end h =
       let m = lawful-map xs (k .law) in
       let l = m .lawful-runs in
       let z : length (marked (runs xs)) ≡ 0 = omega (arith, k .all, h) in
-      let e = runs-same (settled (bytesOf xs)) (bytesOf xs) (λ b _. settled-none (runs xs) l z b) ∙ runs-back (runs xs) l in
+      let e = runs-same (asPublished (bytesOf xs)) (bytesOf xs) (λ b _. as-published-none (runs xs) l z b) ∙ runs-back (runs xs) l in
       clear-all (m .whole ∙ ap (mapOf (spaceIn xs)) (sym e))
 
   module _ (h : 0 < left) where
@@ -291,7 +291,7 @@ module _ (xs₀ : List ℕ) {xs : List ℕ} {left i : ℕ} (k : Clearing xs₀ x
           law = unmarked-lawful xs l i (r .0) a;
           same = length-set xs (i * 4 + 3) 0 ∙ k .same;
           count = ap (λ (q : List Run). length q) u ∙ clear-length (runs xs) i ∙ k .count;
-          mean = λ b. ap (λ (q : List Run). settled (cellAt q) b) u ∙ clear-mean (runs xs) i b ∙ k .mean b;
+          mean = λ b. ap (λ (q : List Run). asPublished (cellAt q) b) u ∙ clear-mean (runs xs) i b ∙ k .mean b;
           rest =
               d
               ∙ ap (λ (q : List Run). length (marked q)) (sym (clear-drop (runs xs) i))

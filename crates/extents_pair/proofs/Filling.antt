@@ -1,4 +1,4 @@
--- Merging two maps in place: what the loop keeps, and its turns. Assumes nothing.
+-- Merging two maps in place: what the loop keeps, and its turns.
 use Prim.Native.Nat.{ℕ, suc, _+_, _*_, _-_, _≤_, _<_, min, max}
 use native.Mathlib.Nat.{sub-zero}
 use native.Mathlib.Numerals.{add-one}
@@ -21,7 +21,7 @@ use Rattle.extents_pair.specs.Packing.{partAt, withPart, packedIn, merge
 use Rattle.extents_pair.proofs.Spots.{Here, here-behind, here-at, here-same, noRun, putAt, put-behind, put-after, outside, zeroed, zeroed-twice}
 use Rattle.extents_pair.proofs.Rests.{rest, rest-none}
 use Rattle.extents_pair.proofs.Ahead.{Ahead, gapOf, gap-high, gap-low, ahead-take, ahead-skip, ahead-pass, ahead-part, ahead-fewer}
-use Rattle.extents_pair.proofs.Settling.{next-at}
+use Rattle.extents_pair.proofs.Marking.{next-at}
 
 -- what the loop keeps: runs `done` at the front of the part at v, the unpublished runs `us` that are left at its end, from run j on, and no other
 -- change, behind the runs done nowhere; the runs of the merge are those done and those of its bytes from x on

@@ -1,4 +1,4 @@
--- The unpublished runs of a map: what they mean, and taking them to its end. Assumes nothing.
+-- The unpublished runs of a map: what they mean, and taking them to its end.
 use Prim.Native.Nat.{ℕ, suc, _+_, _*_, _-_, _/_, _≤_, _<_}
 use native.Mathlib.Omega.{arith}
 use native.Mathlib.Decide.{decLt}
@@ -9,7 +9,7 @@ use lib.ListN.{length, getD, take, drop, length-drop, drop-of-length-le}
 use lib.Seq.{length-take-le, take-take, take-at, drop-at, drop-cons, getD-take}
 use borrow.Author.Tests.{eq-eqb, ne-eqb, eqb-false}
 use Rattle.rows.specs.Limits.{OFFSET-MAX}
-use Rattle.extents_meaning.specs.Cells.{Bytes, markIn, unpublished, published, settled, refreshed}
+use Rattle.extents_meaning.specs.Cells.{Bytes, markIn, unpublished, published, asPublished, refreshed}
 use Rattle.extents_meaning.specs.Runs.{Run, cellAt, Rising, Numbered, Lawful}
 use Rattle.extents_meaning.specs.Maps.{fours, spaceIn, runs, lawful}
 use Rattle.extents_meaning.proofs.Longest.{cell-first, cell-before, cell-behind, mean-before}
@@ -146,8 +146,8 @@ pub published-none : (rs : List Run) → Lawful rs → length (marked rs) ≡ 0 
 published-none rs l z f b = rw (marked-none rs l z b)
 
 -- and has no mark to clear
-pub settled-none : (rs : List Run) → Lawful rs → length (marked rs) ≡ 0 → (b : ℕ) → settled (cellAt rs) b ≡ cellAt rs b
-settled-none rs l z b =
+pub as-published-none : (rs : List Run) → Lawful rs → length (marked rs) ≡ 0 → (b : ℕ) → asPublished (cellAt rs) b ≡ cellAt rs b
+as-published-none rs l z b =
     let m : markIn (cellAt rs b) ≡ 1 → ⊥ = eqb-false (markIn (cellAt rs b)) 1 (marked-none rs l z b) in
     omega arith
 

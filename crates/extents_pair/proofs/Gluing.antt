@@ -1,4 +1,4 @@
--- Marking runs published and joining neighbours: what this makes of lawful runs. Assumes nothing.
+-- Marking runs published and joining neighbours: what this makes of lawful runs.
 use Prim.Native.Nat.{ℕ, _+_, _<_}
 use native.Mathlib.Omega.{arith}
 use native.Mathlib.Decide.{decLt}
@@ -9,7 +9,7 @@ use lib.ListN.{length, getD, drop}
 use lib.Dec.{eqb}
 use borrow.Author.Tests.{eqb-true, eqb-false}
 use Rattle.rows.specs.Limits.{OFFSET-MAX}
-use Rattle.extents_meaning.specs.Cells.{Bytes, cellOf, numberIn, cleared, inRange, settled}
+use Rattle.extents_meaning.specs.Cells.{Bytes, cellOf, numberIn, cleared, inRange, asPublished}
 use Rattle.extents_meaning.specs.Runs.{Run, runOf, cellAt, runsOf, Next, Rising, Numbered, Lawful}
 use Rattle.extents_meaning.proofs.Longest.{unique-from, range-in, range-before, range-behind}
 use Rattle.extents_pair.proofs.Spots.{noRun}
@@ -117,14 +117,14 @@ glue-mean s l m (r ∷ rs) b =
     go false p y q long new = ap (cond (inRange s l b) (cellOf m 0)) (new ∙ behind)
 
 -- no runs stay none
-pub glue-none : (rs : List Run) → length rs ≡ 0 → runsOf (settled (cellAt rs)) ≡ []
+pub glue-none : (rs : List Run) → length rs ≡ 0 → runsOf (asPublished (cellAt rs)) ≡ []
 unfolding cellAt
-glue-none [] h = sym (rising-runs (settled (cellAt [])) [] tt (λ b _. refl))
+glue-none [] h = sym (rising-runs (asPublished (cellAt [])) [] tt (λ b _. refl))
 glue-none (r ∷ rs) h = absurd (omega arith)
 
--- a first run glued to the others: the runs of the settled bytes
+-- a first run glued to the others: the runs of the marked published bytes
 pub glue-all : (rs : List Run) → Lawful rs → 0 < length rs →
-    runsOf (settled (cellAt rs)) ≡ glue (getD rs 0 noRun .start) (getD rs 0 noRun .length) (numberIn (getD rs 0 noRun .cell)) (drop 1 rs)
+    runsOf (asPublished (cellAt rs)) ≡ glue (getD rs 0 noRun .start) (getD rs 0 noRun .length) (numberIn (getD rs 0 noRun .cell)) (drop 1 rs)
 unfolding cellAt
 glue-all [] l h = absurd (omega arith)
 glue-all (r ∷ rs) l h =
@@ -133,7 +133,7 @@ glue-all (r ∷ rs) l h =
     let first : Next OFFSET-MAX 0 0 (runOf (r .start) (r .length) (cellOf (numberIn (r .cell)) 0)) =
     record { rising = n .rising; filled = n .filled; inside = n .inside; written = omega (arith, w .0); longest = λ a b. omega (arith, w .0, b) } in
     sym
-    (rising-runs (settled (cellAt (r ∷ rs))) (glue (r .start) (r .length) (numberIn (r .cell)) rs)
+    (rising-runs (asPublished (cellAt (r ∷ rs))) (glue (r .start) (r .length) (numberIn (r .cell)) rs)
     (glue-rising OFFSET-MAX 0 0 (r .cell) (r .start) (r .length) (numberIn (r .cell)) rs first (l .in-order .1) (w .2))
     (λ b h.
     glue-mean (r .start) (r .length) (numberIn (r .cell)) rs b

@@ -1,4 +1,4 @@
--- The unpublished runs of a view laid on the published map one by one, where there is room for two runs more for each. Assumes nothing.
+-- The unpublished runs of a view laid on the published map one by one, where there is room for two runs more for each.
 use Prim.Native.Nat.{ℕ, zero, suc, _+_, _*_, _-_, _/_, _≤_, _<_, min, max}
 use native.Mathlib.Omega.{arith}
 use mathlib.Core.Path.{_≡_, refl, sym, ap, subst, _∙_}
@@ -13,24 +13,24 @@ use Rattle.extents_meaning.specs.Runs.{Run, runOf, cellAt, runsOf, Lawful}
 use Rattle.extents_meaning.specs.Maps.{mapFor, spaceIn, runs, bytesOf}
 use Rattle.extents_meaning.proofs.Longest.{Fine, runs-same, runs-back}
 use Rattle.extents_meaning.proofs.Trips.{lawful-map}
-use Rattle.extents_pair.specs.declared.share.Stroke.{Stroke}
-use Rattle.extents_pair.specs.Strokes.{strokeOf, stroke, partAt, withBytes, Two}
+use Rattle.extents_pair.specs.declared.share.RangeWrite.{RangeWrite}
+use Rattle.extents_pair.specs.RangeWrites.{rangeWriteOf, rangeWrite, partAt, withBytes, Two}
 use Rattle.extents_pair.specs.Packing.{marked}
 use Rattle.extents_pair.proofs.Sweeps.{Good, Fits, good-over, over-same}
-use Rattle.extents_pair.proofs.Drawing.{clear-fine}
+use Rattle.extents_pair.proofs.Overwriting.{clear-fine}
 use Rattle.extents_pair.proofs.Parts.{Holds, holds-start, holds-same, lent-view, lent-space, lent-bytes, lent-next}
 use Rattle.extents_pair.proofs.Taking.{runAmong, inside-at, fine-at}
 use Rattle.extents_pair.proofs.Gathering.{marked-in, marked-out}
 use Rattle.extents_pair.proofs.Bounds.{laid, laid-more, laid-over, marked-first}
 
 -- an unpublished run of all bytes is written whole
-whole-stroke : (r : Run) → unpublished (r .cell) ≡ true → r .start + r .length ≤ OFFSET-MAX →
-    stroke 0 OFFSET-MAX r ≡ strokeOf (r .start) (r .start + r .length) (cleared (r .cell))
-unfolding stroke
-whole-stroke r u h =
+whole-range-write : (r : Run) → unpublished (r .cell) ≡ true → r .start + r .length ≤ OFFSET-MAX →
+    rangeWrite 0 OFFSET-MAX r ≡ rangeWriteOf (r .start) (r .start + r .length) (cleared (r .cell))
+unfolding rangeWrite
+whole-range-write r u h =
     let a : max 0 (min (r .start) OFFSET-MAX) ≡ r .start = omega arith in
     let b : max 0 (min (r .start + r .length) OFFSET-MAX) ≡ r .start + r .length = omega arith in
-    rw u (λ i. strokeOf (a i) (b i) (cleared (r .cell)))
+    rw u (λ i. rangeWriteOf (a i) (b i) (cleared (r .cell)))
 
 -- later runs have no more unpublished ones
 fewer-later : (i : ℕ) (rs : List Run) → length (marked (drop i rs)) ≤ length (marked rs)
@@ -75,7 +75,7 @@ module _ (size v w : ℕ) (xs : List ℕ) (t : Two size v w xs) where
   after-skip : (i : ℕ) → i < length rs → unpublished (runAmong rs i .cell) ≡ false → after i ≡ after (suc i)
   after-skip i h u = ap (λ (qs : List Run). laid cleared qs old) (ap marked (from-run i h) ∙ marked-out (runAmong rs i) (drop (suc i) rs) u)
 
-  -- run i ends within all bytes
+  -- run i ends clamped all bytes
   inside : (i : ℕ) → runAmong rs i .start + runAmong rs i .length ≤ OFFSET-MAX
   inside i = inside-at rs i 0 0 (law .in-order)
 
@@ -128,8 +128,8 @@ module _ (size v w : ℕ) (xs : List ℕ) (t : Two size v w xs) where
         subst (λ (f : Bytes). Holds size w xs f ys) (ap after e ∙ sym (after-skip j (omega arith) u)) k
 
     module _ (i : ℕ) {ys : List ℕ} (k : Holds size w xs (after i) ys) (h : 0 < i) (m : i ≤ length rs)
-        (own : unpublished (runAmong (runs (take (v + size - v) (drop v ys))) (i - 1) .cell) ≡ true) {s : Stroke}
-        (p : s ≡ stroke 0 OFFSET-MAX (runAmong (runs (take (v + size - v) (drop v ys))) (i - 1))) where
+        (own : unpublished (runAmong (runs (take (v + size - v) (drop v ys))) (i - 1) .cell) ≡ true) {s : RangeWrite}
+        (p : s ≡ rangeWrite 0 OFFSET-MAX (runAmong (runs (take (v + size - v) (drop v ys))) (i - 1))) where
       -- the run before
       abbrev r : Run
       r = runAmong rs (i - 1)
@@ -139,9 +139,9 @@ module _ (size v w : ℕ) (xs : List ℕ) (t : Two size v w xs) where
       shown = ap (λ (l : List ℕ). unpublished (runAmong (runs l) (i - 1) .cell)) (sym (lent-view t k)) ∙ own
 
       -- what is written of it
-      whole : s ≡ strokeOf (r .start) (r .start + r .length) (cleared (r .cell))
+      whole : s ≡ rangeWriteOf (r .start) (r .start + r .length) (cleared (r .cell))
       whole =
-          p ∙ ap (λ (l : List ℕ). stroke 0 OFFSET-MAX (runAmong (runs l) (i - 1))) (lent-view t k) ∙ whole-stroke r shown (inside (i - 1))
+          p ∙ ap (λ (l : List ℕ). rangeWrite 0 OFFSET-MAX (runAmong (runs l) (i - 1))) (lent-view t k) ∙ whole-range-write r shown (inside (i - 1))
 
       -- the bytes with it
       abbrev written : Bytes
@@ -158,7 +158,7 @@ module _ (size v w : ℕ) (xs : List ℕ) (t : Two size v w xs) where
 
       -- its cell is fine
       pub lay-fine : Fine (s .cell)
-      lay-fine = subst (λ (o : Stroke). Fine (o .cell)) (sym whole) (fine (i - 1))
+      lay-fine = subst (λ (o : RangeWrite). Fine (o .cell)) (sym whole) (fine (i - 1))
 
       -- they fit
       pub lay-fit : length (runsOf written) ≤ spaceIn (take (w + size - w) (drop w ys))

@@ -1,5 +1,5 @@
 pub mod Sweeps
-pub mod Drawing
+pub mod Overwriting
 pub mod Parts
 pub mod Taking
 pub mod Passing
@@ -7,7 +7,7 @@ pub mod Sharing
 pub mod Spots
 pub mod Rests
 pub mod Gluing
-pub mod Settling
+pub mod Marking
 pub mod Gathering
 pub mod Ahead
 pub mod Filling

@@ -1,4 +1,4 @@
--- One or two maps of a slice that has several: is there room, the map lent and home again, and one copied. Assumes nothing.
+-- One or two maps of a slice that has several: is there room, the map lent and home again, and one copied.
 use Prim.Native.Nat.{ℕ, _+_, _*_, _-_, _/_, _≤_, _<_, max}
 use native.Mathlib.Omega.{arith}
 use native.Mathlib.Decide.{decLt}

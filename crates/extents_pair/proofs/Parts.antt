@@ -1,4 +1,4 @@
--- Parts of a slice that are lent and come back, and two maps in a slice of which one changes. Assumes nothing.
+-- Parts of a slice that are lent and come back, and two maps in a slice of which one changes.
 use Prim.Native.Nat.{ℕ, _+_, _*_, _-_, _/_, _≤_, _<_}
 use native.Mathlib.Omega.{arith}
 use native.Mathlib.Decide.{decLt}
@@ -17,7 +17,7 @@ use Rattle.extents_meaning.specs.Runs.{Run, cellAt, runsOf, Lawful}
 use Rattle.extents_meaning.specs.Maps.{mapOf, mapFor, spaceIn, runs, bytesOf, lawful}
 use Rattle.extents_meaning.proofs.Longest.{mean-behind, runs-mean, runs-same, runs-lawful, runs-back, lawful-fine}
 use Rattle.extents_meaning.proofs.Trips.{length-map, map-back, map-lawful, lawful-map}
-use Rattle.extents_pair.specs.Strokes.{strokeOf, filled, downs, partAt, withPart, withBytes, Two}
+use Rattle.extents_pair.specs.RangeWrites.{rangeWriteOf, filled, downs, partAt, withPart, withBytes, Two}
 use Rattle.extents_pair.proofs.Sweeps.{over-none, Fits, downs-fits}
 
 -- ---- A part lent and home again
@@ -259,7 +259,7 @@ module _ (xs : List ℕ) (e : lawful xs ≡ true) (from to : ℕ) where
   -- the cell behind it makes no more runs
   filled-fit : from ≤ to → to ≤ OFFSET-MAX → length (runsOf (filled from to (bytesOf xs))) ≤ spaceIn xs
   unfolding downs
-  filled-fit h k = downs-fits (strokeOf from to 0 ∷ []) from (bytesOf xs) (spaceIn xs) (omega arith, h, k, tt) (bytes-fit xs e) .few
+  filled-fit h k = downs-fits (rangeWriteOf from to 0 ∷ []) from (bytesOf xs) (spaceIn xs) (omega arith, h, k, tt) (bytes-fit xs e) .few
 
 -- what fits is laid
 pub laid-fit : (xs : List ℕ) (f : Bytes) {r : Bool} {ys : List ℕ} → length (runsOf f) ≤ spaceIn xs →

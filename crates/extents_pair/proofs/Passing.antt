@@ -1,4 +1,4 @@
--- One pass over a view's runs, down or up, run by run. Assumes nothing.
+-- One pass over a view's runs, down or up, run by run.
 use Prim.Native.Nat.{ℕ, suc, _+_, _*_, _-_, _/_, _≤_, _<_}
 use native.Mathlib.Omega.{arith}
 use mathlib.Core.Path.{_≡_, sym, ap, subst, _∙_}
@@ -13,10 +13,10 @@ use Rattle.extents_meaning.specs.Runs.{Run, runOf, cellAt, runsOf, Lawful}
 use Rattle.extents_meaning.specs.Maps.{mapFor, spaceIn, runs, bytesOf, lawful}
 use Rattle.extents_meaning.proofs.Longest.{Fine, runs-same}
 use Rattle.extents_meaning.proofs.Trips.{lawful-map}
-use Rattle.extents_pair.specs.declared.share.Stroke.{Stroke}
-use Rattle.extents_pair.specs.Strokes.{stroke, strokes, filled, downs, partAt, withPart, withBytes, Two, sunk, raised, Ready}
-use Rattle.extents_pair.proofs.Sweeps.{over-none, over-same, fill-same, Fits, Rises, Drawn, downs-fits, up-step, rises-later, drawn-later}
-use Rattle.extents_pair.proofs.Drawing.{clear-fine, taken-none, strokes-later, stroke-empty, downs-none, pass-rises, taken-good, taken-drawn}
+use Rattle.extents_pair.specs.declared.share.RangeWrite.{RangeWrite}
+use Rattle.extents_pair.specs.RangeWrites.{rangeWrite, rangeWrites, filled, downs, partAt, withPart, withBytes, Two, passedDown, passedUp, Ready}
+use Rattle.extents_pair.proofs.Sweeps.{over-none, over-same, fill-same, Fits, Rises, Drawn, downs-fits, up-step, rises-later, overwritten-later}
+use Rattle.extents_pair.proofs.Overwriting.{clear-fine, taken-none, range-writes-later, range-write-empty, downs-none, pass-rises, taken-good, taken-overwritten}
 use Rattle.extents_pair.proofs.Parts.{bytes-fit, map-same, Holds, holds-same, holds-start, holds-next, lent-view, lent-space, lent-bytes, lent-next}
 use Rattle.extents_pair.proofs.Taking.{runAmong, fine-at, there}
 
@@ -24,58 +24,58 @@ use Rattle.extents_pair.proofs.Taking.{runAmong, fine-at, there}
 
 -- the ranges of the runs from run i on got the cell behind them
 abbrev pub state : ℕ → ℕ → List Run → Bytes → ℕ → Bytes
-state lo hi rs g i = downs (strokes lo hi (drop i rs)) g
+state lo hi rs g i = downs (rangeWrites lo hi (drop i rs)) g
 
 module _ (lo hi : ℕ) (rs : List Run) where
   -- the range of run i, and those of the later runs
-  strokes-at : (i : ℕ) → i < length rs → strokes lo hi (drop i rs) ≡ stroke lo hi (runAmong rs i) ∷ strokes lo hi (drop (suc i) rs)
-  unfolding strokes
-  strokes-at i h = ap (strokes lo hi) (drop-cons rs i (runOf 0 0 0) h)
+  range-writes-at : (i : ℕ) → i < length rs → rangeWrites lo hi (drop i rs) ≡ rangeWrite lo hi (runAmong rs i) ∷ rangeWrites lo hi (drop (suc i) rs)
+  unfolding rangeWrites
+  range-writes-at i h = ap (rangeWrites lo hi) (drop-cons rs i (runOf 0 0 0) h)
 
   -- the pass down goes on with run i
   state-down : (g : Bytes) (i : ℕ) → i < length rs →
-      state lo hi rs g i ≡ filled (stroke lo hi (runAmong rs i) .from) (stroke lo hi (runAmong rs i) .to) (state lo hi rs g (suc i))
+      state lo hi rs g i ≡ filled (rangeWrite lo hi (runAmong rs i) .from) (rangeWrite lo hi (runAmong rs i) .to) (state lo hi rs g (suc i))
   unfolding downs
-  state-down g i h = ap (λ (us : List Stroke). downs us g) (strokes-at i h)
+  state-down g i h = ap (λ (us : List RangeWrite). downs us g) (range-writes-at i h)
 
   -- a published run changes nothing
   state-skip : (g : Bytes) (i : ℕ) → i < length rs → unpublished (runAmong rs i .cell) ≡ false → (x : ℕ) →
       state lo hi rs g i x ≡ state lo hi rs g (suc i) x
   state-skip g i h u x =
-      let s = stroke lo hi (runAmong rs i) in
+      let s = rangeWrite lo hi (runAmong rs i) in
       let f = state lo hi rs g (suc i) in
-      (λ o. state-down g i h o x) ∙ over-none (s .from) (s .to) (f (s .to)) f x (omega (arith, stroke-empty lo hi (runAmong rs i) u))
+      (λ o. state-down g i h o x) ∙ over-none (s .from) (s .to) (f (s .to)) f x (omega (arith, range-write-empty lo hi (runAmong rs i) u))
 
   -- behind the last run nothing is changed
   pub state-end : (g : Bytes) (i : ℕ) → length rs ≤ i → state lo hi rs g i ≡ g
-  unfolding strokes downs
-  state-end g i h = ap (λ (qs : List Run). downs (strokes lo hi qs) g) (drop-of-length-le rs h)
+  unfolding rangeWrites downs
+  state-end g i h = ap (λ (qs : List Run). downs (rangeWrites lo hi qs) g) (drop-of-length-le rs h)
 
   module _ (w : Lawful rs) (a : lo ≤ hi) (b : hi ≤ OFFSET-MAX) where
     -- the ranges rise
-    state-rises : (i : ℕ) → (q : ℕ) × Rises q (strokes lo hi (drop i rs))
+    state-rises : (i : ℕ) → (q : ℕ) × Rises q (rangeWrites lo hi (drop i rs))
     state-rises i =
-        let r = rises-later i (strokes lo hi rs) lo (pass-rises lo hi rs w a b) in
-        (r .0, subst (λ (us : List Stroke). Rises (r .0) us) (sym (strokes-later lo hi i rs)) (r .1))
+        let r = rises-later i (rangeWrites lo hi rs) lo (pass-rises lo hi rs w a b) in
+        (r .0, subst (λ (us : List RangeWrite). Rises (r .0) us) (sym (range-writes-later lo hi i rs)) (r .1))
 
     -- what fits still does
     state-fits : (g : Bytes) (space : ℕ) → Fits space g → (i : ℕ) → Fits space (state lo hi rs g i)
-    state-fits g space k i = let r = state-rises i in downs-fits (strokes lo hi (drop i rs)) (r .0) g space (r .1) k
+    state-fits g space k i = let r = state-rises i in downs-fits (rangeWrites lo hi (drop i rs)) (r .0) g space (r .1) k
 
     -- the pass up goes on with run i
-    state-up : (f g : Bytes) → Drawn lo (strokes lo hi rs) f g → (i : ℕ) → i < length rs → (x : ℕ) →
-        overwrite (stroke lo hi (runAmong rs i) .from) (stroke lo hi (runAmong rs i) .to - stroke lo hi (runAmong rs i) .from)
-        (stroke lo hi (runAmong rs i) .cell) (state lo hi rs g i) x
+    state-up : (f g : Bytes) → Drawn lo (rangeWrites lo hi rs) f g → (i : ℕ) → i < length rs → (x : ℕ) →
+        overwrite (rangeWrite lo hi (runAmong rs i) .from) (rangeWrite lo hi (runAmong rs i) .to - rangeWrite lo hi (runAmong rs i) .from)
+        (rangeWrite lo hi (runAmong rs i) .cell) (state lo hi rs g i) x
         ≡ state lo hi rs g (suc i) x
     state-up f g d i h x =
-        let s = stroke lo hi (runAmong rs i) in
-        let us = strokes lo hi (drop (suc i) rs) in
-        let e = strokes-at i h in
+        let s = rangeWrite lo hi (runAmong rs i) in
+        let us = rangeWrites lo hi (drop (suc i) rs) in
+        let e = range-writes-at i h in
         let r = state-rises i in
-        let o = drawn-later i (strokes lo hi rs) lo f g d in
-        let p : Rises (r .0) (s ∷ us) = subst (λ (us : List Stroke). Rises (r .0) us) e (r .1) in
-        let q : Drawn (o .0) (s ∷ us) f g = subst (λ (us : List Stroke). Drawn (o .0) us f g) (sym (strokes-later lo hi i rs) ∙ e) (o .1) in
-        ap (λ (us : List Stroke). overwrite (s .from) (s .to - s .from) (s .cell) (downs us g) x) e ∙ up-step s us (r .0) g p (q .1) x
+        let o = overwritten-later i (rangeWrites lo hi rs) lo f g d in
+        let p : Rises (r .0) (s ∷ us) = subst (λ (us : List RangeWrite). Rises (r .0) us) e (r .1) in
+        let q : Drawn (o .0) (s ∷ us) f g = subst (λ (us : List RangeWrite). Drawn (o .0) us f g) (sym (range-writes-later lo hi i rs) ∙ e) (o .1) in
+        ap (λ (us : List RangeWrite). overwrite (s .from) (s .to - s .from) (s .cell) (downs us g) x) e ∙ up-step s us (r .0) g p (q .1) x
 
 -- ---- The slice after a part of a pass
 
@@ -98,9 +98,9 @@ module _ (size v w lo hi : ℕ) (xs : List ℕ) (t : Two size v w xs) (a : lo �
   law = lawful-map (partAt v size xs) (t .view) .lawful-runs
 
   -- the range of a run as it is read
-  stroke-there : {f : Bytes} {ys : List ℕ} → Holds size w xs f ys → (i : ℕ) {s : Stroke} →
-      s ≡ stroke lo hi (runAmong (runs (take (v + size - v) (drop v ys))) i) → s ≡ stroke lo hi (runAmong rs i)
-  stroke-there k i q = q ∙ ap (λ (l : List ℕ). stroke lo hi (runAmong (runs l) i)) (lent-view t k)
+  range-write-there : {f : Bytes} {ys : List ℕ} → Holds size w xs f ys → (i : ℕ) {s : RangeWrite} →
+      s ≡ rangeWrite lo hi (runAmong (runs (take (v + size - v) (drop v ys))) i) → s ≡ rangeWrite lo hi (runAmong rs i)
+  range-write-there k i q = q ∙ ap (λ (l : List ℕ). rangeWrite lo hi (runAmong (runs l) i)) (lent-view t k)
 
   -- a run that reads as published is so
   shown-there : {f : Bytes} {ys : List ℕ} → Holds size w xs f ys → (i : ℕ) {r : Bool} →
@@ -118,14 +118,14 @@ module _ (size v w lo hi : ℕ) (xs : List ℕ) (t : Two size v w xs) (a : lo �
   down-start n h = subst (λ (f : Bytes). Holds size w xs f xs) (sym (state-end lo hi rs old n h)) (holds-start t)
 
   -- and goes on with the run before
-  pub down-next : (i : ℕ) {ys : List ℕ} → Holds size w xs (state lo hi rs old i) ys → 0 < i → i ≤ length rs → {s : Stroke} {last : List ℕ} →
-      s ≡ stroke lo hi (runAmong (runs (take (v + size - v) (drop v ys))) (i - 1)) →
+  pub down-next : (i : ℕ) {ys : List ℕ} → Holds size w xs (state lo hi rs old i) ys → 0 < i → i ≤ length rs → {s : RangeWrite} {last : List ℕ} →
+      s ≡ rangeWrite lo hi (runAmong (runs (take (v + size - v) (drop v ys))) (i - 1)) →
       last ≡ mapFor (spaceIn (take (w + size - w) (drop w ys))) (filled (s .from) (s .to) (bytesOf (take (w + size - w) (drop w ys)))) →
       Holds size w xs (state lo hi rs old (i - 1)) (putMid w (w + size - w) ys last)
   down-next i {ys} k h m {s} {last} p q =
       let j = i - 1 in
       let e : i ≡ suc j = omega arith in
-      let z = stroke-there k j p in
+      let z = range-write-there k j p in
       let f = bytesOf (take (w + size - w) (drop w ys)) in
       lent-next t k (state lo hi rs old j) (filled (s .from) (s .to) f) (state-fits lo hi rs law a b old (size / 4) (holds-start t .fits) j)
       (λ x.
@@ -146,17 +146,17 @@ module _ (size v w lo hi : ℕ) (xs : List ℕ) (t : Two size v w xs) (a : lo �
       (λ x. (λ o. state lo hi rs old (e o) x) ∙ sym (state-skip lo hi rs old j (omega arith) u x)) k
 
   -- a pass down over an empty range changes nothing
-  pub down-none : hi ≤ lo → xs ≡ withBytes size w (sunk size v w lo hi xs) xs
+  pub down-none : hi ≤ lo → xs ≡ withBytes size w (passedDown size v w lo hi xs) xs
   down-none h =
       holds-start t .same
       ∙ ap (λ (m : List ℕ). withPart w size m xs)
-      (map-same (size / 4) old (sunk size v w lo hi xs) (λ x. sym (downs-none lo hi rs old h x)))
+      (map-same (size / 4) old (passedDown size v w lo hi xs) (λ x. sym (downs-none lo hi rs old h x)))
 
   -- ---- Up
 
   -- the bytes at the end
   abbrev new : Bytes
-  new = raised size v w lo hi xs
+  new = passedUp size v w lo hi xs
 
   -- a pass up over an empty range changes nothing
   pub up-none : hi ≤ lo → xs ≡ withBytes size w new xs
@@ -184,8 +184,8 @@ module _ (size v w lo hi : ℕ) (xs : List ℕ) (t : Two size v w xs) (a : lo �
         holds-same (state lo hi rs new (i + 1)) (up-fits (i + 1))
         (λ x. state-skip lo hi rs new i m u x ∙ (λ o. state lo hi rs new (e o) x)) k
 
-    module _ (i : ℕ) {ys : List ℕ} (k : Holds size w xs (state lo hi rs new i) ys) (m : i < length rs) {s : Stroke}
-        (p : s ≡ stroke lo hi (runAmong (runs (take (v + size - v) (drop v ys))) i)) where
+    module _ (i : ℕ) {ys : List ℕ} (k : Holds size w xs (state lo hi rs new i) ys) (m : i < length rs) {s : RangeWrite}
+        (p : s ≡ rangeWrite lo hi (runAmong (runs (take (v + size - v) (drop v ys))) i)) where
       -- the bytes where the range of run i gets its cell
       abbrev written : Bytes
       written = overwrite (s .from) (s .to - s .from) (s .cell) (bytesOf (take (w + size - w) (drop w ys)))
@@ -193,18 +193,18 @@ module _ (size v w lo hi : ℕ) (xs : List ℕ) (t : Two size v w xs) (a : lo �
       -- they are those of the next step
       up-bytes : (x : ℕ) → written x ≡ state lo hi rs new (i + 1) x
       up-bytes x =
-          let z = stroke-there k i p in
+          let z = range-write-there k i p in
           let e : suc i ≡ i + 1 = omega arith in
           over-same (s .from) (s .to) (s .cell) (bytesOf (take (w + size - w) (drop w ys))) (state lo hi rs new i) (lent-bytes t k) x
           ∙ (λ o. overwrite (z o .from) (z o .to - z o .from) (z o .cell) (state lo hi rs new i) x)
-          ∙ state-up lo hi rs law a b old new (taken-drawn lo hi rs law old) i m x
+          ∙ state-up lo hi rs law a b old new (taken-overwritten lo hi rs law old) i m x
           ∙ (λ o. state lo hi rs new (e o) x)
 
       -- the cell is fine
       pub up-fine : Fine (s .cell)
-      unfolding stroke
+      unfolding rangeWrite
       up-fine =
-          subst (λ (o : Stroke). Fine (o .cell)) (sym (stroke-there k i p)) (clear-fine (runAmong rs i .cell) (fine-at rs i (law .numbered)))
+          subst (λ (o : RangeWrite). Fine (o .cell)) (sym (range-write-there k i p)) (clear-fine (runAmong rs i .cell) (fine-at rs i (law .numbered)))
 
       -- the bytes fit
       pub up-fit : length (runsOf written) ≤ spaceIn (take (w + size - w) (drop w ys))

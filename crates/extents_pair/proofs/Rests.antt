@@ -1,5 +1,5 @@
 -- The longest runs of bytes from x up to a top: skipping bytes of cell 0, taking the first run off, and that a later start has no more of them.
--- Assumes nothing.
+--
 use Prim.Native.Nat.{ℕ, zero, suc, _+_, _-_, _≤_, _<_}
 use native.Mathlib.Omega.{arith}
 use native.Mathlib.Decide.{decLt}

@@ -1,4 +1,4 @@
--- How many pieces a range has at most, from the runs of a map. Assumes nothing.
+-- How many pieces a range has at most, from the runs of a map.
 use Prim.Native.Nat.{ℕ, zero, suc, _+_, _*_, _-_, _/_, _≤_, _<_, min}
 use native.Mathlib.Omega.{arith}
 use native.Mathlib.Decide.{ℕ-discrete}
@@ -15,7 +15,7 @@ use Rattle.extents_meaning.specs.Maps.{runs, bytesOf, lawful}
 use Rattle.extents_meaning.specs.Points.{starts}
 use Rattle.extents_meaning.proofs.Longest.{runs-back}
 use Rattle.extents_meaning.proofs.Trips.{lawful-map}
-use Rattle.extents_meaning.proofs.Points.{news, news-same, news-one, news-most, count-starts}
+use Rattle.extents_meaning.proofs.Points.{begins, begins-same, begins-one, begins-most, count-starts}
 use Rattle.extents_map.specs.Mixes.{REFRESH, READ-MAP, READ-FRESH, mixed, mix}
 
 -- the pieces of the same range, said by its end
@@ -25,16 +25,16 @@ pieces-there f start n = let q : start + n - start ≡ n = omega arith in ap (pi
 -- ---- Two pieces for each run, and one more
 
 -- a piece starts at a byte where a run starts or ends, and a run that ends was begun before
-named-news : (w c : ℕ) → news (suc (numberIn w)) (suc (numberIn c)) + min w 1 ≤ 2 * news w c + min c 1
-named-news w c = go (ℕ-discrete w c) (ℕ-discrete w 0)
+named-begins : (w c : ℕ) → begins (suc (numberIn w)) (suc (numberIn c)) + min w 1 ≤ 2 * begins w c + min c 1
+named-begins w c = go (ℕ-discrete w c) (ℕ-discrete w 0)
   where
-    most : news (suc (numberIn w)) (suc (numberIn c)) ≤ 1
-    most = news-most (suc (numberIn w)) (suc (numberIn c))
+    most : begins (suc (numberIn w)) (suc (numberIn c)) ≤ 1
+    most = begins-most (suc (numberIn w)) (suc (numberIn c))
 
-    go : Dec (w ≡ c) → Dec (w ≡ 0) → news (suc (numberIn w)) (suc (numberIn c)) + min w 1 ≤ 2 * news w c + min c 1
-    go (yes e) d = omega (arith, e, news-same (suc (numberIn w)) (suc (numberIn c)) (ap (λ (k : ℕ). suc (numberIn k)) e))
+    go : Dec (w ≡ c) → Dec (w ≡ 0) → begins (suc (numberIn w)) (suc (numberIn c)) + min w 1 ≤ 2 * begins w c + min c 1
+    go (yes e) d = omega (arith, e, begins-same (suc (numberIn w)) (suc (numberIn c)) (ap (λ (k : ℕ). suc (numberIn k)) e))
     go (no e) (yes z) = omega (arith, e, z, most)
-    go (no e) (no z) = omega (arith, news-one w c z e, most)
+    go (no e) (no z) = omega (arith, begins-one w c z e, most)
 
 module _ (f : Bytes) where
   abbrev named : Bytes
@@ -45,13 +45,13 @@ module _ (f : Bytes) where
   unfolding starts
   named-starts zero k s c h = omega arith
   named-starts (suc n) zero s c h = absurd (omega arith)
-  named-starts (suc n) (suc k) s c h = omega (arith, named-news (f s) c, named-starts n k (suc s) (f s) (omega arith))
+  named-starts (suc n) (suc k) s c h = omega (arith, named-begins (f s) c, named-starts n k (suc s) (f s) (omega arith))
 
   -- the first byte starts a piece, whatever is before it
   named-first : (n s c : ℕ) → starts n s 0 named ≤ starts n s c named + 1
   unfolding starts
   named-first zero s c = omega arith
-  named-first (suc n) s c = omega (arith, news-most (named s) 0)
+  named-first (suc n) s c = omega (arith, begins-most (named s) 0)
 
   -- a part of k bytes, d behind the first of them
   named-part : (d k n s c t : ℕ) → t ≡ s + d → d + n ≤ k → starts n t 0 named ≤ 2 * starts k s c f + min c 1 + 1
@@ -59,7 +59,7 @@ module _ (f : Bytes) where
   named-part zero k n s c t e h =
       let z : t ≡ s = omega arith in rw z (omega (arith, named-first n s (suc (numberIn c)), named-starts n k s c (omega arith)))
   named-part (suc d) zero n s c t e h = absurd (omega arith)
-  named-part (suc d) (suc k) n s c t e h = omega (arith, named-news (f s) c, named-part d k n (suc s) (f s) t (omega arith) (omega arith))
+  named-part (suc d) (suc k) n s c t e h = omega (arith, named-begins (f s) c, named-part d k n (suc s) (f s) t (omega arith) (omega arith))
 
   -- a range has at most two pieces for each run, and one more
   pub pieces-few : (s n : ℕ) → s + n ≤ OFFSET-MAX → length (piecesOf f s n) ≤ 2 * length (runsOf f) + 1

@@ -1,4 +1,4 @@
--- The six steps that publish a view and a range: down on the right, in the range, on the left, then up the other way. Assumes nothing.
+-- The six steps that publish a view and a range: down on the right, in the range, on the left, then up the other way.
 use Prim.Native.Nat.{ℕ, _+_, _*_, _-_, _/_, _≤_, _<_}
 use native.Mathlib.Nat.{add-mul, one-mul, mul-le-mul-right}
 use native.Mathlib.Decide.{decLt}
@@ -18,14 +18,14 @@ use Rattle.extents_meaning.specs.Maps.{mapFor, spaceIn, runs, bytesOf, lawful, 
 use Rattle.extents_meaning.proofs.Longest.{Fine, runs-same}
 use Rattle.extents_meaning.proofs.Trips.{lawful-map}
 use Rattle.rows.proofs.Bools.{and-out}
-use Rattle.extents_pair.specs.declared.share.Stroke.{Stroke}
+use Rattle.extents_pair.specs.declared.share.RangeWrite.{RangeWrite}
 use Rattle.extents_map.specs.Mixes.{PUBLISH, mixed, mix}
 use Rattle.extents_meaning.specs.Pairs.{twoMaps, viewOf, belowOf}
 use Rattle.extents_pair.specs.Packing.{marked}
-use Rattle.extents_pair.specs.Strokes.{strokeOf, strokes, filled, downs, taken, partAt, withPart, Two, sunk, raised, withBytes, Ready}
+use Rattle.extents_pair.specs.RangeWrites.{rangeWriteOf, rangeWrites, filled, downs, taken, partAt, withPart, Two, passedDown, passedUp, withBytes, Ready}
 use Rattle.extents_pair.proofs.Gathering.{published-none}
-use Rattle.extents_pair.proofs.Sweeps.{over-at, over-same, fill-same, Fits, Rises, Drawn, downs-fits, downs-drawn, downs-same, up-step}
-use Rattle.extents_pair.proofs.Drawing.{taken-back, goal, lefts, rights, others, goal-good, rights-rise, others-rise, lefts-rise, rights-drawn, lefts-drawn}
+use Rattle.extents_pair.proofs.Sweeps.{over-at, over-same, fill-same, Fits, Rises, Drawn, downs-fits, downs-overwritten, downs-same, up-step}
+use Rattle.extents_pair.proofs.Overwriting.{taken-back, goal, lefts, rights, others, goal-good, rights-rise, others-rise, lefts-rise, rights-overwritten, lefts-overwritten}
 use Rattle.extents_pair.proofs.Laying.{all-fits}
 use Rattle.extents_pair.proofs.Parts.{lent, lent-below, Holds, holds-start, holds-same, holds-view, holds-bytes, holds-next, lent-space, lent-bytes, lent-next}
 
@@ -37,8 +37,8 @@ module _ (size v w lo hi : ℕ) (xs : List ℕ) (t : Two size v w xs) (a : lo �
   rs = runs (partAt v size xs)
 
   -- their ranges
-  abbrev us : List Stroke
-  us = strokes lo hi rs
+  abbrev us : List RangeWrite
+  us = rangeWrites lo hi rs
 
   -- the runs are lawful
   law : Lawful rs
@@ -50,15 +50,15 @@ module _ (size v w lo hi : ℕ) (xs : List ℕ) (t : Two size v w xs) (a : lo �
     below = bytesOf (partAt w size ys)
 
     -- a pass down goes on from the bytes held
-    go-down : Fits (size / 4) (downs us f) → {zs : List ℕ} → zs ≡ withBytes size w (sunk size v w lo hi ys) ys → Holds size w xs (downs us f) zs
+    go-down : Fits (size / 4) (downs us f) → {zs : List ℕ} → zs ≡ withBytes size w (passedDown size v w lo hi ys) ys → Holds size w xs (downs us f) zs
     go-down n q =
-        holds-next t k (downs us f) (sunk size v w lo hi ys) n
-        (λ x. (λ i. downs (strokes lo hi (runs (holds-view t k i))) below x) ∙ downs-same us below f (holds-bytes t k) x) q
+        holds-next t k (downs us f) (passedDown size v w lo hi ys) n
+        (λ x. (λ i. downs (rangeWrites lo hi (runs (holds-view t k i))) below x) ∙ downs-same us below f (holds-bytes t k) x) q
 
-    -- up to bytes that the ranges draw
+    -- up to bytes that the ranges overwrites
     module _ (d g : Bytes) (e : Drawn lo us d g) (z : (x : ℕ) → f x ≡ downs us g x) (n : Fits (size / 4) g) where
-      -- a pass up takes the bytes that the ranges draw
-      up-goal : (x : ℕ) → raised size v w lo hi ys x ≡ g x
+      -- a pass up takes the bytes that the ranges overwrites
+      up-goal : (x : ℕ) → passedUp size v w lo hi ys x ≡ g x
       up-goal x =
           (λ i. taken lo hi (bytesOf (holds-view t k i)) below x)
           ∙ taken-back lo hi rs law a b d g below e (λ y. holds-bytes t k y ∙ z y) x
@@ -67,15 +67,15 @@ module _ (size v w lo hi : ℕ) (xs : List ℕ) (t : Two size v w xs) (a : lo �
       ready-up : Ready size v w lo hi ys
       ready-up =
           record {
-            fit = omega (arith, n .few, ap length (runs-same (raised size v w lo hi ys) g (λ x _. up-goal x)));
+            fit = omega (arith, n .few, ap length (runs-same (passedUp size v w lo hi ys) g (λ x _. up-goal x)));
             level = λ x.
-                holds-bytes t k x ∙ z x ∙ sym (downs-same us (raised size v w lo hi ys) g up-goal x)
-                ∙ (λ i. downs (strokes lo hi (runs (sym (holds-view t k) i))) (raised size v w lo hi ys) x);
+                holds-bytes t k x ∙ z x ∙ sym (downs-same us (passedUp size v w lo hi ys) g up-goal x)
+                ∙ (λ i. downs (rangeWrites lo hi (runs (sym (holds-view t k) i))) (passedUp size v w lo hi ys) x);
           }
 
       -- and leaves them
-      go-up : {zs : List ℕ} → zs ≡ withBytes size w (raised size v w lo hi ys) ys → Holds size w xs g zs
-      go-up q = holds-next t k g (raised size v w lo hi ys) n up-goal q
+      go-up : {zs : List ℕ} → zs ≡ withBytes size w (passedUp size v w lo hi ys) ys → Holds size w xs g zs
+      go-up q = holds-next t k g (passedUp size v w lo hi ys) n up-goal q
 
 -- ---- The six steps
 
@@ -97,15 +97,15 @@ module _ {size v w start end c : ℕ} {xs : List ℕ} (s : Shared size v w start
   all = runs (partAt v size xs)
 
   -- the ranges on the left
-  abbrev left : List Stroke
+  abbrev left : List RangeWrite
   left = lefts all start
 
   -- those on the right
-  abbrev right : List Stroke
+  abbrev right : List RangeWrite
   right = rights all end
 
   -- the range and those on the right
-  abbrev other : List Stroke
+  abbrev other : List RangeWrite
   other = others all start end c
 
   -- the bytes at the end
@@ -132,7 +132,7 @@ module _ {size v w start end c : ℕ} {xs : List ℕ} (s : Shared size v w start
   left-rises : Rises 0 left
   left-rises = lefts-rise all all-law old start end c (s .order) (s .inside)
 
-  -- which end within all bytes
+  -- which end clamped all bytes
   left-end : start ≤ OFFSET-MAX
   left-end = omega (arith, s .order, s .inside)
 
@@ -184,7 +184,7 @@ module _ {size v w start end c : ℕ} {xs : List ℕ} (s : Shared size v w start
     alone-end q = lent-next (s .two) k new alone new-fits alone-bytes q
 
   -- the first: down on the right
-  pub down-right : {ys : List ℕ} → ys ≡ withBytes size w (sunk size v w end OFFSET-MAX xs) xs → Holds size w xs (downs right old) ys
+  pub down-right : {ys : List ℕ} → ys ≡ withBytes size w (passedDown size v w end OFFSET-MAX xs) xs → Holds size w xs (downs right old) ys
   down-right q =
       go-down size v w end OFFSET-MAX xs (s .two) (s .inside) (omega arith) begin (downs-fits right end old (size / 4) right-rises (begin .fits)) q
 
@@ -198,18 +198,18 @@ module _ {size v w start end c : ℕ} {xs : List ℕ} (s : Shared size v w start
       lent-next (s .two) k (downs other old) (filled start end f) two-fits (fill-same start end f (downs right old) (lent-bytes (s .two) k)) q
 
   -- the third: on the left
-  pub down-left : {ys : List ℕ} → Holds size w xs (downs other old) ys → {zs : List ℕ} → zs ≡ withBytes size w (sunk size v w 0 start ys) ys →
+  pub down-left : {ys : List ℕ} → Holds size w xs (downs other old) ys → {zs : List ℕ} → zs ≡ withBytes size w (passedDown size v w 0 start ys) ys →
       Holds size w xs (downs left (downs other old)) zs
   down-left k q =
       go-down size v w 0 start xs (s .two) (omega arith) left-end k (downs-fits left 0 (downs other old) (size / 4) left-rises two-fits) q
 
-  -- the ranges on the left draw what the fourth step is to leave
-  left-drawn : Drawn 0 left (downs other old) (downs other new)
-  left-drawn = lefts-drawn all all-law old start end c (s .order) (s .inside)
+  -- the ranges on the left overwrites what the fourth step is to leave
+  left-overwritten : Drawn 0 left (downs other old) (downs other new)
+  left-overwritten = lefts-overwritten all all-law old start end c (s .order) (s .inside)
 
   -- the third step leaves the same as one from there
   left-level : (b : ℕ) → downs left (downs other old) b ≡ downs left (downs other new) b
-  left-level b = downs-drawn left 0 (downs other old) (downs other new) left-rises left-drawn b (omega arith)
+  left-level b = downs-overwritten left 0 (downs other old) (downs other new) left-rises left-overwritten b (omega arith)
 
   -- what the fourth step is to leave fits
   left-fits : Fits (size / 4) (downs other new)
@@ -218,11 +218,11 @@ module _ {size v w start end c : ℕ} {xs : List ℕ} (s : Shared size v w start
   module _ {ys : List ℕ} (k : Holds size w xs (downs left (downs other old)) ys) where
     -- the fourth: up on the left, which is ready
     pub ready-left : Ready size v w 0 start ys
-    ready-left = ready-up size v w 0 start xs (s .two) (omega arith) left-end k (downs other old) (downs other new) left-drawn left-level left-fits
+    ready-left = ready-up size v w 0 start xs (s .two) (omega arith) left-end k (downs other old) (downs other new) left-overwritten left-level left-fits
 
     -- and leaves that
-    pub up-left : {zs : List ℕ} → zs ≡ withBytes size w (raised size v w 0 start ys) ys → Holds size w xs (downs other new) zs
-    up-left q = go-up size v w 0 start xs (s .two) (omega arith) left-end k (downs other old) (downs other new) left-drawn left-level left-fits q
+    pub up-left : {zs : List ℕ} → zs ≡ withBytes size w (passedUp size v w 0 start ys) ys → Holds size w xs (downs other new) zs
+    up-left q = go-up size v w 0 start xs (s .two) (omega arith) left-end k (downs other old) (downs other new) left-overwritten left-level left-fits q
 
   -- what the fifth step is to leave fits
   right-fits : Fits (size / 4) (downs right new)
@@ -237,7 +237,7 @@ module _ {size v w start end c : ℕ} {xs : List ℕ} (s : Shared size v w start
     range-bytes : (b : ℕ) → written b ≡ downs right new b
     range-bytes b =
         over-same start end c (bytesOf (take (w + size - w) (drop w ys))) (downs other new) (lent-bytes (s .two) k) b
-        ∙ up-step (strokeOf start end c) right start new other-rises (over-at start end c (published (cellAt all) old)) b
+        ∙ up-step (rangeWriteOf start end c) right start new other-rises (over-at start end c (published (cellAt all) old)) b
 
     -- they fit
     pub range-fit : length (runsOf written) ≤ spaceIn (take (w + size - w) (drop w ys))
@@ -248,18 +248,18 @@ module _ {size v w start end c : ℕ} {xs : List ℕ} (s : Shared size v w start
         Holds size w xs (downs right new) (putMid w (w + size - w) ys last)
     up-range q = lent-next (s .two) k (downs right new) written right-fits range-bytes q
 
-  -- the ranges on the right draw the bytes at the end
-  right-drawn : Drawn end right old new
-  right-drawn = rights-drawn all all-law old start end c (s .order) (s .inside)
+  -- the ranges on the right overwrites the bytes at the end
+  right-overwritten : Drawn end right old new
+  right-overwritten = rights-overwritten all all-law old start end c (s .order) (s .inside)
 
   module _ {ys : List ℕ} (k : Holds size w xs (downs right new) ys) where
     -- the sixth: up on the right, which is ready
     pub ready-right : Ready size v w end OFFSET-MAX ys
-    ready-right = ready-up size v w end OFFSET-MAX xs (s .two) (s .inside) (omega arith) k old new right-drawn (λ b. refl) new-fits
+    ready-right = ready-up size v w end OFFSET-MAX xs (s .two) (s .inside) (omega arith) k old new right-overwritten (λ b. refl) new-fits
 
     -- and leaves the bytes at the end
-    pub up-right : {zs : List ℕ} → zs ≡ withBytes size w (raised size v w end OFFSET-MAX ys) ys → Holds size w xs new zs
-    up-right q = go-up size v w end OFFSET-MAX xs (s .two) (s .inside) (omega arith) k old new right-drawn (λ b. refl) new-fits q
+    pub up-right : {zs : List ℕ} → zs ≡ withBytes size w (passedUp size v w end OFFSET-MAX ys) ys → Holds size w xs new zs
+    up-right q = go-up size v w end OFFSET-MAX xs (s .two) (s .inside) (omega arith) k old new right-overwritten (λ b. refl) new-fits q
 
 -- ---- From two maps of a space
 

@@ -1,4 +1,4 @@
--- Runs in a slice: reading the four numbers of one, putting one behind others, lengthening one, and what is left outside a part. Assumes nothing.
+-- Runs in a slice: reading the four numbers of one, putting one behind others, lengthening one, and what is left outside a part.
 use Prim.Native.Nat.{ℕ, suc, _+_, _*_, _-_, _≤_, _<_}
 use native.Mathlib.Numerals.{add-one}
 use native.Mathlib.Decide.{decLt}

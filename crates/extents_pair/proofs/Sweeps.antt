@@ -1,4 +1,4 @@
--- Ranges written in two passes: from right to left each gets the cell behind it, then from left to right its own. Assumes nothing.
+-- Ranges written in two passes: from right to left each gets the cell behind it, then from left to right its own.
 use Prim.Native.Nat.{ℕ, zero, suc, _+_, _-_, _≤_, _<_}
 use native.Mathlib.Omega.{arith}
 use native.Mathlib.Decide.{decLt}
@@ -11,8 +11,8 @@ use Rattle.extents_meaning.specs.Cells.{Bytes, inRange, overwrite}
 use Rattle.extents_meaning.specs.Runs.{runsOf}
 use Rattle.extents_meaning.proofs.Longest.{Fine}
 use Rattle.extents_meaning.proofs.Passes.{over-in, over-before, over-behind, pass-down}
-use Rattle.extents_pair.specs.declared.share.Stroke.{Stroke}
-use Rattle.extents_pair.specs.Strokes.{filled, downs}
+use Rattle.extents_pair.specs.declared.share.RangeWrite.{RangeWrite}
+use Rattle.extents_pair.specs.RangeWrites.{filled, downs}
 
 -- ---- One range
 
@@ -85,12 +85,12 @@ pub record Fits (space : ℕ) (f : Bytes) : Type 0 where
 -- ---- Ranges in rising order
 
 -- each range stands behind the one before it, and all from a byte on
-abbrev pub Rises : ℕ → List Stroke → Type 0
+abbrev pub Rises : ℕ → List RangeWrite → Type 0
 Rises p [] = Unit {0}
 Rises p (s ∷ us) = (p ≤ s .from) × (s .from ≤ s .to) × (s .to ≤ OFFSET-MAX) × Rises (s .to) us
 
 -- from a byte on g has in each range its cell, and between them the cells of f
-abbrev pub Drawn : ℕ → List Stroke → Bytes → Bytes → Type 0
+abbrev pub Drawn : ℕ → List RangeWrite → Bytes → Bytes → Type 0
 Drawn p [] f g = (b : ℕ) → p ≤ b → g b ≡ f b
 Drawn p (s ∷ us) f g =
     ((b : ℕ) → p ≤ b → b < s .from → g b ≡ f b) × ((b : ℕ) → s .from ≤ b → b < s .to → g b ≡ s .cell) × Drawn (s .to) us f g
@@ -98,7 +98,7 @@ Drawn p (s ∷ us) f g =
 -- ---- The pass down
 
 -- it keeps the bytes before the ranges
-pub downs-before : (us : List Stroke) (p : ℕ) (f : Bytes) → Rises p us → (b : ℕ) → b < p → downs us f b ≡ f b
+pub downs-before : (us : List RangeWrite) (p : ℕ) (f : Bytes) → Rises p us → (b : ℕ) → b < p → downs us f b ≡ f b
 unfolding downs
 downs-before [] p f r b h = refl
 downs-before (s ∷ us) p f r b h =
@@ -106,16 +106,16 @@ downs-before (s ∷ us) p f r b h =
     ∙ downs-before us (s .to) f (r .3) b (omega (arith, r .0, r .1))
 
 -- and those before the first of them
-downs-gap : (s : Stroke) (us : List Stroke) (p : ℕ) (f : Bytes) → Rises p (s ∷ us) → (b : ℕ) → b < s .from → downs (s ∷ us) f b ≡ f b
+downs-gap : (s : RangeWrite) (us : List RangeWrite) (p : ℕ) (f : Bytes) → Rises p (s ∷ us) → (b : ℕ) → b < s .from → downs (s ∷ us) f b ≡ f b
 downs-gap s us p f r = downs-before (s ∷ us) (s .from) f (omega arith, r .1, r .2, r .3)
 
 -- behind the first range the others say all
-downs-past : (s : Stroke) (us : List Stroke) (f : Bytes) → s .from ≤ s .to → (b : ℕ) → s .to ≤ b → downs (s ∷ us) f b ≡ downs us f b
+downs-past : (s : RangeWrite) (us : List RangeWrite) (f : Bytes) → s .from ≤ s .to → (b : ℕ) → s .to ≤ b → downs (s ∷ us) f b ≡ downs us f b
 unfolding downs
 downs-past s us f h b l = over-past (s .from) (s .to) (downs us f (s .to)) (downs us f) b (omega arith) l
 
 -- good bytes stay good
-downs-good : (us : List Stroke) (p : ℕ) (f : Bytes) → Rises p us → Good f → Good (downs us f)
+downs-good : (us : List RangeWrite) (p : ℕ) (f : Bytes) → Rises p us → Good f → Good (downs us f)
 unfolding downs
 downs-good [] p f r g = g
 downs-good (s ∷ us) p f r g =
@@ -123,7 +123,7 @@ downs-good (s ∷ us) p f r g =
     good-over (s .from) (s .to) (downs us f (s .to)) (downs us f) (r .2) (k .fine (s .to)) k
 
 -- it makes no more runs
-downs-fewer : (us : List Stroke) (p : ℕ) (f : Bytes) → Rises p us → Good f → length (runsOf (downs us f)) ≤ length (runsOf f)
+downs-fewer : (us : List RangeWrite) (p : ℕ) (f : Bytes) → Rises p us → Good f → length (runsOf (downs us f)) ≤ length (runsOf f)
 unfolding downs
 downs-fewer [] p f r g = omega arith
 downs-fewer (s ∷ us) p f r g =
@@ -136,15 +136,15 @@ downs-fewer (s ∷ us) p f r g =
     omega (arith, q, downs-fewer us (s .to) f (r .3) g)
 
 -- so what fits still does
-pub downs-fits : (us : List Stroke) (p : ℕ) (f : Bytes) (space : ℕ) → Rises p us → Fits space f → Fits space (downs us f)
+pub downs-fits : (us : List RangeWrite) (p : ℕ) (f : Bytes) (space : ℕ) → Rises p us → Fits space f → Fits space (downs us f)
 downs-fits us p f space r k =
     record { good = downs-good us p f r (k .good); few = omega (arith, downs-fewer us p f r (k .good), k .few) }
 
 -- it asks only for the bytes between the ranges
-pub downs-drawn : (us : List Stroke) (p : ℕ) (f g : Bytes) → Rises p us → Drawn p us f g → (b : ℕ) → p ≤ b → downs us f b ≡ downs us g b
+pub downs-overwritten : (us : List RangeWrite) (p : ℕ) (f g : Bytes) → Rises p us → Drawn p us f g → (b : ℕ) → p ≤ b → downs us f b ≡ downs us g b
 unfolding downs
-downs-drawn [] p f g r d b h = sym (d b h)
-downs-drawn (s ∷ us) p f g r d b h = go (place (s .from) (s .to) b) (downs-drawn us (s .to) f g (r .3) (d .2))
+downs-overwritten [] p f g r d b h = sym (d b h)
+downs-overwritten (s ∷ us) p f g r d b h = go (place (s .from) (s .to) b) (downs-overwritten us (s .to) f g (r .3) (d .2))
   where
     go : Place (s .from) (s .to) b → ((a : ℕ) → s .to ≤ a → downs us f a ≡ downs us g a) → downs (s ∷ us) f b ≡ downs (s ∷ us) g b
     go (before l) ih = downs-gap s us p f r b l ∙ sym (d .0 b h l) ∙ sym (downs-gap s us p g r b l)
@@ -155,7 +155,7 @@ downs-drawn (s ∷ us) p f g r d b h = go (place (s .from) (s .to) b) (downs-dra
     go (behind l k) ih = downs-past s us f (r .1) b k ∙ ih b k ∙ sym (downs-past s us g (r .1) b k)
 
 -- equal bytes stay equal
-pub downs-same : (us : List Stroke) (f g : Bytes) → ((b : ℕ) → f b ≡ g b) → (b : ℕ) → downs us f b ≡ downs us g b
+pub downs-same : (us : List RangeWrite) (f g : Bytes) → ((b : ℕ) → f b ≡ g b) → (b : ℕ) → downs us f b ≡ downs us g b
 unfolding downs
 downs-same [] f g h b = h b
 downs-same (s ∷ us) f g h b = fill-same (s .from) (s .to) (downs us f) (downs us g) (downs-same us f g h) b
@@ -163,7 +163,7 @@ downs-same (s ∷ us) f g h b = fill-same (s .from) (s .to) (downs us f) (downs 
 -- ---- The pass up
 
 -- a range that gets its own cell leaves the pass down of the others
-pub up-step : (s : Stroke) (us : List Stroke) (p : ℕ) (g : Bytes) → Rises p (s ∷ us) → ((b : ℕ) → s .from ≤ b → b < s .to → g b ≡ s .cell) →
+pub up-step : (s : RangeWrite) (us : List RangeWrite) (p : ℕ) (g : Bytes) → Rises p (s ∷ us) → ((b : ℕ) → s .from ≤ b → b < s .to → g b ≡ s .cell) →
     (b : ℕ) → overwrite (s .from) (s .to - s .from) (s .cell) (downs (s ∷ us) g) b ≡ downs us g b
 unfolding downs
 up-step s us p g r own b = go (place (s .from) (s .to) b)
@@ -181,45 +181,45 @@ up-step s us p g r own b = go (place (s .from) (s .to) b)
 -- ---- Later ranges
 
 -- they rise too
-pub rises-later : (i : ℕ) (us : List Stroke) (p : ℕ) → Rises p us → (q : ℕ) × Rises q (drop i us)
+pub rises-later : (i : ℕ) (us : List RangeWrite) (p : ℕ) → Rises p us → (q : ℕ) × Rises q (drop i us)
 rises-later zero us p r = (p, r)
 rises-later (suc i) [] p r = (p, r)
 rises-later (suc i) (s ∷ us) p r = rises-later i us (s .to) (r .3)
 
--- and are drawn
-pub drawn-later : (i : ℕ) (us : List Stroke) (p : ℕ) (f g : Bytes) → Drawn p us f g → (q : ℕ) × Drawn q (drop i us) f g
-drawn-later zero us p f g d = (p, d)
-drawn-later (suc i) [] p f g d = (p, d)
-drawn-later (suc i) (s ∷ us) p f g d = drawn-later i us (s .to) f g (d .2)
+-- and are written
+pub overwritten-later : (i : ℕ) (us : List RangeWrite) (p : ℕ) (f g : Bytes) → Drawn p us f g → (q : ℕ) × Drawn q (drop i us) f g
+overwritten-later zero us p f g d = (p, d)
+overwritten-later (suc i) [] p f g d = (p, d)
+overwritten-later (suc i) (s ∷ us) p f g d = overwritten-later i us (s .to) f g (d .2)
 
 -- ---- Drawn bytes
 
--- drawn again nothing changes
-pub drawn-self : (us : List Stroke) (p : ℕ) (f g : Bytes) → Drawn p us f g → Drawn p us g g
-drawn-self [] p f g d = λ b l. refl
-drawn-self (s ∷ us) p f g d = (λ b l k. refl, d .1, drawn-self us (s .to) f g (d .2))
+-- written again nothing changes
+pub overwritten-self : (us : List RangeWrite) (p : ℕ) (f g : Bytes) → Drawn p us f g → Drawn p us g g
+overwritten-self [] p f g d = λ b l. refl
+overwritten-self (s ∷ us) p f g d = (λ b l k. refl, d .1, overwritten-self us (s .to) f g (d .2))
 
 -- equal bytes serve as well
-drawn-same : (us : List Stroke) (p : ℕ) (f f′ g : Bytes) → Rises p us → ((b : ℕ) → p ≤ b → f b ≡ f′ b) → Drawn p us f g → Drawn p us f′ g
-drawn-same [] p f f′ g r h d = λ b l. d b l ∙ h b l
-drawn-same (s ∷ us) p f f′ g r h d =
-    (λ b l k. d .0 b l k ∙ h b l, d .1, drawn-same us (s .to) f f′ g (r .3) (λ b l. h b (omega (arith, r .0, r .1))) (d .2))
+overwritten-same : (us : List RangeWrite) (p : ℕ) (f f′ g : Bytes) → Rises p us → ((b : ℕ) → p ≤ b → f b ≡ f′ b) → Drawn p us f g → Drawn p us f′ g
+overwritten-same [] p f f′ g r h d = λ b l. d b l ∙ h b l
+overwritten-same (s ∷ us) p f f′ g r h d =
+    (λ b l k. d .0 b l k ∙ h b l, d .1, overwritten-same us (s .to) f f′ g (r .3) (λ b l. h b (omega (arith, r .0, r .1))) (d .2))
 
 -- the pass down may be made first
-pub drawn-downs : (us : List Stroke) (p : ℕ) (f g : Bytes) → Rises p us → Drawn p us f g → Drawn p us (downs us f) g
+pub overwritten-downs : (us : List RangeWrite) (p : ℕ) (f g : Bytes) → Rises p us → Drawn p us f g → Drawn p us (downs us f) g
 unfolding downs
-drawn-downs [] p f g r d = d
-drawn-downs (s ∷ us) p f g r d = (
+overwritten-downs [] p f g r d = d
+overwritten-downs (s ∷ us) p f g r d = (
   λ b l k. d .0 b l k ∙ sym (downs-gap s us p f r b k),
   d .1,
-  drawn-same us (s .to) (downs us f) (downs (s ∷ us) f) g (r .3) (λ b l. sym (downs-past s us f (r .1) b l))
-      (drawn-downs us (s .to) f g (r .3) (d .2)),
+  overwritten-same us (s .to) (downs us f) (downs (s ∷ us) f) g (r .3) (λ b l. sym (downs-past s us f (r .1) b l))
+      (overwritten-downs us (s .to) f g (r .3) (d .2)),
 )
 
--- there is one way to draw
-pub drawn-one : (us : List Stroke) (p : ℕ) (f g h : Bytes) → Drawn p us f g → Drawn p us f h → (b : ℕ) → p ≤ b → g b ≡ h b
-drawn-one [] p f g h d e b l = d b l ∙ sym (e b l)
-drawn-one (s ∷ us) p f g h d e b l = go (place (s .from) (s .to) b) (drawn-one us (s .to) f g h (d .2) (e .2) b)
+-- there is one way to overwrites
+pub overwritten-one : (us : List RangeWrite) (p : ℕ) (f g h : Bytes) → Drawn p us f g → Drawn p us f h → (b : ℕ) → p ≤ b → g b ≡ h b
+overwritten-one [] p f g h d e b l = d b l ∙ sym (e b l)
+overwritten-one (s ∷ us) p f g h d e b l = go (place (s .from) (s .to) b) (overwritten-one us (s .to) f g h (d .2) (e .2) b)
   where
     go : Place (s .from) (s .to) b → (s .to ≤ b → g b ≡ h b) → g b ≡ h b
     go (before k) ih = d .0 b l k ∙ sym (e .0 b l k)

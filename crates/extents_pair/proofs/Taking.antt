@@ -1,4 +1,4 @@
--- The range that a run of a map makes, read from its four numbers. Assumes nothing.
+-- The range that a run of a map makes, read from its four numbers.
 use Prim.Native.Nat.{ℕ, zero, suc, _+_, _*_, _≤_, _<_}
 use native.Mathlib.Omega.{arith}
 use mathlib.Core.Path.{_≡_, refl, sym, ap, _∙_}
@@ -13,13 +13,13 @@ use Rattle.extents_meaning.specs.Runs.{Run, runOf, Rising, Numbered}
 use Rattle.extents_meaning.specs.Maps.{runs, lawful}
 use Rattle.extents_meaning.proofs.Longest.{Fine}
 use Rattle.extents_meaning.proofs.Trips.{lawful-map, run-at}
-use Rattle.extents_pair.specs.Strokes.{strokeOf, within, stroke}
+use Rattle.extents_pair.specs.RangeWrites.{rangeWriteOf, clamped, rangeWrite}
 
 -- run i of a list
 abbrev pub runAmong : List Run → ℕ → Run
 runAmong rs i = getD rs i (runOf 0 0 0)
 
--- it ends within all bytes, and its row number is small
+-- it ends clamped all bytes, and its row number is small
 pub inside-at : (rs : List Run) (i e c : ℕ) → Rising OFFSET-MAX e c rs → runAmong rs i .start + runAmong rs i .length ≤ OFFSET-MAX
 inside-at [] i e c t = omega arith
 inside-at (r ∷ rs) zero e c t = t .0 .inside
@@ -63,20 +63,20 @@ there xs i e h =
       low = small (runAmong rs i .cell) (fine-at rs i (m .lawful-runs .numbered));
     }
 
-module _ {xs : List ℕ} {i : ℕ} {r : Run} (t : There xs i r) (lo hi : ℕ) {from : ℕ} (f : from ≡ within lo hi (getD xs (i * 4) 0)) where
+module _ {xs : List ℕ} {i : ℕ} {r : Run} (t : There xs i r) (lo hi : ℕ) {from : ℕ} (f : from ≡ clamped lo hi (getD xs (i * 4) 0)) where
   -- the cell of its range
   cell-there : getD xs (i * 4 + 2) 0 * 2 ≡ cleared (r .cell)
   cell-there = omega (arith, t .number)
 
   -- the first byte of its range
-  from-there : from ≡ within lo hi (r .start)
-  from-there = f ∙ ap (within lo hi) (t .start)
+  from-there : from ≡ clamped lo hi (r .start)
+  from-there = f ∙ ap (clamped lo hi) (t .start)
 
   -- an unpublished run makes its part of the range
-  pub stroke-one : {to : ℕ} → to ≡ within lo hi (getD xs (i * 4) 0 + getD xs (i * 4 + 1) 0) → unpublished (r .cell) ≡ true →
-      strokeOf from to (getD xs (i * 4 + 2) 0 * 2) ≡ stroke lo hi r
-  unfolding stroke
-  stroke-one {to} g u =
-      let q : to ≡ within lo hi (cond (unpublished (r .cell)) (r .start + r .length) (r .start)) =
-      g ∙ (λ j. within lo hi (t .start j + t .length j)) ∙ (λ j. within lo hi (cond (sym u j) (r .start + r .length) (r .start))) in
-      λ j. strokeOf (from-there j) (q j) (cell-there j)
+  pub range-write-one : {to : ℕ} → to ≡ clamped lo hi (getD xs (i * 4) 0 + getD xs (i * 4 + 1) 0) → unpublished (r .cell) ≡ true →
+      rangeWriteOf from to (getD xs (i * 4 + 2) 0 * 2) ≡ rangeWrite lo hi r
+  unfolding rangeWrite
+  range-write-one {to} g u =
+      let q : to ≡ clamped lo hi (cond (unpublished (r .cell)) (r .start + r .length) (r .start)) =
+      g ∙ (λ j. clamped lo hi (t .start j + t .length j)) ∙ (λ j. clamped lo hi (cond (sym u j) (r .start + r .length) (r .start))) in
+      λ j. rangeWriteOf (from-there j) (q j) (cell-there j)

@@ -1,2 +1,2 @@
-pub mod Strokes
+pub mod RangeWrites
 pub mod Packing

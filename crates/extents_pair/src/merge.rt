@@ -1,11 +1,11 @@
-// Publishing a view on the published map and refreshing a view from it, both maps in one slice, and marking a view published.
+// Refreshing a view from the published map, both maps in one slice, and marking the runs of a view published.
 ghost use Prim.Native.Nat.{_+_, _*_, _-_, _≤_, _<_, max};
 ghost use mathlib.Core.Path.{_≡_};
 ghost use mathlib.Core.Bool.{true, false, _&&_};
 ghost use mathlib.Core.List.{[], _∷_, _++_};
 ghost use lib.ListN.{length, getD, take, drop, replicate};
 ghost use lib.Dec.{eqb};
-ghost use Rattle.extents_meaning.specs.Cells.{settled, refreshed};
+ghost use Rattle.extents_meaning.specs.Cells.{asPublished, refreshed};
 ghost use Rattle.extents_meaning.specs.Runs.{runsOf};
 ghost use Rattle.extents_meaning.specs.Maps.{fours, mapFor, spaceIn, runs, bytesOf, lawful, mapAt, withMap};
 ghost use Rattle.extents_meaning.specs.Pairs.{twoMaps, viewOf, belowOf};
@@ -14,16 +14,16 @@ ghost use Rattle.rows.specs.Limits.{OFFSET-MAX};
 
 // Marks the unpublished runs of a map published, of which there are `own`: a mark is put to 0 where no neighbour touches the run with the same
 // row; where one does, all runs are gone through and joined.
-pub(crate) fn settle(map: &mut [u32], own: usize)
+pub(crate) fn mark_published(map: &mut [u32], own: usize)
     requires { ⌜ (lawful (now map) ≡ true) × (own ≡ length (marked (runs (now map)))) ⌝ }
-    ensures { λ _. ⌜ now (map .exit) ≡ mapFor (spaceIn (now (map .entry))) (settled (bytesOf (now (map .entry)))) ⌝ }
+    ensures { λ _. ⌜ now (map .exit) ≡ mapFor (spaceIn (now (map .entry))) (asPublished (bytesOf (now (map .entry)))) ⌝ }
 {
     let mut left = own;
     let mut i = 0;
     while 0 < left {
         if map[i * 4 + 3] == 1 {
             if joins(map, i) {
-                settle_all(map);
+                mark_all_published(map);
                 return;
             }
             map[i * 4 + 3] = 0;
@@ -61,9 +61,9 @@ fn meets(map: &[u32], i: usize) -> bool
 
 // Marks every run of a map published, and joins neighbours that then have the same cell, from the front: a run is held while those behind it
 // touch it with the same row, and then put behind those put before.
-fn settle_all(map: &mut [u32])
+fn mark_all_published(map: &mut [u32])
     requires { ⌜ lawful (now map) ≡ true ⌝ }
-    ensures { λ _. ⌜ now (map .exit) ≡ mapFor (spaceIn (now (map .entry))) (settled (bytesOf (now (map .entry)))) ⌝ }
+    ensures { λ _. ⌜ now (map .exit) ≡ mapFor (spaceIn (now (map .entry))) (asPublished (bytesOf (now (map .entry)))) ⌝ }
 {
     let all = extents_map::splice::runs_in(map);
     if all == 0 {

@@ -5,7 +5,7 @@ ghost use mathlib.Core.Bool.{true};
 ghost use mathlib.Core.Logic.{_⊎_};
 ghost use lib.ListN.{length};
 ghost use lib.Dec.{leb, ltb};
-ghost use Rattle.extents_meaning.specs.Cells.{numberIn, overwrite, settled, refreshed};
+ghost use Rattle.extents_meaning.specs.Cells.{numberIn, overwrite, asPublished, refreshed};
 ghost use Rattle.extents_meaning.specs.Runs.{runsFrom, runsOf, piecesOf};
 ghost use Rattle.extents_meaning.specs.Maps.{mapFor, runs, bytesOf, lawful, mapAt, withMap, listedIn};
 ghost use Rattle.extents_map.specs.Mixes.{mix};
@@ -181,14 +181,14 @@ fn marked_in(map: &[u32]) -> usize
 }
 
 // Marks a map published, of whose runs `own` are not.
-pub fn settle(maps: &mut [u32], space: usize, k: usize, own: usize)
+pub fn mark_published(maps: &mut [u32], space: usize, k: usize, own: usize)
     requires { ⌜ (k + 1) * (4 * space) ≤ length (now maps) ⌝ }
     requires { ⌜ (lawful (mapAt space k (now maps)) ≡ true) × (own ≡ length (marked (runs (mapAt space k (now maps))))) ⌝ }
-    ensures { λ _. ⌜ now (maps .exit) ≡ withMap space k (mapFor space (settled (bytesOf (mapAt space k (now (maps .entry)))))) (now (maps .entry)) ⌝ }
+    ensures { λ _. ⌜ now (maps .exit) ≡ withMap space k (mapFor space (asPublished (bytesOf (mapAt space k (now (maps .entry)))))) (now (maps .entry)) ⌝ }
 {
     let size = 4 * space;
     let at = k * size;
-    crate::merge::settle(&mut maps[at..at + size], own);
+    crate::merge::mark_published(&mut maps[at..at + size], own);
 }
 
 // Gives a range of a map a cell, where it fits then.

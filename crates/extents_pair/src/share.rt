@@ -13,7 +13,7 @@ ghost use Rattle.extents_meaning.specs.Maps.{mapFor, spaceIn, runs, bytesOf, la
 ghost use Rattle.extents_map.specs.Mixes.{PUBLISH, mix};
 ghost use Rattle.extents_meaning.specs.Pairs.{twoMaps, viewOf, belowOf};
 ghost use Rattle.extents_pair.specs.Packing.{marked};
-ghost use Rattle.extents_pair.specs.Strokes.{within, stroke, filled, partAt, withBytes, Two, sunk, raised, Ready};
+ghost use Rattle.extents_pair.specs.RangeWrites.{clamped, rangeWrite, filled, partAt, withBytes, Two, passedDown, passedUp, Ready};
 
 // Publishes a view, of whose runs `own` are unpublished, and a range of a row number, 0 where the range is empty, on a published map that fits
 // then.
@@ -65,14 +65,14 @@ fn lay_own(maps: &mut [u32], size: usize, v: usize, w: usize)
     while 0 < i {
         i -= 1;
         if is_own(&maps[v..v + size], i) {
-            let s = stroke_at(&maps[v..v + size], i, 0, rows::OFFSET_MAX);
+            let s = range_write_at(&maps[v..v + size], i, 0, rows::OFFSET_MAX);
             put(&mut maps[w..w + size], s.from, s.to, s.cell);
         }
     }
 }
 
 // A range to be written, and its cell.
-struct Stroke {
+struct RangeWrite {
     from: u32,
     to: u32,
     cell: u32,
@@ -81,7 +81,7 @@ struct Stroke {
 // Gives each unpublished range of a view between two bytes the cell behind it, from right to left.
 fn pass_down(maps: &mut [u32], size: usize, v: usize, w: usize, lo: u32, hi: u32)
     requires { ⌜ Two size v w (now maps) × (lo ≤ hi) ⌝ }
-    ensures { λ _. ⌜ now (maps .exit) ≡ withBytes size w (sunk size v w lo hi (now (maps .entry))) (now (maps .entry)) ⌝ }
+    ensures { λ _. ⌜ now (maps .exit) ≡ withBytes size w (passedDown size v w lo hi (now (maps .entry))) (now (maps .entry)) ⌝ }
 {
     if hi <= lo {
         return;
@@ -90,7 +90,7 @@ fn pass_down(maps: &mut [u32], size: usize, v: usize, w: usize, lo: u32, hi: u32
     while 0 < i {
         i -= 1;
         if is_own(&maps[v..v + size], i) {
-            let s = stroke_at(&maps[v..v + size], i, lo, hi);
+            let s = range_write_at(&maps[v..v + size], i, lo, hi);
             fill(&mut maps[w..w + size], s.from, s.to);
         }
     }
@@ -99,7 +99,7 @@ fn pass_down(maps: &mut [u32], size: usize, v: usize, w: usize, lo: u32, hi: u32
 // Gives each its own cell, from left to right.
 fn pass_up(maps: &mut [u32], size: usize, v: usize, w: usize, lo: u32, hi: u32)
     requires { ⌜ Two size v w (now maps) × (lo ≤ hi) × Ready size v w lo hi (now maps) ⌝ }
-    ensures { λ _. ⌜ now (maps .exit) ≡ withBytes size w (raised size v w lo hi (now (maps .entry))) (now (maps .entry)) ⌝ }
+    ensures { λ _. ⌜ now (maps .exit) ≡ withBytes size w (passedUp size v w lo hi (now (maps .entry))) (now (maps .entry)) ⌝ }
 {
     if hi <= lo {
         return;
@@ -110,7 +110,7 @@ fn pass_up(maps: &mut [u32], size: usize, v: usize, w: usize, lo: u32, hi: u32)
         let k = i;
         i += 1;
         if is_own(&maps[v..v + size], k) {
-            let s = stroke_at(&maps[v..v + size], k, lo, hi);
+            let s = range_write_at(&maps[v..v + size], k, lo, hi);
             put(&mut maps[w..w + size], s.from, s.to, s.cell);
         }
     }
@@ -125,24 +125,24 @@ fn is_own(map: &[u32], i: usize) -> bool
 }
 
 // What is to be written of run i, an unpublished one, between two bytes.
-fn stroke_at(map: &[u32], i: usize, lo: u32, hi: u32) -> Stroke
+fn range_write_at(map: &[u32], i: usize, lo: u32, hi: u32) -> RangeWrite
     requires { ⌜ (lawful (now map) ≡ true) × (i < length (runs (now map))) × (i * 4 + 4 ≤ length (now map))
         × (unpublished (getD (runs (now map)) i (runOf 0 0 0) .cell) ≡ true) ⌝ }
-    ensures { λ r. ⌜ r ≡ stroke lo hi (getD (runs (now (map .entry))) i (runOf 0 0 0)) ⌝ }
+    ensures { λ r. ⌜ r ≡ rangeWrite lo hi (getD (runs (now (map .entry))) i (runOf 0 0 0)) ⌝ }
 {
     let at = i * 4;
     let start = map[at];
     let end = start + map[at + 1];
-    Stroke {
-        from: bring(lo, hi, start),
-        to: bring(lo, hi, end),
+    RangeWrite {
+        from: clamp(lo, hi, start),
+        to: clamp(lo, hi, end),
         cell: map[at + 2] * 2,
     }
 }
 
 // A byte moved into a range.
-fn bring(lo: u32, hi: u32, x: u32) -> u32
-    ensures { λ r. ⌜ r ≡ within lo hi x ⌝ }
+fn clamp(lo: u32, hi: u32, x: u32) -> u32
+    ensures { λ r. ⌜ r ≡ clamped lo hi x ⌝ }
 {
     extents_map::scan::most(lo, extents_map::scan::least(x, hi))
 }

@@ -1,4 +1,4 @@
--- The questions that filling the counts asks: the processes of the first rows, the first No, and what three times Yes tells. Assumes nothing.
+-- The questions that filling the counts asks: the processes of the first rows, the first No, and what three times Yes tells.
 use Prim.Native.Nat.{ℕ, zero, suc, _*_, _-_, _≤_, _<_}
 use native.Mathlib.Decide.{decLt}
 use native.Mathlib.Omega.{arith}

@@ -1,4 +1,4 @@
--- Cells of the counts' slice: the values of a function, and a row of them put into a list. Assumes nothing.
+-- Cells of the counts' slice: the values of a function, and a row of them put into a list.
 use Prim.Native.Nat.{ℕ, zero, suc, _+_, _*_, _≤_, _<_}
 use native.Mathlib.Nat.{add-zero, suc-mul, mul-le-mul-right}
 use native.Mathlib.Numerals.{add-one}

@@ -1,4 +1,4 @@
--- Laws of happens-before and of the counts. Assumes nothing.
+-- Laws of happens-before and of the counts.
 use Prim.Native.Nat.{ℕ, zero, suc, _+_, _≤_, _<_}
 use native.Mathlib.Omega.{arith}
 use native.Mathlib.Decide.{decLt}

@@ -1,4 +1,4 @@
--- Filling the counts row after row: what the slice holds after some rows, and one row more. Assumes nothing.
+-- Filling the counts row after row: what the slice holds after some rows, and one row more.
 use Prim.Native.Nat.{ℕ, zero, suc, _+_, _*_, _-_, _≤_, _<_}
 use native.Mathlib.Nat.{zero-mul, suc-mul}
 use native.Mathlib.Decide.{decLt}

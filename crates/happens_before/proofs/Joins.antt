@@ -1,4 +1,4 @@
--- The last row of a process, the sends that a row receives, and a row's counts joined from those of other rows. Assumes nothing.
+-- The last row of a process, the sends that a row receives, and a row's counts joined from those of other rows.
 use Prim.Native.Nat.{ℕ, zero, suc, _+_, _*_, _-_, _≤_, _<_, max}
 use native.Mathlib.Nat.{max-zero, zero-max, max-le, add-zero}
 use native.Mathlib.Numerals.{add-one}

@@ -1,4 +1,4 @@
--- Unions of closed sets of rows, and how many rows of a process they hold. Assumes nothing.
+-- Unions of closed sets of rows, and how many rows of a process they hold.
 use Prim.Native.Nat.{ℕ, zero, suc, _+_, max, _≤_, _<_}
 use native.Mathlib.Omega.{arith}
 use native.Mathlib.Decide.{decLt}

@@ -1,4 +1,4 @@
--- A packed answer leaves what the answer does. Assumes nothing.
+-- A packed answer leaves what the answer does.
 use Prim.Native.Nat.{ℕ, _+_, _*_, _/_, _%_, _<_}
 use native.Mathlib.Omega.{arith}
 use mathlib.Core.Path.{_≡_, refl, sym, ap, subst, _∙_}

@@ -1,4 +1,4 @@
--- A step leaves a lawful state lawful and lists no more pieces than the answer slice has room for; a refusal changes nothing. Assumes nothing.
+-- A step leaves a lawful state lawful and lists no more pieces than the answer slice has room for; a refusal changes nothing.
 use Prim.Native.Nat.{ℕ, zero, suc, _+_, _*_, _≤_, _<_}
 use native.Mathlib.Decide.{decLt, ℕ-discrete}
 use native.Mathlib.Omega.{arith}

@@ -1,4 +1,4 @@
--- What making answers and leaves, by what the code tests. Assumes nothing.
+-- What making answers and leaves, by what the code tests.
 use Prim.Native.Nat.{ℕ, _+_, _*_, _/_, _≤_, _<_}
 use native.Mathlib.Omega.{arith}
 use mathlib.Core.Path.{_≡_, refl, _∙_}

@@ -1,4 +1,4 @@
--- A replay turn by turn: what the code has done so far, and that the rest of the definition stands for what is left. Assumes nothing.
+-- A replay turn by turn: what the code has done so far, and that the rest of the definition stands for what is left.
 use Prim.Native.Nat.{ℕ, zero, suc, _+_, _*_, _-_, _≤_, _<_}
 use native.Mathlib.Omega.{arith}
 use mathlib.Core.Path.{_≡_, refl, sym, ap, subst, _∙_}

@@ -1,4 +1,4 @@
--- What a row answers and leaves, from what the entries of the map of pieces answer and leave. Assumes nothing.
+-- What a row answers and leaves, from what the entries of the map of pieces answer and leave.
 use Prim.Native.Nat.{ℕ, suc, _+_, _*_, _-_, _/_, _≤_, _<_}
 use native.Mathlib.Numerals.{add-one}
 use native.Mathlib.Nat.{mul-le-mul-left, mul-le-mul-right}
@@ -15,7 +15,7 @@ use Rattle.rows.specs.Kinds.{READ, WRITE}
 use Rattle.models.specs.Table.{publishes, refreshes}
 use Rattle.rows.specs.declared.Row.{Row}
 use Rattle.rows.specs.Questions.{Question, firstNo}
-use Rattle.extents_meaning.specs.Cells.{Bytes, cellOf, overwrite, published, settled, refreshed}
+use Rattle.extents_meaning.specs.Cells.{Bytes, cellOf, overwrite, published, asPublished, refreshed}
 use Rattle.extents_meaning.specs.Runs.{Run, runsOf, piecesOf}
 use Rattle.extents_meaning.specs.Maps.{mapFor, threes, bytesOf, lawful, lawfulPublished, mapAt, withMap, listedIn}
 use Rattle.rows.proofs.Bools.{and-out}
@@ -30,7 +30,7 @@ use Rattle.machine_meaning.proofs.Stepping.{AllYes}
 use Rattle.extents.specs.declared.Answer as extents
 use Rattle.extents.specs.declared.Answer.the-variants.{Done, Refused}
 use Rattle.extents_meaning.specs.Pairs.{twoMaps, viewOf, belowOf}
-use Rattle.extents.specs.Entries.{bothMaps, orRefused, orKept, countOf, writeRefusal, writtenMap, listRefusal, publishRefusal, publishedMaps, refreshRefusal, refreshedMaps, syncRefusal, syncedMaps, postRefusal, postedMaps, readRefusal}
+use Rattle.extents.specs.Entries.{bothMaps, orRefused, orKept, countOf, writeRefusal, writtenMap, listRefusal, publishRefusal, publishedMaps, refreshRefusal, refreshedMaps, syncRefusal, syncedMaps, writeThroughRefusal, writtenThroughMaps, readRefusal}
 use Rattle.extents.proofs.Lent.{home, two-told, lentMap, map-lent, map-space}
 use Rattle.machine_state.specs.Answers.{answerOf, Steps, Ready}
 use Rattle.machine_state.proofs.Maps.{first-map, state-two, state-view, state-in, anew, fit-both, to-both, to-view-alone, shared′, view′, row-both}
@@ -311,7 +311,7 @@ module _ {h : Header} {xs : List ℕ} {r : Row} {number : ℕ} (k : Ready h xs r
       unfolding firstNo syncRefusal syncedMaps
       share-both p f =
           let w = published (own k) (old k .shared) in
-          by-two k (refreshed (settled (own k)) w) w (rw (no-write, p, f)) (rw (no-write, p)) no-read
+          by-two k (refreshed (asPublished (own k)) w) w (rw (no-write, p, f)) (rw (no-write, p)) no-read
           (λ n. syncRefusal (h .space) n 0 xs) (λ n. syncedMaps (h .space) n 0 xs) (rw (two k)) refl
 
       -- it publishes only
@@ -321,7 +321,7 @@ module _ {h : Header} {xs : List ℕ} {r : Row} {number : ℕ} (k : Ready h xs r
           (out : List ℕ) → Steps (stepOf h xs r number out) answer maps′ out
       unfolding firstNo publishRefusal publishedMaps
       share-publish p f =
-          by-two k (settled (own k)) (published (own k) (old k .shared)) (rw (no-write, p, f)) (rw (no-write, p)) no-read
+          by-two k (asPublished (own k)) (published (own k) (old k .shared)) (rw (no-write, p, f)) (rw (no-write, p)) no-read
           (λ n. publishRefusal (h .space) n 0 xs) (λ n. publishedMaps (h .space) n 0 xs) (rw (two k)) refl
 
       -- it refreshes only
@@ -368,16 +368,16 @@ module _ {h : Header} {xs : List ℕ} {r : Row} {number : ℕ} (k : Ready h xs r
 
   module _ {answer : extents.Answer} {maps′ : List ℕ} where
     -- one that publishes
-    pub write-post : publishes (h .model) 1 ≡ true →
-        answer ≡ orRefused (postRefusal (h .space) (r .process + 1) 0 xs (r .offset) (r .length) number) Done →
-        maps′ ≡ orKept (postRefusal (h .space) (r .process + 1) 0 xs (r .offset) (r .length) number)
-        (postedMaps (h .space) (r .process + 1) 0 xs (r .offset) (r .length) number) xs →
+    pub write-write-through : publishes (h .model) 1 ≡ true →
+        answer ≡ orRefused (writeThroughRefusal (h .space) (r .process + 1) 0 xs (r .offset) (r .length) number) Done →
+        maps′ ≡ orKept (writeThroughRefusal (h .space) (r .process + 1) 0 xs (r .offset) (r .length) number)
+        (writtenThroughMaps (h .space) (r .process + 1) 0 xs (r .offset) (r .length) number) xs →
         (out : List ℕ) → Steps (stepOf h xs r number out) answer maps′ out
-    unfolding firstNo postRefusal postedMaps
-    write-post p =
+    unfolding firstNo writeThroughRefusal writtenThroughMaps
+    write-write-through p =
         let q : publishes (h .model) (r .kind) ≡ true = ap (publishes (h .model)) kind ∙ p in
-        by-two k (settled new) (published new (old k .shared)) (rw (write-is, q, write-stays)) (rw (write-is, q)) write-quiet
-        (λ n. postRefusal (h .space) n 0 xs (r .offset) (r .length) number) (λ n. postedMaps (h .space) n 0 xs (r .offset) (r .length) number)
+        by-two k (asPublished new) (published new (old k .shared)) (rw (write-is, q, write-stays)) (rw (write-is, q)) write-quiet
+        (λ n. writeThroughRefusal (h .space) n 0 xs (r .offset) (r .length) number) (λ n. writtenThroughMaps (h .space) n 0 xs (r .offset) (r .length) number)
         (rw (two k, ready-number k, le-leb _ _ (write-range .0), le-leb _ _ (write-range .1), le-leb _ _ (write-range .2))) refl
 
   -- the map of the process

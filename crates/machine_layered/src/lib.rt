@@ -112,7 +112,7 @@ fn write(machine: Machine, maps: &mut [u32], row: Row, number: u32) -> Answer
     let offset = row.offset;
     let length = row.length;
     if models::is_publish(machine.model, rows::WRITE) {
-        return extents::lawful::post(maps, space, view, 0, offset, length, number);
+        return extents::lawful::write_through(maps, space, view, 0, offset, length, number);
     }
     let size = 4 * space;
     let at = view * size;

@@ -1,5 +1,5 @@
 -- What a lawful state says of its maps: they lie in the slice, each is lawful, fits its space and is written again as it is, so that a state that
--- no row changes stays as it was. Assumes nothing.
+-- no row changes stays as it was.
 use Prim.Native.Nat.{ℕ, zero, suc, _+_, _*_, _≤_, _<_}
 use native.Mathlib.Nat.{zero-mul, mul-le-mul-right}
 use native.Mathlib.Omega.{arith}

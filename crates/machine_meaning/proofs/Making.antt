@@ -1,4 +1,4 @@
--- Making of legal numbers over a slice that is long enough is accepted, and the slice then holds the fresh file. Assumes nothing.
+-- Making of legal numbers over a slice that is long enough is accepted, and the slice then holds the fresh file.
 use Prim.Native.Nat.{ℕ, _*_, _≤_, _<_}
 use mathlib.Core.Path.{_≡_, ap, _∙_}
 use mathlib.Core.Bool.{_&&_}

@@ -1,4 +1,4 @@
--- Bytes whose cells change only at some points: fresh ones are so, and every row keeps them so. Assumes nothing.
+-- Bytes whose cells change only at some points: fresh ones are so, and every row keeps them so.
 use Prim.Native.Nat.{ℕ, zero, suc, _+_, _%_, _≤_, _<_}
 use native.Mathlib.Omega.{arith}
 use native.Mathlib.Decide.{decLt, ℕ-discrete}
@@ -13,7 +13,7 @@ use Rattle.rows.specs.Limits.{ROWS, OFFSET-MAX}
 use Rattle.rows.specs.Kinds.{WRITE}
 use Rattle.models.specs.Table.{publishes, refreshes}
 use Rattle.rows.specs.declared.Row.{Row}
-use Rattle.extents_meaning.specs.Cells.{Bytes, cellOf, numberIn, unpublished, cleared, inRange, overwrite, published, settled, refreshed}
+use Rattle.extents_meaning.specs.Cells.{Bytes, cellOf, numberIn, unpublished, cleared, inRange, overwrite, published, asPublished, refreshed}
 use Rattle.extents_meaning.specs.Runs.{runsOf, piecesOf}
 use Rattle.rows.specs.Lists.{In}
 use Rattle.extents_meaning.proofs.Longest.{Fine}
@@ -93,8 +93,8 @@ module _ {points : List ℕ} where
       (λ c d p q. picked Fine (unpublished c) (cleared c) d (λ _. cleared-fine c p) q)
 
   -- and the view
-  settled-pointed : {f : Bytes} → Pointed points f → Pointed points (settled f)
-  settled-pointed k = both-pointed (λ c d. cleared c) refl (λ c d p q. cleared-fine c p) k k
+  as-published-pointed : {f : Bytes} → Pointed points f → Pointed points (asPublished f)
+  as-published-pointed k = both-pointed (λ c d. cleared c) refl (λ c d p q. cleared-fine c p) k k
 
   -- and so does a refresh
   refreshed-pointed : {f g : Bytes} → Pointed points f → Pointed points g → Pointed points (refreshed f g)
@@ -177,7 +177,7 @@ module _ {points : List ℕ} where
           record {
             shared = published-pointed (k .view p) (k .shared);
             unmarked = unmarked;
-            view = with-pointed p (settled-pointed (k .view p)) (k .view);
+            view = with-pointed p (as-published-pointed (k .view p)) (k .view);
           }
 
   refreshing-pointed : (x : Bool) (p : ℕ) {s : Layers} → LayersPointed points s → LayersPointed points (cond x (refreshing p s) s)

@@ -1,4 +1,4 @@
--- Layered and plain files in slices: what was written is lawful, stands in its place and is read back. Assumes nothing.
+-- Layered and plain files in slices: what was written is lawful, stands in its place and is read back.
 use Prim.Native.Nat.{ℕ, zero, suc, _+_, _*_, _≤_, _<_}
 use native.Mathlib.Nat.{zero-mul}
 use native.Mathlib.Decide.{decLt}

@@ -1,4 +1,4 @@
--- One step of a machine and of a plain file whose maps hold bytes: where no question says No, it is the row's step by the bytes. Assumes nothing.
+-- One step of a machine and of a plain file whose maps hold bytes: where no question says No, it is the row's step by the bytes.
 use Prim.Native.Nat.{ℕ, suc, _*_, _≤_, _<_}
 use native.Mathlib.Omega.{arith}
 use mathlib.Core.Path.{_≡_, refl, ap, _∙_}
@@ -12,7 +12,7 @@ use Rattle.rows.specs.Kinds.{WRITE}
 use Rattle.models.specs.Table.{publishes, refreshes}
 use Rattle.rows.specs.declared.Row.{Row}
 use Rattle.rows.specs.Questions.{Question, firstNo}
-use Rattle.extents_meaning.specs.Cells.{Bytes, cellOf, overwrite, published, settled, refreshed}
+use Rattle.extents_meaning.specs.Cells.{Bytes, cellOf, overwrite, published, asPublished, refreshed}
 use Rattle.extents_meaning.specs.Runs.{Run}
 use Rattle.extents_meaning.specs.Maps.{lawful, lawfulPublished}
 use Rattle.rows.proofs.Bools.{and-out}
@@ -63,7 +63,7 @@ module _ {processes : ℕ} where
     alike-publishing a =
         record {
           shared = λ i. published (a .view p l i) (a .shared i);
-          view = alike-with (ap settled (a .view p l)) (a .view);
+          view = alike-with (ap asPublished (a .view p l)) (a .view);
         }
 
     alike-refreshing : {s t : Layers} → Alike processes s t → Alike processes (refreshing p s) (refreshing p t)

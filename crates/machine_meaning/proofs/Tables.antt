@@ -1,4 +1,4 @@
--- What rows do under each model, as document 01 lists it: the table's marks put to work. Assumes nothing.
+-- What rows do under each model, as document 01 lists it: the table's marks put to work.
 use Prim.Native.Nat.{ℕ}
 use mathlib.Core.Path.{_≡_, refl}
 use borrow.Author.Tests.{ne-eqb}

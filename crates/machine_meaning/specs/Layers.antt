@@ -6,7 +6,7 @@ use lib.Dec.{ltb, eqb}
 use Rattle.rows.specs.Kinds.{READ, WRITE, SEND}
 use Rattle.models.specs.Table.{publishes, refreshes}
 use Rattle.rows.specs.declared.Row.{Row}
-use Rattle.extents_meaning.specs.Cells.{Bytes, cellOf, overwrite, published, settled, refreshed}
+use Rattle.extents_meaning.specs.Cells.{Bytes, cellOf, overwrite, published, asPublished, refreshed}
 use Rattle.extents_meaning.specs.Runs.{Run, piecesOf}
 
 -- For each byte a published row number and, for each process, a view: a row number and whether it is unpublished. (Published cells have no
@@ -39,7 +39,7 @@ abbrev pub publishing : ℕ → Layers → Layers
 publishing p s =
     record {
       shared = published (s .view p) (s .shared);
-      view = withView p (settled (s .view p)) (s .view);
+      view = withView p (asPublished (s .view p)) (s .view);
     }
 
 -- To refresh is to take the published number for each byte of the view that is not unpublished.

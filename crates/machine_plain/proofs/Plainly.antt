@@ -1,4 +1,4 @@
--- A lawful plain file, and what a row does to it, by what the code tests and calls. Assumes nothing.
+-- A lawful plain file, and what a row does to it, by what the code tests and calls.
 use Prim.Native.Nat.{ℕ, _+_, _*_, _/_, _≤_, _<_}
 use native.Mathlib.Omega.{arith}
 use mathlib.Core.Path.{_≡_, refl, sym, ap, _∙_}

@@ -1,4 +1,4 @@
--- What a step answers and leaves, as a refusal decides. Assumes nothing.
+-- What a step answers and leaves, as a refusal decides.
 use Prim.Native.Nat.{ℕ}
 use mathlib.Core.Path.{_≡_, refl, sym, _∙_}
 use mathlib.Core.Bool.{Bool, true, false, cond}

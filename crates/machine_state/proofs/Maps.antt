@@ -1,4 +1,4 @@
--- A machine's state as two maps at a time: a row changes the published map and one view. Assumes nothing.
+-- A machine's state as two maps at a time: a row changes the published map and one view.
 use Prim.Native.Nat.{ℕ, zero, suc, _+_, _*_, _-_, _≤_, _<_}
 use native.Mathlib.Numerals.{add-one}
 use native.Mathlib.Nat.{zero-mul}
@@ -16,7 +16,7 @@ use Rattle.rows.specs.Limits.{FILES}
 use Rattle.rows.specs.Kinds.{WRITE}
 use Rattle.models.specs.Table.{publishes, refreshes}
 use Rattle.rows.specs.declared.Row.{Row}
-use Rattle.extents_meaning.specs.Cells.{Bytes, cellOf, overwrite, published, settled, refreshed}
+use Rattle.extents_meaning.specs.Cells.{Bytes, cellOf, overwrite, published, asPublished, refreshed}
 use Rattle.extents_meaning.specs.Runs.{runsOf}
 use Rattle.extents_meaning.specs.Maps.{mapFor, lawful, lawfulPublished, mapAt, withMap}
 use Rattle.machine_meaning.specs.Layers.{Layers, withView, publishing, refreshing, afterRow}
@@ -202,9 +202,9 @@ module _ (p : ℕ) (s : Layers) where
 
   -- after publishing
   both-published : (b : Bool) (t : Layers) (w v : Bytes) → Both p s t w v →
-      Both p s (cond b (publishing p t) t) (cond b (published v w) w) (cond b (settled v) v)
+      Both p s (cond b (publishing p t) t) (cond b (published v w) w) (cond b (asPublished v) v)
   both-published true t w v k =
-      ((λ i. published (k .1 i) (k .0 i)), own _ (t .view) ∙ ap settled (k .1), λ q a. others _ (t .view) q a ∙ k .2 q a)
+      ((λ i. published (k .1 i) (k .0 i)), own _ (t .view) ∙ ap asPublished (k .1), λ q a. others _ (t .view) q a ∙ k .2 q a)
   both-published false t w v k = k
 
   -- after refreshing
@@ -220,7 +220,7 @@ module _ (model : ℕ) (r : Row) (number : ℕ) (s : Layers) where
 
   -- the view after publishing
   abbrev pub put : Bytes
-  put = cond (publishes model (r .kind)) (settled wrote) wrote
+  put = cond (publishes model (r .kind)) (asPublished wrote) wrote
 
   -- the published map after it
   abbrev pub shared′ : Bytes

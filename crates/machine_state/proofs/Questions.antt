@@ -1,4 +1,4 @@
--- The questions that the machine and the plain file share, by what the code tests. Assumes nothing.
+-- The questions that the machine and the plain file share, by what the code tests.
 use Prim.Native.Nat.{ℕ, zero, suc, _+_, _*_, _/_, _≤_, _<_}
 use native.Mathlib.Omega.{arith}
 use mathlib.Core.Path.{_≡_, refl, sym, _∙_}

@@ -1,4 +1,4 @@
--- The table of marks has the rule of specs/Table.antt at every entry, by one computed test. Assumes nothing.
+-- The table of marks has the rule of specs/Table.antt at every entry, by one computed test.
 use Prim.Native.Nat.{ℕ, zero, suc, _+_, _*_, _/_, _%_, _≤_, _<_}
 use native.Mathlib.Omega.{arith}
 use mathlib.Core.Path.{_≡_, refl, sym, ap, _∙_}

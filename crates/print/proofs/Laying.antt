@@ -1,4 +1,4 @@
--- Bytes laid into a slice, one part behind the other. Assumes nothing.
+-- Bytes laid into a slice, one part behind the other.
 use Prim.Native.Nat.{ℕ, zero, suc, _+_, _-_, _/_, _%_, _≤_, _<_}
 use native.Mathlib.Omega.{arith}
 use mathlib.Core.Path.{_≡_, refl, sym, ap, _∙_}

@@ -1,4 +1,4 @@
--- How many digits a number has. Assumes nothing.
+-- How many digits a number has.
 use Prim.Native.Nat.{ℕ, zero, suc, _+_, _-_, _*_, _/_, _≤_, _<_}
 use native.Mathlib.Omega.{arith}
 use mathlib.Core.Path.{_≡_, refl, subst}

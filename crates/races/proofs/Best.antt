@@ -1,5 +1,5 @@
 -- The first row that publishes and the last row that refreshes are the best choices for a chain, and counts tell happens-before.
--- Assumes nothing.
+--
 use Prim.Native.Nat.{ℕ, zero, suc, _-_, _≤_, _<_}
 use native.Mathlib.Omega.{arith}
 use native.Mathlib.Numerals.{unary-clauses}

@@ -1,4 +1,4 @@
--- Rows as the numbers of a slice: their conflicts and the last refresh. Assumes nothing.
+-- Rows as the numbers of a slice: their conflicts and the last refresh.
 use Prim.Native.Nat.{ℕ, suc, _+_, _*_, _-_, _≤_, _<_, max, min}
 use native.Mathlib.Decide.{ℕ-discrete}
 use native.Mathlib.Omega.{arith}

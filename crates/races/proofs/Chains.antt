@@ -1,4 +1,4 @@
--- The chains as what lies between, and the chain of the table. Assumes nothing.
+-- The chains as what lies between, and the chain of the table.
 use Prim.Native.Nat.{ℕ, zero, suc, _<_}
 use native.Mathlib.Omega.{arith}
 use mathlib.Core.Path.{_≡_, refl, sym, ap, _∙_}

@@ -1,4 +1,4 @@
--- A conflict is what document 01 says. Assumes nothing.
+-- A conflict is what document 01 says.
 use Prim.Native.Nat.{ℕ, _+_, _≤_, _<_}
 use mathlib.Core.Path.{_≡_, refl, sym, ap, _∙_}
 use mathlib.Core.Logic.{_↔_, _⊎_, inl, inr}

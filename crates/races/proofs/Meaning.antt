@@ -1,5 +1,5 @@
 -- Races and verdicts in document 01's words. Rows are named by their places, from 0; a verdict gives row numbers, which are one more.
--- Assumes nothing.
+--
 use Prim.Native.Nat.{ℕ, zero, suc, _+_, _≤_, _<_}
 use native.Mathlib.Omega.{arith}
 use mathlib.Core.Path.{_≡_, refl, sym, subst, _∙_}

@@ -1,4 +1,4 @@
--- The two passes that look for a row that races with y: what they read, and what they know after each turn. Assumes nothing.
+-- The two passes that look for a row that races with y: what they read, and what they know after each turn.
 use Prim.Native.Nat.{ℕ, zero, suc, _+_, _*_, _-_, _≤_, _<_}
 use native.Mathlib.Nat.{add-zero}
 use native.Mathlib.Decide.{ℕ-discrete}

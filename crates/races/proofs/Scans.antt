@@ -1,4 +1,4 @@
--- The scan finds the races, and the first of them is the verdict. Assumes nothing.
+-- The scan finds the races, and the first of them is the verdict.
 use Prim.Native.Nat.{ℕ, suc, _+_, _-_, _≤_, _<_}
 use native.Mathlib.Omega.{arith}
 use mathlib.Core.Path.{_≡_, refl, sym, ap, _∙_}

@@ -1,4 +1,4 @@
--- The verdict is the first race, and overlap is a shared byte. Assumes nothing.
+-- The verdict is the first race, and overlap is a shared byte.
 use Prim.Native.Nat.{ℕ, zero, suc, _+_, max, min, _≤_, _<_}
 use native.Mathlib.Omega.{arith}
 use native.Mathlib.Decide.{decLt}

@@ -1,4 +1,4 @@
--- The whole call: what it relies on, and what it answers and leaves. Assumes nothing.
+-- The whole call: what it relies on, and what it answers and leaves.
 use Prim.Native.Nat.{ℕ, suc, _+_, _*_, _-_, _≤_, _<_}
 use native.Mathlib.Omega.{arith}
 use native.Mathlib.Decide.{decLt}

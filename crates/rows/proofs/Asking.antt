@@ -1,4 +1,4 @@
--- What the first No says of a list of questions. Assumes nothing.
+-- What the first No says of a list of questions.
 use Prim.Native.Nat.{ℕ, _≤_}
 use native.Mathlib.Omega.{arith}
 use mathlib.Core.Path.{_≡_, refl}

@@ -1,4 +1,4 @@
--- Tests on the numbers below a bound: whether one of them passes, and how many. Assumes nothing.
+-- Tests on the numbers below a bound: whether one of them passes, and how many.
 use Prim.Native.Nat.{ℕ, zero, suc, _+_, max, _≤_, _<_}
 use native.Mathlib.Omega.{arith}
 use native.Mathlib.Decide.{decLt}

@@ -1,4 +1,4 @@
--- Tests that pass, both or one of them. Assumes nothing.
+-- Tests that pass, both or one of them.
 use mathlib.Core.Path.{_≡_, refl, sym, _∙_}
 use mathlib.Core.Logic.{_⊎_, inl, inr}
 use mathlib.Core.Bool.{Bool, true, false, not, _&&_, _||_, false≢true, or-true}

@@ -1,4 +1,4 @@
--- Products of numbers, and blocks of one length that stand one after the other. Assumes nothing.
+-- Products of numbers, and blocks of one length that stand one after the other.
 use Prim.Native.Nat.{ℕ, _+_, _*_, _^_, _≤_, _<_}
 use native.Mathlib.Nat.{suc-mul, mul-le-mul-right, mul-le-mul-left, mul-lt-mul-of-pos-right, lt-of-le-of-lt, le-of-lt}
 use native.Mathlib.Omega.{arith}

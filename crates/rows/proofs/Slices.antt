@@ -1,4 +1,4 @@
--- Rows in a slice of six numbers each. Assumes nothing.
+-- Rows in a slice of six numbers each.
 use Prim.Native.Nat.{ℕ, zero, suc, _+_, _*_, _/_, _≤_, _<_}
 use native.Mathlib.Numerals.{add-one, add-two, add-three, add-four, add-five}
 use native.Mathlib.Omega.{arith}

@@ -1,4 +1,4 @@
--- Slices of zeros. Assumes nothing.
+-- Slices of zeros.
 use Prim.Native.Nat.{ℕ, zero, suc, _≤_}
 use native.Mathlib.Omega.{arith}
 use mathlib.Core.Path.{_≡_, refl, ap, _∙_}

@@ -1,4 +1,4 @@
--- What the tests on a call's answer and on errno say of the outcome. A signed number is tested by its bits. Assumes nothing.
+-- What the tests on a call's answer and on errno say of the outcome. A signed number is tested by its bits.
 use Prim.Native.Nat.{ℕ, zero, suc, min, _+_, _<_, _≤_, _-_, _^_}
 use native.Mathlib.Omega.{arith}
 use native.Mathlib.Nat.{lt-of-le-of-lt}

@@ -1,4 +1,4 @@
--- Which texts are accepted, and with which rows: exactly those that pass every question. Assumes nothing.
+-- Which texts are accepted, and with which rows: exactly those that pass every question.
 use Prim.Native.Nat.{ℕ, zero, suc, _+_, _≤_, _<_}
 use native.Mathlib.Omega.{arith}
 use mathlib.Core.Path.{_≡_, refl, sym, ap, subst, _∙_}

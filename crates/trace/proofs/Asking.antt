@@ -1,4 +1,4 @@
--- The first No of the questions: of a call, of a header and of a row's record. Assumes nothing.
+-- The first No of the questions: of a call, of a header and of a row's record.
 use Prim.Native.Nat.{ℕ, suc, _*_, _^_, _≤_, _<_}
 use native.Mathlib.Nat.{le-of-lt, lt-of-le-of-lt, mul-le-mul-left, mul-lt-mul-of-pos-right}
 use native.Mathlib.Omega.{arith}

@@ -1,4 +1,4 @@
--- Some of the first rows of a slice, and the messages among them. Assumes nothing.
+-- Some of the first rows of a slice, and the messages among them.
 use Prim.Native.Nat.{ℕ, suc, _+_, _*_, _-_, _≤_, _<_}
 use native.Mathlib.Nat.{sub-zero}
 use native.Mathlib.Omega.{arith}

@@ -1,4 +1,4 @@
--- Reading row after row: what is known after some rows, and how it goes on. Assumes nothing.
+-- Reading row after row: what is known after some rows, and how it goes on.
 use Prim.Native.Nat.{ℕ, zero, suc, _+_, _*_, _≤_, _<_}
 use native.Mathlib.Omega.{arith}
 use mathlib.Core.Path.{_≡_, refl, sym, ap, ap₂, _∙_}

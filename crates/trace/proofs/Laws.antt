@@ -1,4 +1,4 @@
--- Laws of reading a trace, for whoever builds on it. Assumes nothing.
+-- Laws of reading a trace, for whoever builds on it.
 use Prim.Native.Nat.{ℕ, zero, suc, _+_, _*_, _-_, _≤_, _<_}
 use native.Mathlib.Omega.{arith}
 use mathlib.Core.Path.{_≡_, refl, sym, ap, subst, _∙_}

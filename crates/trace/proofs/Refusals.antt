@@ -1,4 +1,4 @@
--- The number and the place of a refusal are small. Assumes nothing.
+-- The number and the place of a refusal are small.
 use Prim.Native.Nat.{ℕ, _+_, _≤_}
 use native.Mathlib.Omega.{arith}
 use mathlib.Core.Path.{_≡_, refl, subst}

@@ -1,4 +1,4 @@
--- A slice with six numbers a row: one row laid down, one row tested; and a slice that is cleared. Assumes nothing.
+-- A slice with six numbers a row: one row laid down, one row tested; and a slice that is cleared.
 use Prim.Native.Nat.{ℕ, _+_, _≤_}
 use native.Mathlib.Nat.{add-zero}
 use native.Mathlib.Numerals.{add-one, add-two, add-three, add-four, add-five}

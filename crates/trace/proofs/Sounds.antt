@@ -1,4 +1,4 @@
--- Each row of an accepted trace is well formed. Assumes nothing.
+-- Each row of an accepted trace is well formed.
 use Prim.Native.Nat.{ℕ, _<_}
 use native.Mathlib.Omega.{arith}
 use native.Mathlib.Decide.{decLt}

@@ -1,4 +1,4 @@
--- The whole call: the header, the questions 1 to 3, and what is left in the lent slices. Assumes nothing.
+-- The whole call: the header, the questions 1 to 3, and what is left in the lent slices.
 use Prim.Native.Nat.{ℕ, suc, _+_, _*_, _-_, _≤_, _<_}
 use native.Mathlib.Omega.{arith}
 use mathlib.Core.Path.{_≡_, refl, sym, ap, _∙_}

@@ -1,4 +1,4 @@
--- The questions 8 to 11, put to the fields of a record. Assumes nothing.
+-- The questions 8 to 11, put to the fields of a record.
 use Prim.Native.Nat.{ℕ, _+_, _-_, _≤_, _<_}
 use native.Mathlib.Omega.{arith}
 use mathlib.Core.Path.{_≡_, refl, sym, ap, _∙_}

@@ -1,4 +1,4 @@
--- Numbers: their first byte, their digits one by one, and that quotes change nothing. Assumes nothing.
+-- Numbers: their first byte, their digits one by one, and that quotes change nothing.
 use Prim.Native.Nat.{ℕ, _+_, _*_, _-_, _≤_, _<_}
 use native.Mathlib.Omega.{arith}
 use native.Mathlib.Numerals.{add-one}

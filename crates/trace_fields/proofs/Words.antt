@@ -1,4 +1,4 @@
--- Kinds by their words, and the fields that a kind uses. Assumes nothing.
+-- Kinds by their words, and the fields that a kind uses.
 use Prim.Native.Nat.{ℕ, _+_, _-_, _≤_, _<_}
 use native.Mathlib.Omega.{arith}
 use mathlib.Core.Path.{_≡_, sym, ap, _∙_}

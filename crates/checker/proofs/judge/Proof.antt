@@ -1,4 +1,4 @@
--- `checker::judge` meets its contract. Assumes nothing.
+-- `checker::judge` meets its contract.
 use borrow.Author.Needs.{needs}
 use denote.Ref.{now}
 use Rattle.checker.proofs.Verdicts.{decides-refused, decides}

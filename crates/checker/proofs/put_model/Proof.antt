@@ -1,4 +1,4 @@
--- `checker::put_model` meets its contract. Assumes nothing.
+-- `checker::put_model` meets its contract.
 use borrow.Author.Needs.{needs}
 use denote.Ref.{now}
 use lib.ListN.{length}

@@ -1,4 +1,4 @@
--- `checker::put_models` meets its contract. Assumes nothing.
+-- `checker::put_models` meets its contract.
 use borrow.Author.Needs.{needs}
 use mathlib.Core.Path.{_∙_}
 use denote.Ref.{now}

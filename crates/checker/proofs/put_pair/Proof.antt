@@ -1,4 +1,4 @@
--- `checker::put_pair` meets its contract. Assumes nothing.
+-- `checker::put_pair` meets its contract.
 use borrow.Author.Needs.{needs}
 use denote.Ref.{now}
 use Rattle.checker.proofs.Lines.{pair-laid}

@@ -1,4 +1,4 @@
--- `checker::report` meets its contract. Assumes nothing.
+-- `checker::report` meets its contract.
 use borrow.Author.Needs.{needs}
 use mathlib.Core.Path.{refl}
 use lib.ListN.{replicate}

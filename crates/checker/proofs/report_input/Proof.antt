@@ -1,4 +1,4 @@
--- `checker::report_input` meets its contract. Assumes nothing.
+-- `checker::report_input` meets its contract.
 use borrow.Author.Needs.{needs}
 use denote.Ref.{now}
 use Rattle.checker.proofs.Input.{part-length, whole-report}

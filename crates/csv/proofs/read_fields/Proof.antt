@@ -1,4 +1,4 @@
--- `csv::read_fields` meets its contract. Assumes nothing.
+-- `csv::read_fields` meets its contract.
 use borrow.Author.Needs.{needs}
 use Rattle.csv.specs.Reading.{firstSix}
 use native.Mathlib.Omega.{arith}

@@ -1,4 +1,4 @@
--- `csv::read_record` meets its contract. Assumes nothing.
+-- `csv::read_record` meets its contract.
 use borrow.Author.Needs.{needs}
 use Rattle.csv.proofs.Limit.{read-past, read-cut, read-whole}
 use Rattle.csv.specs.Reading.{recordIn, readingOf}

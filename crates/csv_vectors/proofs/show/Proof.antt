@@ -1,4 +1,4 @@
--- `csv_vectors::show` is safe and ends. Assumes nothing.
+-- `csv_vectors::show` is safe and ends.
 use borrow.Author.Needs.{needs}
 use Prim.Native.Nat.{_-_, _≤_}
 use Rattle.csv_vectors.proofs.show.Statement.{statement}

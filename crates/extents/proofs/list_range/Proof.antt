@@ -1,4 +1,4 @@
--- `extents::list_range` meets its contract. Assumes nothing.
+-- `extents::list_range` meets its contract.
 use borrow.Author.Needs.{needs}
 use Rattle.extents.proofs.Entering.{refused, list-unlawful}
 use Rattle.extents_meaning.specs.Maps.{listedIn, bytesOf}

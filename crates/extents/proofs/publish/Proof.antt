@@ -1,4 +1,4 @@
--- `extents::publish` meets its contract. Assumes nothing.
+-- `extents::publish` meets its contract.
 use borrow.Author.Needs.{needs}
 use Rattle.extents.proofs.Doubles.{publish-unlawful}
 use Rattle.extents.specs.Entries.{publishedMaps}

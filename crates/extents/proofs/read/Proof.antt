@@ -1,4 +1,4 @@
--- `extents::read` meets its contract. Assumes nothing.
+-- `extents::read` meets its contract.
 use borrow.Author.Needs.{needs}
 use Rattle.extents.proofs.Doubles.{refused-both, read-unlawful}
 use Rattle.extents_meaning.specs.Maps.{listedIn}

@@ -1,4 +1,4 @@
--- `extents::refresh` meets its contract. Assumes nothing.
+-- `extents::refresh` meets its contract.
 use borrow.Author.Needs.{needs}
 use Rattle.extents.proofs.Doubles.{refresh-unlawful}
 use Rattle.extents.specs.Entries.{refreshedMaps}

@@ -1,4 +1,4 @@
--- `extents::sync` meets its contract. Assumes nothing.
+-- `extents::sync` meets its contract.
 use borrow.Author.Needs.{needs}
 use Rattle.extents.proofs.Doubles.{sync-unlawful}
 use Rattle.extents.specs.Entries.{syncedMaps}

@@ -1,4 +1,4 @@
--- `extents::write` meets its contract. Assumes nothing.
+-- `extents::write` meets its contract.
 use borrow.Author.Needs.{needs}
 use Rattle.extents.proofs.Entering.{refused, write-unlawful}
 use Rattle.extents.specs.Entries.{writtenMap}

@@ -1,4 +1,4 @@
--- `happens_before::add_own` meets its contract. Assumes nothing.
+-- `happens_before::add_own` meets its contract.
 use borrow.Author.Needs.{needs}
 use Rattle.happens_before.proofs.Joins.{own-in}
 use denote.Ref.{now}

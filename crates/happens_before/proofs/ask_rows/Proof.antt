@@ -1,4 +1,4 @@
--- `happens_before::ask_rows` meets its contract. Assumes nothing.
+-- `happens_before::ask_rows` meets its contract.
 use borrow.Author.Needs.{needs}
 use borrow.Author.Tests.{leb-true}
 use lib.Dec.{leb}

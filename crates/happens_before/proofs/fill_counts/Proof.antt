@@ -1,4 +1,4 @@
--- `happens_before::fill_counts` meets its contract. Assumes nothing.
+-- `happens_before::fill_counts` meets its contract.
 use borrow.Author.Needs.{needs}
 use Prim.Native.Nat.{ℕ, _+_, _*_, _-_, _≤_}
 use mathlib.Core.Path.{_≡_, refl, sym, ap, _∙_}

@@ -1,4 +1,4 @@
--- `happens_before::fill_row` meets its contract. Assumes nothing.
+-- `happens_before::fill_row` meets its contract.
 use borrow.Author.Needs.{needs}
 use Rattle.happens_before.proofs.Joins.{process-in, last-low, joined-most, row-filled}
 use mathlib.Core.Path.{_∙_}

@@ -1,4 +1,4 @@
--- `happens_before::join` meets its contract. Assumes nothing.
+-- `happens_before::join` meets its contract.
 use borrow.Author.Needs.{needs}
 use Rattle.happens_before.specs.Clock.{joinedRow}
 use Rattle.happens_before.proofs.Cells.{put, put-none}

@@ -1,4 +1,4 @@
--- `happens_before::join_last` meets its contract. Assumes nothing.
+-- `happens_before::join_last` meets its contract.
 use borrow.Author.Needs.{needs}
 use Rattle.happens_before.proofs.Joins.{last-some, last-none}
 use mathlib.Core.Path.{_∙_}

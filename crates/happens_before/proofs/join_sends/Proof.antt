@@ -1,4 +1,4 @@
--- `happens_before::join_sends` meets its contract. Assumes nothing.
+-- `happens_before::join_sends` meets its contract.
 use borrow.Author.Needs.{needs}
 use Rattle.happens_before.specs.Clock.{withRow}
 use Rattle.happens_before.proofs.Joins.{sent, sends-first, sends-none, sends-skip, sends-join}

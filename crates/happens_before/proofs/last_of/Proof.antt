@@ -1,4 +1,4 @@
--- `happens_before::last_of` meets its contract. Assumes nothing.
+-- `happens_before::last_of` meets its contract.
 use borrow.Author.Needs.{needs}
 use Rattle.happens_before.specs.Clock.{lastOf}
 use Rattle.rows.specs.Rows.{rowIn}

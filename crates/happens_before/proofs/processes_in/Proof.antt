@@ -1,4 +1,4 @@
--- `happens_before::processes_in` meets its contract. Assumes nothing.
+-- `happens_before::processes_in` meets its contract.
 use borrow.Author.Needs.{needs}
 use Rattle.happens_before.specs.Filling.{processesIn}
 use Rattle.happens_before.proofs.Asking.{processes-none, processes-out, processes-before}

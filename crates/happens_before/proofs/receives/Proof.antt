@@ -1,4 +1,4 @@
--- `happens_before::receives` meets its contract. Assumes nothing.
+-- `happens_before::receives` meets its contract.
 use borrow.Author.Needs.{needs}
 use Rattle.happens_before.proofs.Joins.{no-send, no-recv, by-message}
 use denote.Ref.{now}

@@ -1,4 +1,4 @@
--- `happens_before::slices_fit` meets its contract. Assumes nothing.
+-- `happens_before::slices_fit` meets its contract.
 use borrow.Author.Needs.{needs}
 use borrow.Author.Tests.{le-leb, lt-leb}
 use Prim.Native.Nat.{_*_, _≤_, _<_}

@@ -1,4 +1,4 @@
--- `kiqsaryn::kiqsaryn_check_trace` meets its contract. Assumes nothing.
+-- `kiqsaryn::kiqsaryn_check_trace` meets its contract.
 use borrow.Author.Needs.{needs}
 use Rattle.kiqsaryn.proofs.Packs.{packs}
 use Rattle.kiqsaryn.proofs.kiqsaryn_check_trace.Statement.{statement}

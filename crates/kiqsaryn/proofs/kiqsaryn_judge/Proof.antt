@@ -1,4 +1,4 @@
--- `kiqsaryn::kiqsaryn_judge` meets its contract. Assumes nothing.
+-- `kiqsaryn::kiqsaryn_judge` meets its contract.
 use borrow.Author.Needs.{needs}
 use native.Mathlib.Omega.{arith}
 use denote.Ref.{now}

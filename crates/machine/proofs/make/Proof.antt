@@ -1,4 +1,4 @@
--- `machine::make` meets its contract. Assumes nothing.
+-- `machine::make` meets its contract.
 use borrow.Author.Needs.{needs}
 use native.Mathlib.Omega.{arith}
 use Prim.Native.Nat.{_+_, _*_, _≤_}

@@ -1,4 +1,4 @@
--- `machine::make_plain` meets its contract. Assumes nothing.
+-- `machine::make_plain` meets its contract.
 use borrow.Author.Needs.{needs}
 use native.Mathlib.Omega.{arith}
 use Prim.Native.Nat.{_*_, _≤_}

@@ -1,4 +1,4 @@
--- `machine::replay_plain` meets its contract. Assumes nothing.
+-- `machine::replay_plain` meets its contract.
 use borrow.Author.Needs.{needs}
 use native.Mathlib.Omega.{arith}
 use Prim.Native.Nat.{_-_}

@@ -1,4 +1,4 @@
--- `machine_layered::advance` meets its contract. Assumes nothing.
+-- `machine_layered::advance` meets its contract.
 use borrow.Author.Needs.{needs}
 use Rattle.machine_layered.proofs.Laying.{asked-step}
 use denote.Ref.{now}

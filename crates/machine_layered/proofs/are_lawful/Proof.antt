@@ -1,4 +1,4 @@
--- `machine_layered::are_lawful` meets its contract. Assumes nothing.
+-- `machine_layered::are_lawful` meets its contract.
 use borrow.Author.Needs.{needs}
 use Rattle.machine_state.proofs.Maps.{all-none, all-more, all-not}
 use Rattle.machine_layered.proofs.Laying.{lent-lawful, next-in}

@@ -1,4 +1,4 @@
--- `machine_layered::is_state` meets its contract. Assumes nothing.
+-- `machine_layered::is_state` meets its contract.
 use borrow.Author.Needs.{needs}
 use Rattle.machine_layered.proofs.Laying.{limit-fits, no-model, no-limit, no-file, no-slice, no-first, by-views}
 use Prim.Native.Nat.{_*_}

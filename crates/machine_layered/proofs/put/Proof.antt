@@ -1,4 +1,4 @@
--- `machine_layered::put` meets its contract. Assumes nothing.
+-- `machine_layered::put` meets its contract.
 use borrow.Author.Needs.{needs}
 use Rattle.machine_state.proofs.Answering.{put-other, put-own}
 use denote.Ref.{now}

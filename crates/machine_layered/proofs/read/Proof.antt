@@ -1,4 +1,4 @@
--- `machine_layered::read` meets its contract. Assumes nothing.
+-- `machine_layered::read` meets its contract.
 use borrow.Author.Needs.{needs}
 use Rattle.machine_layered.proofs.Laying.{ready-room, ready-two, ready-own, read-fresh, read-own}
 use denote.Ref.{now}

@@ -1,4 +1,4 @@
--- `machine_layered::share` meets its contract. Assumes nothing.
+-- `machine_layered::share` meets its contract.
 use borrow.Author.Needs.{needs}
 use Rattle.machine_layered.proofs.Laying.{ready-two, share-both, share-publish, share-refresh, share-none}
 use mathlib.Core.Path.{sym, _∙_}

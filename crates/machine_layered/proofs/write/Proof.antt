@@ -1,6 +1,6 @@
--- `machine_layered::write` meets its contract. Assumes nothing.
+-- `machine_layered::write` meets its contract.
 use borrow.Author.Needs.{needs}
-use Rattle.machine_layered.proofs.Laying.{ready-two, ready-own, ready-room, write-post, write-own}
+use Rattle.machine_layered.proofs.Laying.{ready-two, ready-own, ready-room, write-write-through, write-own}
 use native.Mathlib.Omega.{arith}
 use mathlib.Core.Path.{sym, _∙_}
 use Rattle.machine_layered.proofs.write.Statement.{statement}
@@ -18,8 +18,8 @@ add-view c = search needs
 is-publish-requires : tie.Need-is-publish-requires
 is-publish-requires c κs = tt
 
-post-requires : tie.Need-post-requires
-post-requires c κs = ready-two (c .before .before .before .before .before .before .pre .0)
+write-through-requires : tie.Need-write-through-requires
+write-through-requires c κs = ready-two (c .before .before .before .before .before .before .pre .0)
 
 same-length : tie.Need-same-length
 same-length c = search needs
@@ -31,8 +31,8 @@ returns c =
     let p5 = p4 .before in
     let p9 = p5 .before .before .before .before in
     let p = p9 .pre in
-    let e = p2 .post .ensures in
-    write-post (p .0) (p .1) (sym (p5 .is-publish .ensures) ∙ p4 .if1 .taken) (e .0) (e .1)
+    let e = p2 .write-through .ensures in
+    write-write-through (p .0) (p .1) (sym (p5 .is-publish .ensures) ∙ p4 .if1 .taken) (e .0) (e .1)
 
 mul-size : tie.Need-mul-size
 mul-size c = search needs
@@ -87,7 +87,7 @@ write-spec =
     cast-view
     add-view
     is-publish-requires
-    post-requires
+    write-through-requires
     same-length
     returns
     mul-size

@@ -1,4 +1,4 @@
--- `machine_plain::is_plain` meets its contract. Assumes nothing.
+-- `machine_plain::is_plain` meets its contract.
 use borrow.Author.Needs.{needs}
 use native.Mathlib.Omega.{arith}
 use lib.Seq.{length-take-le}

@@ -1,4 +1,4 @@
--- `machine_plain::put` meets its contract. Assumes nothing.
+-- `machine_plain::put` meets its contract.
 use borrow.Author.Needs.{needs}
 use mathlib.Core.Path.{sym, _∙_}
 use borrow.Author.Tests.{not-true, not-false}

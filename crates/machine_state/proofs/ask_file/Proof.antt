@@ -1,4 +1,4 @@
--- `machine_state::ask_file` meets its contract. Assumes nothing.
+-- `machine_state::ask_file` meets its contract.
 use Rattle.machine_state.specs.Answers.{headerOf}
 use Rattle.machine_state.proofs.Questions.{file-other, number-low, number-high, process-past, file-asked}
 use Rattle.machine_state.proofs.ask_file.Statement.{statement}

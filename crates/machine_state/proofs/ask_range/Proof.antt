@@ -1,4 +1,4 @@
--- `machine_state::ask_range` meets its contract. Assumes nothing.
+-- `machine_state::ask_range` meets its contract.
 use borrow.Author.Needs.{needs}
 use native.Mathlib.Omega.{arith}
 use mathlib.Core.Path.{sym, _∙_}

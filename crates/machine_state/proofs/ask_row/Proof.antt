@@ -1,4 +1,4 @@
--- `machine_state::ask_row` meets its contract. Assumes nothing.
+-- `machine_state::ask_row` meets its contract.
 use native.Mathlib.Omega.{arith}
 use mathlib.Core.Path.{_∙_}
 use Rattle.machine_state.specs.Answers.{headerOf}

@@ -1,4 +1,4 @@
--- `machine_state::is_of` meets its contract. Assumes nothing.
+-- `machine_state::is_of` meets its contract.
 use Rattle.machine_state.proofs.Questions.{kind-past, kind-in}
 use Rattle.machine_state.proofs.is_of.Statement.{statement}
 use Rattle.machine_state.proofs.is_of.Tie as tie

@@ -1,4 +1,4 @@
--- `machine_state::is_process_limit` meets its contract. Assumes nothing.
+-- `machine_state::is_process_limit` meets its contract.
 use Rattle.machine_state.proofs.Questions.{limit-low, limit-high}
 use Rattle.machine_state.proofs.is_process_limit.Statement.{statement}
 use Rattle.machine_state.proofs.is_process_limit.Tie as tie

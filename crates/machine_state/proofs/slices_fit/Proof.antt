@@ -1,4 +1,4 @@
--- `machine_state::slices_fit` meets its contract. Assumes nothing.
+-- `machine_state::slices_fit` meets its contract.
 use Rattle.machine_state.proofs.Questions.{rows-short, rows-long}
 use Rattle.machine_state.proofs.slices_fit.Statement.{statement}
 use Rattle.machine_state.proofs.slices_fit.Tie as tie

@@ -1,4 +1,4 @@
--- `models::is_publish` meets its contract. Assumes nothing.
+-- `models::is_publish` meets its contract.
 use Rattle.models.proofs.Marks.{publish-mark, both-mark}
 use borrow.Author.Needs.{needs}
 use Rattle.models.proofs.is_publish.Statement.{statement}

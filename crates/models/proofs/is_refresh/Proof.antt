@@ -1,4 +1,4 @@
--- `models::is_refresh` meets its contract. Assumes nothing.
+-- `models::is_refresh` meets its contract.
 use Rattle.models.proofs.Marks.{refresh-mark}
 use borrow.Author.Needs.{needs}
 use Rattle.models.proofs.is_refresh.Statement.{statement}

@@ -1,4 +1,4 @@
--- `models::mark` meets its contract. Assumes nothing.
+-- `models::mark` meets its contract.
 use mathlib.Core.Path.{sym}
 use Rattle.models.proofs.Marks.{no-model, no-kind, table-right}
 use borrow.Author.Needs.{needs}

@@ -1,4 +1,4 @@
--- `print::put` meets its contract. Assumes nothing.
+-- `print::put` meets its contract.
 use borrow.Author.Needs.{needs}
 use Rattle.print.proofs.Laying.{put-none, Copying, copy-start, copy-length, copy-next, copy-done}
 use Prim.Native.Nat.{_-_}

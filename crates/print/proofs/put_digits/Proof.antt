@@ -1,4 +1,4 @@
--- `print::put_digits` meets its contract. Assumes nothing.
+-- `print::put_digits` meets its contract.
 use borrow.Author.Needs.{needs}
 use Rattle.print.proofs.Laying.{Spelling, spell-start, spell-next, spell-done}
 use denote.Ref.{now}

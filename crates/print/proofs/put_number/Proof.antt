@@ -1,4 +1,4 @@
--- `print::put_number` meets its contract. Assumes nothing.
+-- `print::put_number` meets its contract.
 use borrow.Author.Needs.{needs}
 use Rattle.print.proofs.Laying.{put-none, number-length, number-put}
 use Rattle.print.specs.Decimal.{decimalOf}

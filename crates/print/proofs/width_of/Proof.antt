@@ -1,4 +1,4 @@
--- `print::width_of` meets its contract. Assumes nothing.
+-- `print::width_of` meets its contract.
 use Prim.Native.Nat.{_-_}
 use native.Mathlib.Omega.{arith}
 use Rattle.print.proofs.Widths.{Going, start, again, stop}

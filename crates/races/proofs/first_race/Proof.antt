@@ -1,4 +1,4 @@
--- `races::first_race` meets its contract. Assumes nothing.
+-- `races::first_race` meets its contract.
 use borrow.Author.Needs.{needs}
 use Prim.Native.Nat.{ℕ, _-_, _≤_, _<_}
 use native.Mathlib.Omega.{arith}

@@ -1,4 +1,4 @@
--- `races::is_conflict` meets its contract. Assumes nothing.
+-- `races::is_conflict` meets its contract.
 use borrow.Author.Needs.{needs}
 use Rattle.races.proofs.Cells.{no-first, no-second, no-file, no-share, no-process, first-writes, by-second}
 use borrow.Author.Tests.{not-true, not-false}

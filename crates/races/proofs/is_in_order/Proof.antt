@@ -1,4 +1,4 @@
--- `races::is_in_order` meets its contract. Assumes nothing.
+-- `races::is_in_order` meets its contract.
 use borrow.Author.Needs.{needs}
 use native.Mathlib.Omega.{arith}
 use Prim.Native.Nat.{_-_, _<_}

@@ -1,4 +1,4 @@
--- `races::is_noted` meets its contract. Assumes nothing.
+-- `races::is_noted` meets its contract.
 use borrow.Author.Needs.{needs}
 use borrow.Author.Tests.{not-true, not-false}
 use native.Mathlib.Omega.{arith}

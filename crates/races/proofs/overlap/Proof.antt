@@ -1,4 +1,4 @@
--- `races::overlap` meets its contract. Assumes nothing.
+-- `races::overlap` meets its contract.
 use borrow.Author.Needs.{needs}
 use lib.Dec.{ltb}
 use Rattle.races.proofs.overlap.Statement.{statement}

@@ -1,4 +1,4 @@
--- `races::race_at` meets its contract. Assumes nothing.
+-- `races::race_at` meets its contract.
 use borrow.Author.Needs.{needs}
 use borrow.Author.Tests.{not-true, not-false}
 use native.Mathlib.Omega.{arith}

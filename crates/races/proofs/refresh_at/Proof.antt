@@ -1,4 +1,4 @@
--- `races::refresh_at` meets its contract. Assumes nothing.
+-- `races::refresh_at` meets its contract.
 use borrow.Author.Needs.{needs}
 use Rattle.rows.specs.Counting.{lastBelow}
 use Rattle.races.proofs.Cells.{last-none, refreshing, refresh-here, refresh-before, refresh-own, refresh-earlier}

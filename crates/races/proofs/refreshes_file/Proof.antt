@@ -1,4 +1,4 @@
--- `races::refreshes_file` meets its contract. Assumes nothing.
+-- `races::refreshes_file` meets its contract.
 use borrow.Author.Needs.{needs}
 use mathlib.Core.Path.{sym, _∙_}
 use borrow.Author.Tests.{eq-eqb, ne-eqb, not-true, not-false}

@@ -1,4 +1,4 @@
--- `races::verdict` meets its contract. Assumes nothing.
+-- `races::verdict` meets its contract.
 use borrow.Author.Needs.{needs}
 use native.Mathlib.Omega.{arith}
 use denote.Ref.{now}

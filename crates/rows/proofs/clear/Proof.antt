@@ -1,4 +1,4 @@
--- `rows::clear` meets its contract. Assumes nothing.
+-- `rows::clear` meets its contract.
 use borrow.Author.Needs.{needs}
 use Rattle.rows.proofs.Zeros.{cleared}
 use borrow.Author.Fill.{fill-none, fill-more}

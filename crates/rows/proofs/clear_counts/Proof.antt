@@ -1,4 +1,4 @@
--- `rows::clear_counts` meets its contract. Assumes nothing.
+-- `rows::clear_counts` meets its contract.
 use borrow.Author.Needs.{needs}
 use Rattle.rows.proofs.Zeros.{cleared}
 use borrow.Author.Fill.{fill-none, fill-more}

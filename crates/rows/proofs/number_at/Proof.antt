@@ -1,4 +1,4 @@
--- `rows::number_at` meets its contract. Assumes nothing.
+-- `rows::number_at` meets its contract.
 use borrow.Author.Needs.{needs}
 use mathlib.Core.Path.{sym}
 use denote.Ref.{now}

@@ -1,4 +1,4 @@
--- `rows::put_row` meets its contract. Assumes nothing.
+-- `rows::put_row` meets its contract.
 use borrow.Author.Needs.{needs}
 use native.Mathlib.Omega.{arith}
 use denote.Ref.{now}

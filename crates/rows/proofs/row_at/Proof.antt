@@ -1,4 +1,4 @@
--- `rows::row_at` meets its contract. Assumes nothing.
+-- `rows::row_at` meets its contract.
 use borrow.Author.Needs.{needs}
 use mathlib.Core.Path.{_∙_}
 use denote.Ref.{now}

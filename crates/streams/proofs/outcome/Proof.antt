@@ -1,4 +1,4 @@
--- `streams::outcome` meets its contract. Assumes nothing.
+-- `streams::outcome` meets its contract.
 use borrow.Author.Needs.{needs}
 use mathlib.Core.Path.{sym, _∙_}
 use Rattle.streams.proofs.Outcomes.{interrupted, other, erred, ended, counted, took}

@@ -1,4 +1,4 @@
--- `streams::read_all` meets its contract. The loop's invariant: the bytes read so far lie within the buffer, whose length stays. Assumes nothing.
+-- `streams::read_all` meets its contract. The loop's invariant: the bytes read so far lie within the buffer, whose length stays.
 use Prim.Native.Nat.{_≤_, _+_, _-_}
 use native.Mathlib.Omega.{arith}
 use mathlib.Core.Path.{_≡_, sym, _∙_}

@@ -1,4 +1,4 @@
--- `streams::write_all` meets its contract. The loop's invariant: the bytes written so far are no more than there are. Assumes nothing.
+-- `streams::write_all` meets its contract. The loop's invariant: the bytes written so far are no more than there are.
 use Prim.Native.Nat.{_≤_, _+_, _-_}
 use native.Mathlib.Omega.{arith}
 use mathlib.Core.Path.{_≡_, sym, _∙_}

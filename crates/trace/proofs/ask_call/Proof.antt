@@ -1,4 +1,4 @@
--- `trace::ask_call` meets its contract. Assumes nothing.
+-- `trace::ask_call` meets its contract.
 use borrow.Author.Needs.{needs}
 use Rattle.trace.proofs.Asking.{few-rows, few-counts, bad-model, no-rows, many-rows, no-processes, many-processes, bad-header, all-asked}
 use Rattle.rows.proofs.Products.{product}

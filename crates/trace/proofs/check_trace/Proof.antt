@@ -1,4 +1,4 @@
--- `trace::check_trace` meets its contract. Assumes nothing.
+-- `trace::check_trace` meets its contract.
 use borrow.Author.Needs.{needs}
 use Rattle.trace.proofs.Whole.{call-passed, call-refused, first-three, accepted-told, refused-told, leaves-all, leaves-none, leaves-rows, rows-in}
 use Rattle.trace.proofs.Laws.{legal, refused-from-four}

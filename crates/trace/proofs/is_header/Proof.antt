@@ -1,4 +1,4 @@
--- `trace::is_header` meets its contract. Assumes nothing.
+-- `trace::is_header` meets its contract.
 use borrow.Author.Needs.{needs}
 use denote.Ref.{now}
 use Rattle.trace.proofs.Asking.{Named, not-six, none-named, named, other-name, last-name}

@@ -1,4 +1,4 @@
--- `trace::read_trace` meets its contract. Assumes nothing.
+-- `trace::read_trace` meets its contract.
 use borrow.Author.Needs.{needs}
 use Rattle.trace.proofs.Whole.{no-header, header-missing, header-malformed, header-over, header-record, headed-same}
 use Rattle.trace.proofs.Going.{refusal}

@@ -1,4 +1,4 @@
--- `trace_fields::as_used` meets its contract. Assumes nothing.
+-- `trace_fields::as_used` meets its contract.
 use borrow.Author.Needs.{needs}
 use Rattle.csv.specs.Reading.{contentOf}
 use Rattle.trace_fields.proofs.Words.{filled-used, empty-unused}

@@ -1,4 +1,4 @@
--- `trace_fields::digits` meets its contract. Assumes nothing.
+-- `trace_fields::digits` meets its contract.
 use borrow.Author.Needs.{needs}
 use Rattle.trace_fields.specs.Rows.{numberBelow}
 use Rattle.rows.proofs.Bools.{refused, passed}

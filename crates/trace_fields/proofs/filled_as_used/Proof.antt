@@ -1,4 +1,4 @@
--- `trace_fields::filled_as_used` meets its contract. Assumes nothing.
+-- `trace_fields::filled_as_used` meets its contract.
 use borrow.Author.Needs.{needs}
 use Rattle.trace_fields.proofs.Judging.{fills-not-process, fills-not-file, fills-not-offset, fills-not-length, fills-message}
 use Rattle.rows.proofs.Bools.{refused, passed}

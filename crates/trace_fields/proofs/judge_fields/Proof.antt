@@ -1,4 +1,4 @@
--- `trace_fields::judge_fields` meets its contract. Assumes nothing.
+-- `trace_fields::judge_fields` meets its contract.
 use borrow.Author.Needs.{needs}
 use Rattle.trace_fields.proofs.Judging.{Known, Filled, Numbered, no-kind, no-filled, no-end, kept, no-process, no-file, no-offset, no-length, no-message}
 use Rattle.rows.proofs.Bools.{refused, passed}

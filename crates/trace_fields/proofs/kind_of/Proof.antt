@@ -1,4 +1,4 @@
--- `trace_fields::kind_of` meets its contract. Assumes nothing.
+-- `trace_fields::kind_of` meets its contract.
 use borrow.Author.Needs.{needs}
 use Rattle.csv.specs.Reading.{contentOf}
 use Rattle.trace_fields.specs.Rows.{kindWords}

@@ -1,4 +1,4 @@
--- `trace_fields::number_in` meets its contract. Assumes nothing.
+-- `trace_fields::number_in` meets its contract.
 use borrow.Author.Needs.{needs}
 use borrow.Author.Tests.{not-true, not-false}
 use Rattle.csv.specs.Reading.{contentOf}

@@ -1,4 +1,4 @@
--- `trace_fields::starts_plain` meets its contract. Assumes nothing.
+-- `trace_fields::starts_plain` meets its contract.
 use borrow.Author.Needs.{needs}
 use Rattle.trace_fields.proofs.Numbers.{plain-none, plain-one, plain-more}
 use denote.Ref.{now}

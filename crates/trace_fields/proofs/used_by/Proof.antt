@@ -1,4 +1,4 @@
--- `trace_fields::used_by` meets its contract. Assumes nothing.
+-- `trace_fields::used_by` meets its contract.
 use Rattle.trace_fields.proofs.Words.{used-range, used-file, used-message, used-nothing}
 use Rattle.trace_fields.proofs.used_by.Statement.{statement}
 use Rattle.trace_fields.proofs.used_by.Tie as tie

@@ -1,4 +1,4 @@
--- `csv::content::is_empty` meets its contract. Assumes nothing.
+-- `csv::content::is_empty` meets its contract.
 use borrow.Author.Needs.{needs}
 use Rattle.csv.proofs.Contents.{nil-content}
 use denote.Ref.{now}

@@ -1,4 +1,4 @@
--- `csv::content::is_second` meets its contract. Assumes nothing.
+-- `csv::content::is_second` meets its contract.
 use borrow.Author.Tests.{eq-eqb, ne-eqb}
 use mathlib.Core.Path.{sym, refl}
 use Rattle.csv.proofs.content.is_second.Statement.{statement}

@@ -1,4 +1,4 @@
--- `csv::content::is_word` meets its contract. Assumes nothing.
+-- `csv::content::is_word` meets its contract.
 use borrow.Author.Needs.{needs}
 use Rattle.csv.proofs.Contents.{content-doubled, content-plain}
 use Rattle.csv.specs.Reading.{sameBytes}

@@ -1,4 +1,4 @@
--- `csv::content::raw` meets its contract. Assumes nothing.
+-- `csv::content::raw` meets its contract.
 use borrow.Author.Needs.{needs}
 use Rattle.csv.proofs.Contents.{raw-none, raw-rest, raw-part}
 use denote.Ref.{now}

@@ -1,4 +1,4 @@
--- `csv::content::same` meets its contract. Assumes nothing.
+-- `csv::content::same` meets its contract.
 use borrow.Author.Needs.{needs}
 use Rattle.csv.proofs.Contents.{other-length, same-on, same-off, same-ended}
 use Rattle.csv.specs.Reading.{sameBytes}

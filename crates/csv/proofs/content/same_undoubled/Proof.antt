@@ -1,4 +1,4 @@
--- `csv::content::same_undoubled` meets its contract. Assumes nothing.
+-- `csv::content::same_undoubled` meets its contract.
 use borrow.Author.Needs.{needs}
 use Rattle.csv.proofs.Contents.{same-short, same-cons, same-differ, same-nothing, undouble-skip, undouble-keep, undouble-end}
 use Rattle.csv.specs.Reading.{sameBytes, undouble}

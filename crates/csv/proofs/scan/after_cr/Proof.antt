@@ -1,4 +1,4 @@
--- `csv::scan::after_cr` meets its contract. Assumes nothing.
+-- `csv::scan::after_cr` meets its contract.
 use borrow.Author.Needs.{needs}
 use Rattle.csv.specs.declared.scan.Stop.the-variants.{Bad, Cut}
 use Rattle.csv.proofs.Steps.{cr-lf, cr-bad, cr-end}

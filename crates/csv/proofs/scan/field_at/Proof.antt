@@ -1,4 +1,4 @@
--- `csv::scan::field_at` meets its contract. Assumes nothing.
+-- `csv::scan::field_at` meets its contract.
 use borrow.Author.Needs.{needs}
 use Rattle.csv.proofs.Cells.{field-quoted, field-bare}
 use Rattle.csv.proofs.Places.{quote-in}

@@ -1,4 +1,4 @@
--- `csv::scan::find_quote` meets its contract. Assumes nothing.
+-- `csv::scan::find_quote` meets its contract.
 use borrow.Author.Needs.{needs}
 use Rattle.csv.specs.Reading.{quotes}
 use native.Mathlib.Nat.{sub-self}

@@ -1,4 +1,4 @@
--- `csv::scan::is_quoted` meets its contract. Assumes nothing.
+-- `csv::scan::is_quoted` meets its contract.
 use borrow.Author.Needs.{needs}
 use Rattle.csv.proofs.Bytes.{quoted-also, quoted-text}
 use mathlib.Core.Path.{sym, _∙_}

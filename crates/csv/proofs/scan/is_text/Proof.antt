@@ -1,4 +1,4 @@
--- `csv::scan::is_text` meets its contract. Assumes nothing.
+-- `csv::scan::is_text` meets its contract.
 use Rattle.csv.proofs.Bytes.{text-iff, not-text, text-bounds, bounds-text}
 use native.Mathlib.Omega.{arith}
 use mathlib.Core.Path.{sym}

@@ -1,4 +1,4 @@
--- `csv::scan::quote_at` meets its contract. Assumes nothing.
+-- `csv::scan::quote_at` meets its contract.
 use borrow.Author.Needs.{needs}
 use denote.Ref.{now}
 use lib.ListN.{List·getD-eq-default}

@@ -1,4 +1,4 @@
--- `csv::scan::quoted_field` meets its contract. Assumes nothing.
+-- `csv::scan::quoted_field` meets its contract.
 use borrow.Author.Needs.{needs}
 use Rattle.csv.proofs.Cells.{quoted-broken, quoted-open, quoted-closed}
 use Rattle.csv.proofs.Runs.{closed-in}

@@ -1,4 +1,4 @@
--- `csv::scan::skip_text` meets its contract. Assumes nothing.
+-- `csv::scan::skip_text` meets its contract.
 use borrow.Author.Needs.{needs}
 use Rattle.csv.specs.Reading.{run}
 use lib.ListN.{length, drop}

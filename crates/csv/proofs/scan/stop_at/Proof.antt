@@ -1,4 +1,4 @@
--- `csv::scan::stop_at` meets its contract. Assumes nothing.
+-- `csv::scan::stop_at` meets its contract.
 use borrow.Author.Needs.{needs}
 use Rattle.csv.specs.declared.scan.Stop.the-variants.{TextEnd, Cut}
 use Rattle.csv.proofs.Steps.{stop-comma, stop-cr, stop-bad, stop-end}

@@ -1,4 +1,4 @@
--- `extents::lawful::cell_of` meets its contract. Assumes nothing.
+-- `extents::lawful::cell_of` meets its contract.
 use native.Mathlib.Omega.{arith}
 use Rattle.extents.proofs.lawful.cell_of.Statement.{statement}
 use Rattle.extents.proofs.lawful.cell_of.Tie as tie

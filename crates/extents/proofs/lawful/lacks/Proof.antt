@@ -1,4 +1,4 @@
--- `extents::lawful::lacks` meets its contract. Assumes nothing.
+-- `extents::lawful::lacks` meets its contract.
 use Prim.Native.Nat.{_-_}
 use native.Mathlib.Omega.{arith}
 use mathlib.Core.Path.{ap}

@@ -1,4 +1,4 @@
--- `extents::lawful::list_range` meets its contract. Assumes nothing.
+-- `extents::lawful::list_range` meets its contract.
 use borrow.Author.Needs.{needs}
 use Rattle.extents.proofs.Entering.{refused, list-past, list-full, list-fits, pieces-most, accepted-list}
 use Rattle.extents_pair.proofs.Rooms.{pieces-there, slice-short, slice-enough}

@@ -1,4 +1,4 @@
--- `extents::lawful::publish` meets its contract. Assumes nothing.
+-- `extents::lawful::publish` meets its contract.
 use borrow.Author.Needs.{needs}
 use Rattle.extents.proofs.Doubles.{publish-enough, publish-short, publish-full, share-fits, view-in-after, view-law-after, own-after, publish-done}
 use Rattle.extents.specs.Entries.{publishedMaps}
@@ -46,8 +46,8 @@ share-requires c κs =
       ),
     )
 
-settle-requires : tie.Need-settle-requires
-settle-requires c κs =
+mark-published-requires : tie.Need-mark-published-requires
+mark-published-requires c κs =
     let p3 = c .before .before .before in
     let p5 = p3 .before .before in
     let p6 = p5 .before in
@@ -75,7 +75,7 @@ returns-2 c =
     let a = p14 .args in
     publish-done (a .space) (a .view) (a .below) (now (a .maps)) (p14 .pre)
     (publish-enough (a .space) (a .view) (a .below) (now (a .maps)) (p9 .fits2 .ensures) (p8 .if1 .left)) (p6 .share .ensures)
-    (c .before .before .settle .ensures)
+    (c .before .before .mark-published .ensures)
 
 pub publish-spec : {M : Type 1} → statement M
 publish-spec =
@@ -86,6 +86,6 @@ publish-spec =
     same-length
     returns
     share-requires
-    settle-requires
+    mark-published-requires
     same-length-2
     returns-2)

@@ -1,4 +1,4 @@
--- `extents::lawful::read` meets its contract. Assumes nothing.
+-- `extents::lawful::read` meets its contract.
 use borrow.Author.Needs.{needs}
 use Rattle.extents.proofs.Doubles.{view-in-fresh, view-law-fresh, pieces-fresh, refused-both, refresh-enough, refresh-short, read-past, read-full, read-long, read-done}
 use Rattle.extents.proofs.Entering.{pieces-most}

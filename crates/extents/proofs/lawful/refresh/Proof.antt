@@ -1,4 +1,4 @@
--- `extents::lawful::refresh` meets its contract. Assumes nothing.
+-- `extents::lawful::refresh` meets its contract.
 use borrow.Author.Needs.{needs}
 use Rattle.extents.proofs.Doubles.{refresh-enough, refresh-short, refresh-full, refresh-done}
 use Rattle.extents.specs.Entries.{refreshedMaps}

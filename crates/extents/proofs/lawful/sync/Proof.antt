@@ -1,4 +1,4 @@
--- `extents::lawful::sync` meets its contract. Assumes nothing.
+-- `extents::lawful::sync` meets its contract.
 use borrow.Author.Needs.{needs}
 use Rattle.extents.proofs.Doubles.{publish-enough, publish-short, sync-full, share-fits, sync-done, view-in-after, below-in-after, view-law-after, below-law-after}
 use Rattle.extents.specs.Entries.{syncedMaps}

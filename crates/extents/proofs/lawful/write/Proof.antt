@@ -1,4 +1,4 @@
--- `extents::lawful::write` meets its contract. Assumes nothing.
+-- `extents::lawful::write` meets its contract.
 use borrow.Author.Needs.{needs}
 use Rattle.extents.proofs.Entering.{refused, write-low, write-high, write-past, write-none, write-done, write-not, cell-fine}
 use Rattle.extents.specs.Entries.{writtenMap}

@@ -1,10 +1,10 @@
--- `extents_map::scan::count` meets its contract. Assumes nothing.
+-- `extents_map::scan::count` meets its contract.
 use borrow.Author.Needs.{needs}
 use Prim.Native.Nat.{_-_, min}
 use native.Mathlib.Omega.{arith}
 use mathlib.Core.Path.{_∙_}
 use denote.Ref.{now}
-use Rattle.extents_meaning.proofs.Points.{news-most}
+use Rattle.extents_meaning.proofs.Points.{begins-most}
 use Rattle.extents_map.proofs.Counting.{Counted, count-start, count-most, count-end, count-less, count-next}
 use Rattle.extents_map.proofs.scan.count.Statement.{statement}
 use Rattle.extents_map.proofs.scan.count.Tie as tie
@@ -39,13 +39,13 @@ is-inside-requires c κs = search needs
 mixed-requires : tie.Need-mixed-requires Inv-loop μ-loop
 mixed-requires c κs = search needs
 
-news-requires : tie.Need-news-requires Inv-loop μ-loop
-news-requires c κs = search needs
+begins-requires : tie.Need-begins-requires Inv-loop μ-loop
+begins-requires c κs = search needs
 
 add-n : tie.Need-add-n Inv-loop μ-loop
 add-n c =
     let s = c .before .before .before .before .before .before in
-    omega (arith, count-most (s .loop .inv), news-most (c .before .mixed .result) (s .loop .last), c .news .ensures)
+    omega (arith, count-most (s .loop .inv), begins-most (c .before .mixed .result) (s .loop .last), c .begins .ensures)
 
 least-requires : tie.Need-least-requires Inv-loop μ-loop
 least-requires c κs = search needs
@@ -74,7 +74,7 @@ loop-again c =
     let e = c .before .before .edge .ensures in
     let y = c .least3 .ensures ∙ (λ i. min (c .before .before .before .least .ensures i) (c .before .least2 .ensures i)) in
     count-next (s .before .before .loop .inv) (s .before .loop-test .taken) (s .see .ensures) (t .before .see2 .ensures) e y
-    (t .is-inside .ensures) (c .before .before .before .before .before .mixed .ensures) (c .before .before .before .before .news .ensures)
+    (t .is-inside .ensures) (c .before .before .before .before .before .mixed .ensures) (c .before .before .before .before .begins .ensures)
 
 returns : tie.Need-returns Inv-loop μ-loop
 returns c = count-end (c .before .loop .inv) (c .loop-test .left)
@@ -92,7 +92,7 @@ count-spec =
     see-requires-2
     is-inside-requires
     mixed-requires
-    news-requires
+    begins-requires
     add-n
     least-requires
     edge-requires

@@ -1,4 +1,4 @@
--- `extents_map::scan::edge` meets its contract. Assumes nothing.
+-- `extents_map::scan::edge` meets its contract.
 use native.Mathlib.Omega.{arith}
 use mathlib.Core.Path.{sym, _∙_}
 use Rattle.extents_meaning.proofs.Longest.{range-in, range-before, range-behind}

@@ -1,4 +1,4 @@
--- `extents_map::scan::is_inside` meets its contract. Assumes nothing.
+-- `extents_map::scan::is_inside` meets its contract.
 use native.Mathlib.Omega.{arith}
 use mathlib.Core.Path.{_≡_, sym}
 use borrow.Author.Tests.{le-leb}

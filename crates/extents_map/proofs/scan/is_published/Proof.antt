@@ -1,4 +1,4 @@
--- `extents_map::scan::is_published` meets its contract. Assumes nothing.
+-- `extents_map::scan::is_published` meets its contract.
 use borrow.Author.Needs.{needs}
 use mathlib.Core.Path.{sym, _∙_}
 use borrow.Author.Tests.{not-true, not-false}

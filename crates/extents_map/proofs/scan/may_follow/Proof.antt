@@ -1,4 +1,4 @@
--- `extents_map::scan::may_follow` meets its contract. Assumes nothing.
+-- `extents_map::scan::may_follow` meets its contract.
 use borrow.Author.Needs.{needs}
 use native.Mathlib.Omega.{arith}
 use mathlib.Core.Path.{sym}

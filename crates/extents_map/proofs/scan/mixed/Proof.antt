@@ -1,4 +1,4 @@
--- `extents_map::scan::mixed` meets its contract. Assumes nothing.
+-- `extents_map::scan::mixed` meets its contract.
 use borrow.Author.Needs.{needs}
 use native.Mathlib.Omega.{arith}
 use borrow.Author.Tests.{eq-eqb, ne-eqb}

@@ -1,4 +1,4 @@
--- `extents_map::scan::seek` meets its contract. Assumes nothing.
+-- `extents_map::scan::seek` meets its contract.
 use borrow.Author.Needs.{needs}
 use native.Mathlib.Omega.{arith}
 use denote.Ref.{now}

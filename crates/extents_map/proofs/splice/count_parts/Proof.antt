@@ -1,4 +1,4 @@
--- `extents_map::splice::count_parts` meets its contract. Assumes nothing.
+-- `extents_map::splice::count_parts` meets its contract.
 use borrow.Author.Needs.{needs}
 use native.Mathlib.Omega.{arith}
 use Rattle.extents_map.proofs.Moves.{parts-length}

@@ -1,4 +1,4 @@
--- `extents_map::splice::move_up` meets its contract. Assumes nothing.
+-- `extents_map::splice::move_up` meets its contract.
 use borrow.Author.Needs.{needs}
 use native.Mathlib.Omega.{arith}
 use denote.Ref.{now}

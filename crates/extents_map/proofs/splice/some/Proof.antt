@@ -1,4 +1,4 @@
--- `extents_map::splice::some` meets its contract. Assumes nothing.
+-- `extents_map::splice::some` meets its contract.
 use native.Mathlib.Omega.{arith}
 use Rattle.extents_map.proofs.Parted.{size-none, size-some}
 use Rattle.extents_map.proofs.splice.some.Statement.{statement}

@@ -1,4 +1,4 @@
--- `extents_pair::merge::clear_from` meets its contract. Assumes nothing.
+-- `extents_pair::merge::clear_from` meets its contract.
 use borrow.Author.Needs.{needs}
 use Prim.Native.Nat.{ℕ, _≤_, _-_}
 use native.Mathlib.Omega.{arith}

@@ -1,4 +1,4 @@
--- `extents_pair::merge::interleave` meets its contract. Assumes nothing.
+-- `extents_pair::merge::interleave` meets its contract.
 use Prim.Native.Nat.{_+_, _-_}
 use native.Mathlib.Omega.{arith}
 use mathlib.Core.Path.{_∙_}

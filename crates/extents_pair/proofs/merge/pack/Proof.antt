@@ -1,4 +1,4 @@
--- `extents_pair::merge::pack` meets its contract. Assumes nothing.
+-- `extents_pair::merge::pack` meets its contract.
 use native.Mathlib.Omega.{arith}
 use denote.Ref.{now}
 use Rattle.extents_pair.proofs.Gathering.{Gathering, gather-start, gather-room, gather-skip, gather-put, gather-end}

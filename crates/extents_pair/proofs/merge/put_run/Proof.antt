@@ -1,4 +1,4 @@
--- `extents_pair::merge::put_run` meets its contract. Assumes nothing.
+-- `extents_pair::merge::put_run` meets its contract.
 use borrow.Author.Needs.{needs}
 use native.Mathlib.Omega.{arith}
 use lib.ListN.{length-set}

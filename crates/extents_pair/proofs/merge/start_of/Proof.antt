@@ -1,4 +1,4 @@
--- `extents_pair::merge::start_of` meets its contract. Assumes nothing.
+-- `extents_pair::merge::start_of` meets its contract.
 use native.Mathlib.Omega.{arith}
 use mathlib.Core.Path.{refl}
 use Rattle.extents_pair.proofs.merge.start_of.Statement.{statement}

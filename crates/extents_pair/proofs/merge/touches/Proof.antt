@@ -1,4 +1,4 @@
--- `extents_pair::merge::touches` meets its contract. Assumes nothing.
+-- `extents_pair::merge::touches` meets its contract.
 use borrow.Author.Tests.{eq-eqb, ne-eqb}
 use Rattle.extents_pair.proofs.merge.touches.Statement.{statement}
 use Rattle.extents_pair.proofs.merge.touches.Tie as tie

@@ -1,4 +1,4 @@
--- `extents_pair::pair::fits` meets its contract. Assumes nothing.
+-- `extents_pair::pair::fits` meets its contract.
 use Prim.Native.Nat.{ℕ, _-_}
 use native.Mathlib.Omega.{arith}
 use mathlib.Core.Path.{sym, ap}

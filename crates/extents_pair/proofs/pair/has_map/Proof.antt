@@ -1,4 +1,4 @@
--- `extents_pair::pair::has_map` meets its contract. Assumes nothing.
+-- `extents_pair::pair::has_map` meets its contract.
 use borrow.Author.Needs.{needs}
 use native.Mathlib.Omega.{arith}
 use lib.ListN.{length}

@@ -1,4 +1,4 @@
--- `extents_pair::pair::lacks` meets its contract. Assumes nothing.
+-- `extents_pair::pair::lacks` meets its contract.
 use Prim.Native.Nat.{_-_}
 use native.Mathlib.Omega.{arith}
 use mathlib.Core.Path.{ap}

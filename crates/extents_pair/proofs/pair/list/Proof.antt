@@ -1,4 +1,4 @@
--- `extents_pair::pair::list` meets its contract. Assumes nothing.
+-- `extents_pair::pair::list` meets its contract.
 use borrow.Author.Needs.{needs}
 use Prim.Native.Nat.{ℕ, _-_}
 use native.Mathlib.Omega.{arith}

@@ -1,11 +1,11 @@
--- `extents_pair::pair::most_runs` meets its contract. Assumes nothing.
+-- `extents_pair::pair::most_runs` meets its contract.
 use borrow.Author.Needs.{needs}
 use native.Mathlib.Omega.{arith}
 use mathlib.Core.Path.{ap, _∙_}
 use denote.Ref.{now}
 use Rattle.extents_meaning.specs.Maps.{lawful}
 use Rattle.extents_pair.proofs.Pairing.{Told, two-told, map-lent}
-use Rattle.extents_pair.proofs.Bounds.{view-room, below-room, marked-room, most-settle, most-other}
+use Rattle.extents_pair.proofs.Bounds.{view-room, below-room, marked-room, most-mark-published, most-other}
 use Rattle.extents_pair.proofs.pair.most_runs.Statement.{statement}
 use Rattle.extents_pair.proofs.pair.most_runs.Tie as tie
 
@@ -50,7 +50,7 @@ returns : tie.Need-returns
 returns c =
     let p4 = c .before .before .before .before in
     let a = p4 .args in
-    λ start n cell. most-settle (a .space) (a .view) (a .below) (now (a .maps)) (p4 .pre .0) start n cell (a .mode)
+    λ start n cell. most-mark-published (a .space) (a .view) (a .below) (now (a .maps)) (p4 .pre .0) start n cell (a .mode)
     (c .before .before .if1 .taken) (c .runs-in .ensures)
 
 mul-w : tie.Need-mul-w

@@ -1,4 +1,4 @@
--- `extents_pair::share::is_own` meets its contract. Assumes nothing.
+-- `extents_pair::share::is_own` meets its contract.
 use borrow.Author.Needs.{needs}
 use Prim.Native.Nat.{ℕ}
 use mathlib.Core.Path.{ap}

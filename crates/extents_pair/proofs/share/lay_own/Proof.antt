@@ -1,4 +1,4 @@
--- `extents_pair::share::lay_own` meets its contract. Assumes nothing.
+-- `extents_pair::share::lay_own` meets its contract.
 use borrow.Author.Needs.{needs}
 use Prim.Native.Nat.{ℕ, _-_, _≤_}
 use native.Mathlib.Omega.{arith}
@@ -9,7 +9,7 @@ use denote.Ref.{now}
 use Rattle.extents_meaning.specs.Cells.{cleared}
 use Rattle.extents_meaning.specs.Maps.{runs, bytesOf}
 use Rattle.extents_pair.specs.Packing.{marked}
-use Rattle.extents_pair.specs.Strokes.{partAt}
+use Rattle.extents_pair.specs.RangeWrites.{partAt}
 use Rattle.extents_pair.proofs.Bounds.{laid}
 use Rattle.extents_pair.proofs.Parts.{Holds, holds-start, holds-length, lent-view, lent-lawful, lent-below}
 use Rattle.extents_pair.proofs.Passing.{lent-run}
@@ -82,26 +82,26 @@ is-own-requires c κs =
     let l = p3 .loop in
     lent-run (p8 .pre .0) (l .inv .2) (l .i - 1) (omega (arith, l .inv .0, c .before .before .loop-test .taken))
 
-add-stroke-at : tie.Need-add-stroke-at Inv-loop μ-loop
-add-stroke-at c = search needs
+add-range-write-at : tie.Need-add-range-write-at Inv-loop μ-loop
+add-range-write-at c = search needs
 
-mul-stroke-at : tie.Need-mul-stroke-at Inv-loop μ-loop
-mul-stroke-at c = search needs
+mul-range-write-at : tie.Need-mul-range-write-at Inv-loop μ-loop
+mul-range-write-at c = search needs
 
-sub-stroke-at : tie.Need-sub-stroke-at Inv-loop μ-loop
-sub-stroke-at c = search needs
+sub-range-write-at : tie.Need-sub-range-write-at Inv-loop μ-loop
+sub-range-write-at c = search needs
 
-part-stroke-at-start : tie.Need-part-stroke-at-start Inv-loop μ-loop
-part-stroke-at-start c = search needs
+part-range-write-at-start : tie.Need-part-range-write-at-start Inv-loop μ-loop
+part-range-write-at-start c = search needs
 
-part-stroke-at-end : tie.Need-part-stroke-at-end Inv-loop μ-loop
-part-stroke-at-end c =
+part-range-write-at-end : tie.Need-part-range-write-at-end Inv-loop μ-loop
+part-range-write-at-end c =
     let p6 = c .before .before .before .before .before .before in
     let p11 = p6 .before .before .before .before .before in
     omega (arith, p11 .pre .0 .view-in, p6 .loop .inv .1)
 
-stroke-at-requires : tie.Need-stroke-at-requires Inv-loop μ-loop
-stroke-at-requires c κs =
+range-write-at-requires : tie.Need-range-write-at-requires Inv-loop μ-loop
+range-write-at-requires c κs =
     let p3 = c .before .before .before in
     let p6 = p3 .before .before .before in
     let p7 = p6 .before in
@@ -139,8 +139,8 @@ put-requires c κs =
     let p = p14 .pre in
     let l = p9 .loop in
     let u = sym (p5 .is-own .ensures) ∙ p4 .if1 .taken in
-    let f = lay-fine (a .size) (a .v) (a .w) (now (a .maps)) (p .0) (p .1) (l .i) (l .inv .2) (p8 .loop-test .taken) (l .inv .0) u (c .before .stroke-at .ensures) in
-    let g = lay-fit (a .size) (a .v) (a .w) (now (a .maps)) (p .0) (p .1) (l .i) (l .inv .2) (p8 .loop-test .taken) (l .inv .0) u (c .before .stroke-at .ensures) in
+    let f = lay-fine (a .size) (a .v) (a .w) (now (a .maps)) (p .0) (p .1) (l .i) (l .inv .2) (p8 .loop-test .taken) (l .inv .0) u (c .before .range-write-at .ensures) in
+    let g = lay-fit (a .size) (a .v) (a .w) (now (a .maps)) (p .0) (p .1) (l .i) (l .inv .2) (p8 .loop-test .taken) (l .inv .0) u (c .before .range-write-at .ensures) in
     ((lent-below (p .0) (l .inv .2), f), g)
 
 loop-less : tie.Need-loop-less Inv-loop μ-loop
@@ -159,7 +159,7 @@ loop-again c =
     let p = p17 .pre in
     let l = p12 .loop in
     let u = sym (p8 .is-own .ensures) ∙ p7 .if1 .taken in
-    let k = lay-next (a .size) (a .v) (a .w) (now (a .maps)) (p .0) (p .1) (l .i) (l .inv .2) (p11 .loop-test .taken) (l .inv .0) u (p4 .stroke-at .ensures) (c .before .before .put .ensures) in
+    let k = lay-next (a .size) (a .v) (a .w) (now (a .maps)) (p .0) (p .1) (l .i) (l .inv .2) (p11 .loop-test .taken) (l .inv .0) u (p4 .range-write-at .ensures) (c .before .before .put .ensures) in
     (omega (arith, l .inv .0), holds-length (p .0) k, k)
 
 loop-less-2 : tie.Need-loop-less-2 Inv-loop μ-loop
@@ -210,12 +210,12 @@ lay-own-spec =
     part-is-own-start
     part-is-own-end
     is-own-requires
-    add-stroke-at
-    mul-stroke-at
-    sub-stroke-at
-    part-stroke-at-start
-    part-stroke-at-end
-    stroke-at-requires
+    add-range-write-at
+    mul-range-write-at
+    sub-range-write-at
+    part-range-write-at-start
+    part-range-write-at-end
+    range-write-at-requires
     add-put
     mul-put
     sub-put

@@ -1,4 +1,4 @@
--- `extents_pair::share::pass_down` meets its contract. Assumes nothing.
+-- `extents_pair::share::pass_down` meets its contract.
 use borrow.Author.Needs.{needs}
 use Prim.Native.Nat.{ℕ, _-_, _≤_}
 use native.Mathlib.Omega.{arith}
@@ -7,7 +7,7 @@ use mathlib.Core.List.{List}
 use lib.ListN.{length}
 use denote.Ref.{now}
 use Rattle.extents_meaning.specs.Maps.{runs, bytesOf}
-use Rattle.extents_pair.specs.Strokes.{partAt, withBytes}
+use Rattle.extents_pair.specs.RangeWrites.{partAt, withBytes}
 use Rattle.extents_pair.proofs.Parts.{Holds, holds-start, holds-length, lent-view, lent-lawful, lent-below}
 use Rattle.extents_pair.proofs.Passing.{state, lent-run, down-start, down-next, down-skip, down-none}
 use Rattle.extents_pair.proofs.share.pass_down.Statement.{statement}
@@ -87,26 +87,26 @@ is-own-requires c κs =
     let l = c1 .loop in
     lent-run (c2 .pre .0) (l .inv .2) (l .i - 1) (omega (arith, l .inv .0, c .before .before .loop-test .taken))
 
-add-stroke-at : tie.Need-add-stroke-at Inv-loop μ-loop
-add-stroke-at c = search needs
+add-range-write-at : tie.Need-add-range-write-at Inv-loop μ-loop
+add-range-write-at c = search needs
 
-mul-stroke-at : tie.Need-mul-stroke-at Inv-loop μ-loop
-mul-stroke-at c = search needs
+mul-range-write-at : tie.Need-mul-range-write-at Inv-loop μ-loop
+mul-range-write-at c = search needs
 
-sub-stroke-at : tie.Need-sub-stroke-at Inv-loop μ-loop
-sub-stroke-at c = search needs
+sub-range-write-at : tie.Need-sub-range-write-at Inv-loop μ-loop
+sub-range-write-at c = search needs
 
-part-stroke-at-start : tie.Need-part-stroke-at-start Inv-loop μ-loop
-part-stroke-at-start c = search needs
+part-range-write-at-start : tie.Need-part-range-write-at-start Inv-loop μ-loop
+part-range-write-at-start c = search needs
 
-part-stroke-at-end : tie.Need-part-stroke-at-end Inv-loop μ-loop
-part-stroke-at-end c =
+part-range-write-at-end : tie.Need-part-range-write-at-end Inv-loop μ-loop
+part-range-write-at-end c =
     let c1 = c .before .before .before .before .before .before in
     let c2 = c1 .before .before .before .before .before .before in
     omega (arith, c2 .pre .0 .view-in, c1 .loop .inv .1)
 
-stroke-at-requires : tie.Need-stroke-at-requires Inv-loop μ-loop
-stroke-at-requires c κs =
+range-write-at-requires : tie.Need-range-write-at-requires Inv-loop μ-loop
+range-write-at-requires c κs =
     let c1 = c .before .before .before .before .before .before in
     let c2 = c1 .before in
     let c3 = c2 .before .before .before .before .before .before in
@@ -152,7 +152,7 @@ loop-again c =
     let l = c3 .loop in
     let k =
     down-next (a .size) (a .v) (a .w) (a .lo) (a .hi) (now (a .maps)) (p .0) (p .1) (omega arith) (l .i) (l .inv .2)
-    (c2 .loop-test .taken) (l .inv .0) (c1 .stroke-at .ensures) (c .before .before .fill .ensures) in
+    (c2 .loop-test .taken) (l .inv .0) (c1 .range-write-at .ensures) (c .before .before .fill .ensures) in
     (omega (arith, l .inv .0), holds-length (p .0) k, k)
 
 loop-less-2 : tie.Need-loop-less-2 Inv-loop μ-loop
@@ -205,12 +205,12 @@ pass-down-spec =
     part-is-own-start
     part-is-own-end
     is-own-requires
-    add-stroke-at
-    mul-stroke-at
-    sub-stroke-at
-    part-stroke-at-start
-    part-stroke-at-end
-    stroke-at-requires
+    add-range-write-at
+    mul-range-write-at
+    sub-range-write-at
+    part-range-write-at-start
+    part-range-write-at-end
+    range-write-at-requires
     add-fill
     mul-fill
     sub-fill

@@ -1,4 +1,4 @@
--- `extents_pair::share::pass_up` meets its contract. Assumes nothing.
+-- `extents_pair::share::pass_up` meets its contract.
 use borrow.Author.Needs.{needs}
 use Prim.Native.Nat.{ℕ, _-_, _≤_, _<_}
 use native.Mathlib.Omega.{arith}
@@ -7,7 +7,7 @@ use mathlib.Core.List.{List}
 use lib.ListN.{length}
 use denote.Ref.{now}
 use Rattle.extents_meaning.specs.Maps.{runs}
-use Rattle.extents_pair.specs.Strokes.{partAt, withBytes, raised}
+use Rattle.extents_pair.specs.RangeWrites.{partAt, withBytes, passedUp}
 use Rattle.extents_pair.proofs.Parts.{Holds, holds-start, holds-length, lent-view, lent-lawful, lent-below}
 use Rattle.extents_pair.proofs.Passing.{state, state-end, lent-run, up-none, up-start, up-skip, up-fine, up-fit, up-next}
 use Rattle.extents_pair.proofs.share.pass_up.Statement.{statement}
@@ -16,7 +16,7 @@ use Rattle.extents_pair.proofs.share.pass_up.Tie as tie
 abbrev Inv-loop : tie.InvT-loop
 Inv-loop maps₀ size v w lo hi all i₀ maps i =
     (all ≡ length (runs (partAt v size maps₀))) × (i ≤ all) × (length maps ≡ length maps₀)
-    × Holds size w maps₀ (state lo hi (runs (partAt v size maps₀)) (raised size v w lo hi maps₀) i) maps
+    × Holds size w maps₀ (state lo hi (runs (partAt v size maps₀)) (passedUp size v w lo hi maps₀) i) maps
 
 abbrev μ-loop : tie.MeasureT-loop
 μ-loop maps₀ size v w lo hi all i₀ maps i = all - i
@@ -83,26 +83,26 @@ is-own-requires c κs =
     let l = c1 .loop in
     lent-run (c2 .pre .0) (l .inv .3) (l .i) (omega (arith, l .inv .0, c .before .before .loop-test .taken))
 
-add-stroke-at : tie.Need-add-stroke-at Inv-loop μ-loop
-add-stroke-at c = search needs
+add-range-write-at : tie.Need-add-range-write-at Inv-loop μ-loop
+add-range-write-at c = search needs
 
-mul-stroke-at : tie.Need-mul-stroke-at Inv-loop μ-loop
-mul-stroke-at c = search needs
+mul-range-write-at : tie.Need-mul-range-write-at Inv-loop μ-loop
+mul-range-write-at c = search needs
 
-sub-stroke-at : tie.Need-sub-stroke-at Inv-loop μ-loop
-sub-stroke-at c = search needs
+sub-range-write-at : tie.Need-sub-range-write-at Inv-loop μ-loop
+sub-range-write-at c = search needs
 
-part-stroke-at-start : tie.Need-part-stroke-at-start Inv-loop μ-loop
-part-stroke-at-start c = search needs
+part-range-write-at-start : tie.Need-part-range-write-at-start Inv-loop μ-loop
+part-range-write-at-start c = search needs
 
-part-stroke-at-end : tie.Need-part-stroke-at-end Inv-loop μ-loop
-part-stroke-at-end c =
+part-range-write-at-end : tie.Need-part-range-write-at-end Inv-loop μ-loop
+part-range-write-at-end c =
     let c1 = c .before .before .before .before .before .before in
     let c2 = c1 .before .before .before .before .before .before in
     omega (arith, c2 .pre .0 .view-in, c1 .loop .inv .2)
 
-stroke-at-requires : tie.Need-stroke-at-requires Inv-loop μ-loop
-stroke-at-requires c κs =
+range-write-at-requires : tie.Need-range-write-at-requires Inv-loop μ-loop
+range-write-at-requires c κs =
     let c1 = c .before .before .before .before .before .before in
     let c2 = c1 .before in
     let c3 = c2 .before .before .before .before .before .before in
@@ -137,7 +137,7 @@ put-requires c κs =
     let p = c3 .pre in
     let l = c2 .loop in
     let m : l .i < length (runs (partAt (a .v) (a .size) (now (a .maps)))) = omega (arith, l .inv .0, c1 .loop-test .taken) in
-    let e = c .before .stroke-at .ensures in
+    let e = c .before .range-write-at .ensures in
     let f =
     up-fine (a .size) (a .v) (a .w) (a .lo) (a .hi) (now (a .maps)) (p .0) (p .1) (omega arith) (p .2) (l .i) (l .inv .3) m e in
     let g =
@@ -158,7 +158,7 @@ loop-again c =
     let l = c3 .loop in
     let m : l .i < length (runs (partAt (a .v) (a .size) (now (a .maps)))) = omega (arith, l .inv .0, c2 .loop-test .taken) in
     let k =
-    up-next (a .size) (a .v) (a .w) (a .lo) (a .hi) (now (a .maps)) (p .0) (p .1) (omega arith) (p .2) (l .i) (l .inv .3) m (c1 .stroke-at .ensures)
+    up-next (a .size) (a .v) (a .w) (a .lo) (a .hi) (now (a .maps)) (p .0) (p .1) (omega arith) (p .2) (l .i) (l .inv .3) m (c1 .range-write-at .ensures)
     (c .before .before .put .ensures) in
     (l .inv .0, omega (arith, c2 .loop-test .taken), holds-length (p .0) k, k)
 
@@ -188,7 +188,7 @@ returns-2 c =
     let a = c1 .args in
     let l = c .before .loop in
     let rs = runs (partAt (a .v) (a .size) (now (a .maps))) in
-    let f = raised (a .size) (a .v) (a .w) (a .lo) (a .hi) (now (a .maps)) in
+    let f = passedUp (a .size) (a .v) (a .w) (a .lo) (a .hi) (now (a .maps)) in
     let e = state-end (a .lo) (a .hi) rs f (l .i) (omega (arith, l .inv .0, c .loop-test .left)) in
     l .inv .3 .same ∙ (λ j. withBytes (a .size) (a .w) (e j) (now (a .maps)))
 
@@ -213,12 +213,12 @@ pass-up-spec =
     part-is-own-start
     part-is-own-end
     is-own-requires
-    add-stroke-at
-    mul-stroke-at
-    sub-stroke-at
-    part-stroke-at-start
-    part-stroke-at-end
-    stroke-at-requires
+    add-range-write-at
+    mul-range-write-at
+    sub-range-write-at
+    part-range-write-at-start
+    part-range-write-at-end
+    range-write-at-requires
     add-put
     mul-put
     sub-put

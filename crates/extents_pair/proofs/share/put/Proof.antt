@@ -1,4 +1,4 @@
--- `extents_pair::share::put` meets its contract. Assumes nothing.
+-- `extents_pair::share::put` meets its contract.
 use borrow.Author.Needs.{needs}
 use denote.Ref.{now}
 use Rattle.extents_pair.proofs.Parts.{laid-none, laid-fit}

@@ -1,4 +1,4 @@
--- `trace::reading::in_order` meets its contract. Assumes nothing.
+-- `trace::reading::in_order` meets its contract.
 use borrow.Author.Needs.{needs}
 use Rattle.trace.proofs.Earlier.{send-order, recv-unsent, recv-order, other-order}
 use borrow.Author.Tests.{not-true, not-false}

@@ -1,4 +1,4 @@
--- `trace::reading::judge_row` meets its contract. Assumes nothing.
+-- `trace::reading::judge_row` meets its contract.
 use borrow.Author.Needs.{needs}
 use Rattle.trace.proofs.Asking.{row-over, other-count, fields-no, order-no, order-yes}
 use borrow.Author.Tests.{not-true, not-false}

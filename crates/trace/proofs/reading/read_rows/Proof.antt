@@ -1,4 +1,4 @@
--- `trace::reading::read_rows` meets its contract. Assumes nothing.
+-- `trace::reading::read_rows` meets its contract.
 use borrow.Author.Needs.{needs}
 use Rattle.trace.proofs.Going.{Going, begin, at-end, end-held, at-malformed, at-limit, refusal, no-row, row-room, next-row, onward}
 use Rattle.rows.proofs.Slices.{with-room}

@@ -1,4 +1,4 @@
--- `trace::reading::row_matches` meets its contract. Assumes nothing.
+-- `trace::reading::row_matches` meets its contract.
 use borrow.Author.Needs.{needs}
 use Rattle.trace.proofs.Slices.{other-kind, other-message, any-process, by-process}
 use borrow.Author.Tests.{not-true, not-false}

@@ -1,4 +1,4 @@
--- `trace::reading::some_row` meets its contract. Assumes nothing.
+-- `trace::reading::some_row` meets its contract.
 use borrow.Author.Needs.{needs}
 use Rattle.trace.proofs.Earlier.{from-first, no-more, this-row, next-row}
 use Rattle.rows.specs.Rows.{rowsIn}

@@ -1,16 +1,16 @@
--- `extents_pair::merge::settle_all` meets its contract. Assumes nothing.
+-- `extents_pair::merge::mark_all_published` meets its contract.
 use Prim.Native.Nat.{_-_, _<_}
 use native.Mathlib.Omega.{arith}
 use mathlib.Core.Path.{refl, sym, _∙_}
 use lib.ListN.{length}
 use denote.Ref.{now}
 use Rattle.extents_meaning.specs.Maps.{runs}
-use Rattle.extents_pair.proofs.Settling.{Settling, fit, settle-none, settle-start, settle-length, settle-room, settle-last, settle-join, settle-put, settle-end}
-use Rattle.extents_pair.proofs.merge.settle_all.Statement.{statement}
-use Rattle.extents_pair.proofs.merge.settle_all.Tie as tie
+use Rattle.extents_pair.proofs.Marking.{Marking, fit, mark-published-none, mark-published-start, mark-published-length, mark-published-room, mark-published-last, mark-published-join, mark-published-put, mark-published-end}
+use Rattle.extents_pair.proofs.merge.mark_all_published.Statement.{statement}
+use Rattle.extents_pair.proofs.merge.mark_all_published.Tie as tie
 
 abbrev Inv-loop : tie.InvT-loop
-Inv-loop map₀ all start₀ size₀ number₀ n₀ i₀ map start size number n i = Settling map₀ map start size number n i
+Inv-loop map₀ all start₀ size₀ number₀ n₀ i₀ map start size number n i = Marking map₀ map start size number n i
 
 abbrev μ-loop : tie.MeasureT-loop
 μ-loop map₀ all start₀ size₀ number₀ n₀ i₀ map start size number n i = all - i
@@ -24,7 +24,7 @@ same-length c = refl
 returns : tie.Need-returns Inv-loop μ-loop
 returns c =
     let s = c .before .before .before .before in
-    settle-none (now (s .args .map)) (s .pre) (sym (c .before .runs-in .ensures) ∙ c .if1 .taken)
+    mark-published-none (now (s .args .map)) (s .pre) (sym (c .before .runs-in .ensures) ∙ c .if1 .taken)
 
 slice-read-start : tie.Need-slice-read-start Inv-loop μ-loop
 slice-read-start c =
@@ -45,41 +45,41 @@ loop-holds : tie.Need-loop-holds Inv-loop μ-loop
 loop-holds c =
     let u = c .before .before .before .before in
     let s = u .before .before .before in
-    settle-start (now (s .args .map)) (s .pre) (omega (arith, u .runs-in .ensures, c .before .before .before .if1 .left))
+    mark-published-start (now (s .args .map)) (s .pre) (omega (arith, u .runs-in .ensures, c .before .before .before .if1 .left))
 
 mul-at : tie.Need-mul-at Inv-loop μ-loop
 mul-at c =
     let u = c .before .before .before .before .before .before in
     let s = u .before .before .before in
-    let r = settle-room (now (s .args .map)) (s .pre) (c .before .loop .inv) (c .loop-test .taken) (u .runs-in .ensures) in
+    let r = mark-published-room (now (s .args .map)) (s .pre) (c .before .loop .inv) (c .loop-test .taken) (u .runs-in .ensures) in
     omega (arith, s .good)
 
 mul-next-start : tie.Need-mul-next-start Inv-loop μ-loop
 mul-next-start c =
     let u = c .before .before .before .before .before .before in
     let s = u .before .before .before in
-    let r = settle-room (now (s .args .map)) (s .pre) (c .before .loop .inv) (c .loop-test .taken) (u .runs-in .ensures) in
+    let r = mark-published-room (now (s .args .map)) (s .pre) (c .before .loop .inv) (c .loop-test .taken) (u .runs-in .ensures) in
     omega (arith, s .good)
 
 slice-read-next-start : tie.Need-slice-read-next-start Inv-loop μ-loop
 slice-read-next-start c =
     let u = c .before .before .before .before .before .before .before in
     let s = u .before .before .before in
-    let r = settle-room (now (s .args .map)) (s .pre) (c .before .before .loop .inv) (c .before .loop-test .taken) (u .runs-in .ensures) in
+    let r = mark-published-room (now (s .args .map)) (s .pre) (c .before .before .loop .inv) (c .before .loop-test .taken) (u .runs-in .ensures) in
     omega (arith, s .good)
 
 add-next-size : tie.Need-add-next-size Inv-loop μ-loop
 add-next-size c =
     let u = c .before .before .before .before .before .before .before in
     let s = u .before .before .before in
-    let r = settle-room (now (s .args .map)) (s .pre) (c .before .before .loop .inv) (c .before .loop-test .taken) (u .runs-in .ensures) in
+    let r = mark-published-room (now (s .args .map)) (s .pre) (c .before .before .loop .inv) (c .before .loop-test .taken) (u .runs-in .ensures) in
     omega (arith, s .good)
 
 mul-next-size : tie.Need-mul-next-size Inv-loop μ-loop
 mul-next-size c =
     let u = c .before .before .before .before .before .before .before in
     let s = u .before .before .before in
-    let r = settle-room (now (s .args .map)) (s .pre) (c .before .before .loop .inv) (c .before .loop-test .taken) (u .runs-in .ensures) in
+    let r = mark-published-room (now (s .args .map)) (s .pre) (c .before .before .loop .inv) (c .before .loop-test .taken) (u .runs-in .ensures) in
     omega (arith, s .good)
 
 slice-read-next-size : tie.Need-slice-read-next-size Inv-loop μ-loop
@@ -87,7 +87,7 @@ slice-read-next-size c =
     let l = c .before .before .before in
     let u = l .before .before .before .before .before in
     let s = u .before .before .before in
-    let r = settle-room (now (s .args .map)) (s .pre) (l .loop .inv) (c .before .before .loop-test .taken) (u .runs-in .ensures) in
+    let r = mark-published-room (now (s .args .map)) (s .pre) (l .loop .inv) (c .before .before .loop-test .taken) (u .runs-in .ensures) in
     omega (arith, s .good)
 
 add-next-number : tie.Need-add-next-number Inv-loop μ-loop
@@ -95,7 +95,7 @@ add-next-number c =
     let l = c .before .before .before in
     let u = l .before .before .before .before .before in
     let s = u .before .before .before in
-    let r = settle-room (now (s .args .map)) (s .pre) (l .loop .inv) (c .before .before .loop-test .taken) (u .runs-in .ensures) in
+    let r = mark-published-room (now (s .args .map)) (s .pre) (l .loop .inv) (c .before .before .loop-test .taken) (u .runs-in .ensures) in
     omega (arith, s .good)
 
 mul-next-number : tie.Need-mul-next-number Inv-loop μ-loop
@@ -103,7 +103,7 @@ mul-next-number c =
     let l = c .before .before .before in
     let u = l .before .before .before .before .before in
     let s = u .before .before .before in
-    let r = settle-room (now (s .args .map)) (s .pre) (l .loop .inv) (c .before .before .loop-test .taken) (u .runs-in .ensures) in
+    let r = mark-published-room (now (s .args .map)) (s .pre) (l .loop .inv) (c .before .before .loop-test .taken) (u .runs-in .ensures) in
     omega (arith, s .good)
 
 slice-read-next-number : tie.Need-slice-read-next-number Inv-loop μ-loop
@@ -111,7 +111,7 @@ slice-read-next-number c =
     let l = c .before .before .before .before in
     let u = l .before .before .before .before .before in
     let s = u .before .before .before in
-    let r = settle-room (now (s .args .map)) (s .pre) (l .loop .inv) (c .before .before .before .loop-test .taken) (u .runs-in .ensures) in
+    let r = mark-published-room (now (s .args .map)) (s .pre) (l .loop .inv) (c .before .before .before .loop-test .taken) (u .runs-in .ensures) in
     omega (arith, s .good)
 
 add-i : tie.Need-add-i Inv-loop μ-loop
@@ -119,7 +119,7 @@ add-i c =
     let l = c .before .before .before .before in
     let u = l .before .before .before .before .before in
     let s = u .before .before .before in
-    let r = settle-room (now (s .args .map)) (s .pre) (l .loop .inv) (c .before .before .before .loop-test .taken) (u .runs-in .ensures) in
+    let r = mark-published-room (now (s .args .map)) (s .pre) (l .loop .inv) (c .before .before .before .loop-test .taken) (u .runs-in .ensures) in
     omega (arith, s .good)
 
 add-touches : tie.Need-add-touches Inv-loop μ-loop
@@ -135,7 +135,7 @@ add-size c =
     let u = l .before .before .before .before .before in
     let s = u .before .before .before in
     let h : l .loop .i < length (runs (now (s .args .map))) = omega (arith, t .loop-test .taken, u .runs-in .ensures) in
-    let k = settle-join (now (s .args .map)) (s .pre) (l .loop .inv) h (c .before .touches .ensures) (c .if2 .taken) in
+    let k = mark-published-join (now (s .args .map)) (s .pre) (l .loop .inv) h (c .before .touches .ensures) (c .if2 .taken) in
     omega (arith, k .inside)
 
 loop-less : tie.Need-loop-less Inv-loop μ-loop
@@ -148,7 +148,7 @@ loop-again c =
     let u = l .before .before .before .before .before in
     let s = u .before .before .before in
     let h : l .loop .i < length (runs (now (s .args .map))) = omega (arith, t .loop-test .taken, u .runs-in .ensures) in
-    settle-join (now (s .args .map)) (s .pre) (l .loop .inv) h (c .before .touches .ensures) (c .if2 .taken)
+    mark-published-join (now (s .args .map)) (s .pre) (l .loop .inv) h (c .before .touches .ensures) (c .if2 .taken)
 
 mul-put-run : tie.Need-mul-put-run Inv-loop μ-loop
 mul-put-run c =
@@ -156,7 +156,7 @@ mul-put-run c =
     let l = t .before in
     let u = l .before .before .before .before .before in
     let s = u .before .before .before in
-    let r = settle-room (now (s .args .map)) (s .pre) (l .loop .inv) (t .loop-test .taken) (u .runs-in .ensures) in
+    let r = mark-published-room (now (s .args .map)) (s .pre) (l .loop .inv) (t .loop-test .taken) (u .runs-in .ensures) in
     omega (arith, s .good)
 
 put-run-requires : tie.Need-put-run-requires Inv-loop μ-loop
@@ -165,7 +165,7 @@ put-run-requires c κs =
     let l = t .before in
     let u = l .before .before .before .before .before in
     let s = u .before .before .before in
-    let r = settle-room (now (s .args .map)) (s .pre) (l .loop .inv) (t .loop-test .taken) (u .runs-in .ensures) in
+    let r = mark-published-room (now (s .args .map)) (s .pre) (l .loop .inv) (t .loop-test .taken) (u .runs-in .ensures) in
     omega (arith, s .good)
 
 add-n : tie.Need-add-n Inv-loop μ-loop
@@ -174,7 +174,7 @@ add-n c =
     let l = t .before in
     let u = l .before .before .before .before .before in
     let s = u .before .before .before in
-    let r = settle-room (now (s .args .map)) (s .pre) (l .loop .inv) (t .loop-test .taken) (u .runs-in .ensures) in
+    let r = mark-published-room (now (s .args .map)) (s .pre) (l .loop .inv) (t .loop-test .taken) (u .runs-in .ensures) in
     omega (arith, s .good)
 
 loop-less-2 : tie.Need-loop-less-2 Inv-loop μ-loop
@@ -189,20 +189,20 @@ loop-again-2 c =
     let u = l .before .before .before .before .before in
     let s = u .before .before .before in
     let h : l .loop .i < length (runs (now (s .args .map))) = omega (arith, t .loop-test .taken, u .runs-in .ensures) in
-    settle-put (now (s .args .map)) (s .pre) (l .loop .inv) h (o .touches .ensures) (i2 .if2 .left) (c .before .before .put-run .ensures)
+    mark-published-put (now (s .args .map)) (s .pre) (l .loop .inv) h (o .touches .ensures) (i2 .if2 .left) (c .before .before .put-run .ensures)
 
 mul-put-run-2 : tie.Need-mul-put-run-2 Inv-loop μ-loop
 mul-put-run-2 c =
     let u = c .before .before .before .before .before .before .before in
     let s = u .before .before .before in
-    let r = settle-last (now (s .args .map)) (s .pre) (c .before .before .loop .inv) (c .before .loop-test .left) (u .runs-in .ensures) in
+    let r = mark-published-last (now (s .args .map)) (s .pre) (c .before .before .loop .inv) (c .before .loop-test .left) (u .runs-in .ensures) in
     omega (arith, s .good)
 
 put-run-requires-2 : tie.Need-put-run-requires-2 Inv-loop μ-loop
 put-run-requires-2 c κs =
     let u = c .before .before .before .before .before .before .before in
     let s = u .before .before .before in
-    let r = settle-last (now (s .args .map)) (s .pre) (c .before .before .loop .inv) (c .before .loop-test .left) (u .runs-in .ensures) in
+    let r = mark-published-last (now (s .args .map)) (s .pre) (c .before .before .loop .inv) (c .before .loop-test .left) (u .runs-in .ensures) in
     omega (arith, s .good)
 
 mul-clear-from : tie.Need-mul-clear-from Inv-loop μ-loop
@@ -211,7 +211,7 @@ mul-clear-from c =
     let l = t .before in
     let u = l .before .before .before .before .before in
     let s = u .before .before .before in
-    let r = settle-last (now (s .args .map)) (s .pre) (l .loop .inv) (t .loop-test .left) (u .runs-in .ensures) in
+    let r = mark-published-last (now (s .args .map)) (s .pre) (l .loop .inv) (t .loop-test .left) (u .runs-in .ensures) in
     omega (arith, s .good)
 
 add-clear-from : tie.Need-add-clear-from Inv-loop μ-loop
@@ -220,7 +220,7 @@ add-clear-from c =
     let l = t .before in
     let u = l .before .before .before .before .before in
     let s = u .before .before .before in
-    let r = settle-last (now (s .args .map)) (s .pre) (l .loop .inv) (t .loop-test .left) (u .runs-in .ensures) in
+    let r = mark-published-last (now (s .args .map)) (s .pre) (l .loop .inv) (t .loop-test .left) (u .runs-in .ensures) in
     omega (arith, s .good)
 
 mul-clear-from-2 : tie.Need-mul-clear-from-2 Inv-loop μ-loop
@@ -229,7 +229,7 @@ mul-clear-from-2 c =
     let l = t .before in
     let u = l .before .before .before .before .before in
     let s = u .before .before .before in
-    let r = settle-last (now (s .args .map)) (s .pre) (l .loop .inv) (t .loop-test .left) (u .runs-in .ensures) in
+    let r = mark-published-last (now (s .args .map)) (s .pre) (l .loop .inv) (t .loop-test .left) (u .runs-in .ensures) in
     omega (arith, s .good)
 
 clear-from-requires : tie.Need-clear-from-requires Inv-loop μ-loop
@@ -238,7 +238,7 @@ clear-from-requires c κs =
     let l = t .before in
     let u = l .before .before .before .before .before in
     let s = u .before .before .before in
-    let r = settle-last (now (s .args .map)) (s .pre) (l .loop .inv) (t .loop-test .left) (u .runs-in .ensures) in
+    let r = mark-published-last (now (s .args .map)) (s .pre) (l .loop .inv) (t .loop-test .left) (u .runs-in .ensures) in
     (omega arith, omega (arith, c .before .before .before .put-run2 .kept .0))
 
 same-length-2 : tie.Need-same-length-2 Inv-loop μ-loop
@@ -246,7 +246,7 @@ same-length-2 c =
     let p = c .before .before .before .before .before .before in
     let l = p .before .before .before in
     let s = l .before .before .before .before .before .before .before .before in
-    c .before .before .clear-from .kept .0 ∙ p .put-run2 .kept .0 ∙ settle-length (now (s .args .map)) (s .pre) (l .loop .inv)
+    c .before .before .clear-from .kept .0 ∙ p .put-run2 .kept .0 ∙ mark-published-length (now (s .args .map)) (s .pre) (l .loop .inv)
 
 returns-2 : tie.Need-returns-2 Inv-loop μ-loop
 returns-2 c =
@@ -254,12 +254,12 @@ returns-2 c =
     let l = t .before in
     let u = l .before .before .before .before .before in
     let s = u .before .before .before in
-    let r = settle-last (now (s .args .map)) (s .pre) (l .loop .inv) (t .loop-test .left) (u .runs-in .ensures) in
-    settle-end (now (s .args .map)) (s .pre) (l .loop .inv) (r .1) (u .runs-in .ensures)
+    let r = mark-published-last (now (s .args .map)) (s .pre) (l .loop .inv) (t .loop-test .left) (u .runs-in .ensures) in
+    mark-published-end (now (s .args .map)) (s .pre) (l .loop .inv) (r .1) (u .runs-in .ensures)
     (c .before .before .before .before .before .before .put-run2 .ensures) (c .before .before .clear-from .ensures)
 
-pub settle-all-spec : {M : Type 1} → statement M
-settle-all-spec =
+pub mark-all-published-spec : {M : Type 1} → statement M
+mark-all-published-spec =
     tie.close
     (tie.spec
     Inv-loop

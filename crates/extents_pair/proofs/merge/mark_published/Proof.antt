@@ -1,4 +1,4 @@
--- `extents_pair::merge::settle` meets its contract. Assumes nothing.
+-- `extents_pair::merge::mark_published` meets its contract.
 use Prim.Native.Nat.{_+_, _*_, _-_, _≤_, _<_}
 use native.Mathlib.Omega.{arith}
 use mathlib.Core.Path.{_≡_, _∙_}
@@ -7,8 +7,8 @@ use lib.ListN.{length}
 use denote.Ref.{now}
 use Rattle.extents_meaning.specs.Maps.{runs}
 use Rattle.extents_pair.proofs.Clearing.{Clearing, clear-start, clear-room, clear-all, clear-end, clear-skip, clear-one}
-use Rattle.extents_pair.proofs.merge.settle.Statement.{statement}
-use Rattle.extents_pair.proofs.merge.settle.Tie as tie
+use Rattle.extents_pair.proofs.merge.mark_published.Statement.{statement}
+use Rattle.extents_pair.proofs.merge.mark_published.Tie as tie
 
 abbrev Inv-loop : tie.InvT-loop
 Inv-loop map₀ own left₀ i₀ map left i = Clearing map₀ map left i
@@ -40,19 +40,19 @@ slice-read-if1 c = omega (arith, room (c .before) .1)
 joins-requires : tie.Need-joins-requires Inv-loop μ-loop
 joins-requires c κs = (c .before .before .before .before .loop .inv .law, room (c .before .before .before) .0)
 
-settle-all-requires : tie.Need-settle-all-requires Inv-loop μ-loop
-settle-all-requires c κs = c .before .before .before .before .before .before .before .loop .inv .law
+mark-all-published-requires : tie.Need-mark-all-published-requires Inv-loop μ-loop
+mark-all-published-requires c κs = c .before .before .before .before .before .before .before .loop .inv .law
 
 same-length : tie.Need-same-length Inv-loop μ-loop
 same-length c =
     let a = c .before .before in
-    a .settle-all .kept .0 ∙ a .before .before .before .before .before .before .before .before .loop .inv .same
+    a .mark-all-published .kept .0 ∙ a .before .before .before .before .before .before .before .before .loop .inv .same
 
 returns : tie.Need-returns Inv-loop μ-loop
 returns c =
     let a = c .before .before in
     let l = a .before .before .before .before .before .before .before .before in
-    clear-all (now (l .before .before .args .map)) (l .loop .inv) (a .settle-all .ensures)
+    clear-all (now (l .before .before .args .map)) (l .loop .inv) (a .mark-all-published .ensures)
 
 mul-map : tie.Need-mul-map Inv-loop μ-loop
 mul-map c =
@@ -103,8 +103,8 @@ same-length-2 c = c .before .loop .inv .same
 returns-2 : tie.Need-returns-2 Inv-loop μ-loop
 returns-2 c = let l = c .before in clear-end (now (l .before .before .args .map)) (l .loop .inv) (c .loop-test .left)
 
-pub settle-spec : {M : Type 1} → statement M
-settle-spec =
+pub mark-published-spec : {M : Type 1} → statement M
+mark-published-spec =
     tie.close
     (tie.spec
     Inv-loop
@@ -115,7 +115,7 @@ settle-spec =
     mul-if1-2
     slice-read-if1
     joins-requires
-    settle-all-requires
+    mark-all-published-requires
     same-length
     returns
     mul-map

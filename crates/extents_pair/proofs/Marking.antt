@@ -1,4 +1,4 @@
--- Settling a map in place, from the front, with the last run in hand: what the loop keeps. Assumes nothing.
+-- Marking a map in place, from the front, with the last run in hand: what the loop keeps.
 use Prim.Native.Nat.{ℕ, zero, suc, _+_, _*_, _-_, _≤_, _<_}
 use native.Mathlib.Numerals.{add-one}
 use native.Mathlib.Omega.{arith}
@@ -10,7 +10,7 @@ use lib.Seq.{length-take-le, append-snoc, drop-cons, drop-at, take-at, getD-appe
 use lib.Dec.{eqb}
 use borrow.Author.Tests.{eqb-true}
 use Rattle.rows.specs.Limits.{OFFSET-MAX}
-use Rattle.extents_meaning.specs.Cells.{cellOf, numberIn, markIn, settled}
+use Rattle.extents_meaning.specs.Cells.{cellOf, numberIn, markIn, asPublished}
 use Rattle.extents_meaning.specs.Runs.{Run, runOf, runsOf, Rising}
 use Rattle.extents_meaning.specs.Maps.{fours, mapOf, mapFor, spaceIn, runs, bytesOf, lawful}
 use Rattle.extents_meaning.proofs.Trips.{length-fours, lawful-map, rest-at, map-none, behind-there}
@@ -35,7 +35,7 @@ unfolding fours
 fours-none = refl
 
 -- what the loop keeps: a run in hand, of `number` and published, those put before it, and the runs not yet read
-pub record Settling (xs₀ xs : List ℕ) (start size number n i : ℕ) : Type 0 where
+pub record Marking (xs₀ xs : List ℕ) (start size number n i : ℕ) : Type 0 where
   pub older : List Run
   pub mid : List ℕ
   pub count : length older ≡ n
@@ -44,7 +44,7 @@ pub record Settling (xs₀ xs : List ℕ) (start size number n i : ℕ) : Type 0
   pub behind : n < i
   pub passed : i ≤ length (runs xs₀)
   pub inside : start + size ≤ OFFSET-MAX
-  pub result : runsOf (settled (bytesOf xs₀)) ≡ older ++ glue start size number (drop i (runs xs₀))
+  pub result : runsOf (asPublished (bytesOf xs₀)) ≡ older ++ glue start size number (drop i (runs xs₀))
 
 module _ (xs₀ : List ℕ) (law : lawful xs₀ ≡ true) where
   -- the runs fit
@@ -52,15 +52,15 @@ module _ (xs₀ : List ℕ) (law : lawful xs₀ ≡ true) where
   fit = let m = lawful-map xs₀ law in omega (arith, m .fit, m .fours-in)
 
   -- no run: the map is as it should be
-  pub settle-none : length (runs xs₀) ≡ 0 → xs₀ ≡ mapFor (spaceIn xs₀) (settled (bytesOf xs₀))
-  settle-none h =
+  pub mark-published-none : length (runs xs₀) ≡ 0 → xs₀ ≡ mapFor (spaceIn xs₀) (asPublished (bytesOf xs₀))
+  mark-published-none h =
       let m = lawful-map xs₀ law in
       let e : runs xs₀ ≡ [] = drop-none (runs xs₀) h in
       m .whole ∙ ap (mapOf (spaceIn xs₀)) (e ∙ sym (glue-none (runs xs₀) h))
 
   -- the first run in hand
-  pub settle-start : 0 < length (runs xs₀) → Settling xs₀ xs₀ (getD xs₀ 0 0) (getD xs₀ 1 0) (getD xs₀ 2 0) 0 1
-  settle-start h =
+  pub mark-published-start : 0 < length (runs xs₀) → Marking xs₀ xs₀ (getD xs₀ 0 0) (getD xs₀ 1 0) (getD xs₀ 2 0) 0 1
+  mark-published-start h =
       let e = here-at xs₀ law 0 h in
       let l = length-take-le 4 xs₀ (omega (arith, fit)) in
       record {
@@ -77,10 +77,10 @@ module _ (xs₀ : List ℕ) (law : lawful xs₀ ≡ true) where
             ∙ (λ j. glue (sym (e .start) j) (sym (e .size) j) (sym (e .number) j) (drop 1 (runs xs₀)));
       }
 
-  module _ {xs : List ℕ} {start size number n i : ℕ} (k : Settling xs₀ xs start size number n i) where
+  module _ {xs : List ℕ} {start size number n i : ℕ} (k : Marking xs₀ xs start size number n i) where
     -- the length is kept
-    pub settle-length : length xs ≡ length xs₀
-    settle-length =
+    pub mark-published-length : length xs ≡ length xs₀
+    mark-published-length =
         omega (
           arith,
           ap length (k .slice),
@@ -95,17 +95,17 @@ module _ (xs₀ : List ℕ) (law : lawful xs₀ ≡ true) where
         )
 
     -- the next run is in the slice, and so is the place to put the one in hand
-    pub settle-room : {all : ℕ} → i < all → all ≡ length (runs xs₀) → (i * 4 + 4 ≤ length xs) × (n < i) × (length xs ≡ length xs₀)
-    settle-room h e = (omega (arith, settle-length, fit), k .behind, settle-length)
+    pub mark-published-room : {all : ℕ} → i < all → all ≡ length (runs xs₀) → (i * 4 + 4 ≤ length xs) × (n < i) × (length xs ≡ length xs₀)
+    mark-published-room h e = (omega (arith, mark-published-length, fit), k .behind, mark-published-length)
 
     -- at the end too
-    pub settle-last : {all : ℕ} → all ≤ i → all ≡ length (runs xs₀) → (n < all) × (i ≡ all) × (all * 4 ≤ length xs) × (length xs ≡ length xs₀)
-    settle-last h e =
-        (omega (arith, k .behind, k .passed), omega (arith, k .passed), omega (arith, settle-length, fit), settle-length)
+    pub mark-published-last : {all : ℕ} → all ≤ i → all ≡ length (runs xs₀) → (n < all) × (i ≡ all) × (all * 4 ≤ length xs) × (length xs ≡ length xs₀)
+    mark-published-last h e =
+        (omega (arith, k .behind, k .passed), omega (arith, k .passed), omega (arith, mark-published-length, fit), mark-published-length)
 
     -- the next run is read
-    pub settle-here : i < length (runs xs₀) → Here xs (i * 4) (getD (runs xs₀) i noRun)
-    settle-here h = here-same (here-at xs₀ law i h) (λ q _. there q)
+    pub mark-published-here : i < length (runs xs₀) → Here xs (i * 4) (getD (runs xs₀) i noRun)
+    mark-published-here h = here-same (here-at xs₀ law i h) (λ q _. there q)
       where
         front : length (fours (k .older) ++ k .mid) ≡ 4 * i
         front = omega (arith, length-append (fours (k .older)) (k .mid), length-fours (k .older), k .count, k .room)
@@ -118,9 +118,9 @@ module _ (xs₀ : List ℕ) (law : lawful xs₀ ≡ true) where
             ∙ getD-drop (4 * i) xs₀ q 0
 
     -- its bounds, as the code reads it
-    pub settle-inside : i < length (runs xs₀) → getD xs (i * 4) 0 + getD xs (i * 4 + 1) 0 ≤ OFFSET-MAX
-    settle-inside h =
-        let e = settle-here h in
+    pub mark-published-inside : i < length (runs xs₀) → getD xs (i * 4) 0 + getD xs (i * 4 + 1) 0 ≤ OFFSET-MAX
+    mark-published-inside h =
+        let e = mark-published-here h in
         omega (arith, e .start, e .size, next-at OFFSET-MAX 0 0 (runs xs₀) i (lawful-map xs₀ law .lawful-runs .in-order) h)
 
     -- the room before the runs behind it
@@ -150,14 +150,14 @@ module _ (xs₀ : List ℕ) (law : lawful xs₀ ≡ true) where
     -- the test, of the run
     test : i < length (runs xs₀) → {b t : Bool} → b ≡ eqb (start + size) (getD xs (i * 4) 0) && eqb number (getD xs (i * 4 + 2) 0) → b ≡ t →
         eqb (start + size) (getD (runs xs₀) i noRun .start) && eqb number (numberIn (getD (runs xs₀) i noRun .cell)) ≡ t
-    test h e t = let r = settle-here h in (λ j. eqb (start + size) (sym (r .start) j) && eqb number (sym (r .number) j)) ∙ sym e ∙ t
+    test h e t = let r = mark-published-here h in (λ j. eqb (start + size) (sym (r .start) j) && eqb number (sym (r .number) j)) ∙ sym e ∙ t
 
     -- it is joined to the run in hand
-    pub settle-join : i < length (runs xs₀) → {b : Bool} →
+    pub mark-published-join : i < length (runs xs₀) → {b : Bool} →
         b ≡ eqb (start + size) (getD xs (i * 4) 0) && eqb number (getD xs (i * 4 + 2) 0) → b ≡ true →
-        Settling xs₀ xs start (size + getD xs (i * 4 + 1) 0) number n (i + 1)
-    settle-join h e t =
-        let r = settle-here h in
+        Marking xs₀ xs start (size + getD xs (i * 4 + 1) 0) number n (i + 1)
+    mark-published-join h e t =
+        let r = mark-published-here h in
         record {
           older = k .older;
           mid = more;
@@ -166,7 +166,7 @@ module _ (xs₀ : List ℕ) (law : lawful xs₀ ≡ true) where
           room = more-room h;
           behind = omega (arith, k .behind);
           passed = omega arith;
-          inside = omega (arith, eqb-true (start + size) (getD xs (i * 4) 0) (and-out _ _ (sym e ∙ t) .0), settle-inside h);
+          inside = omega (arith, eqb-true (start + size) (getD xs (i * 4) 0) (and-out _ _ (sym e ∙ t) .0), mark-published-inside h);
           result =
               k .result
               ∙ ap (λ (q : List Run). k .older ++ q)
@@ -175,12 +175,12 @@ module _ (xs₀ : List ℕ) (law : lawful xs₀ ≡ true) where
         }
 
     -- or the run in hand is put, and it is taken in hand
-    pub settle-put : i < length (runs xs₀) → {b : Bool} →
+    pub mark-published-put : i < length (runs xs₀) → {b : Bool} →
         b ≡ eqb (start + size) (getD xs (i * 4) 0) && eqb number (getD xs (i * 4 + 2) 0) → b ≡ false →
         {ys : List ℕ} → ys ≡ putAt xs (n * 4) start size number 0 →
-        Settling xs₀ ys (getD xs (i * 4) 0) (getD xs (i * 4 + 1) 0) (getD xs (i * 4 + 2) 0) (n + 1) (i + 1)
-    settle-put h e f p =
-        let r = settle-here h in
+        Marking xs₀ ys (getD xs (i * 4) 0) (getD xs (i * 4 + 1) 0) (getD xs (i * 4 + 2) 0) (n + 1) (i + 1)
+    mark-published-put h e f p =
+        let r = mark-published-here h in
         let o = runOf start size (cellOf number 0) in
         let a : number ≡ numberIn (cellOf number 0) = omega arith in
         let b : 0 ≡ markIn (cellOf number 0) = omega arith in
@@ -194,7 +194,7 @@ module _ (xs₀ : List ℕ) (law : lawful xs₀ ≡ true) where
           room = omega (arith, length-drop 4 more, more-room h, k .behind);
           behind = omega (arith, k .behind);
           passed = omega arith;
-          inside = settle-inside h;
+          inside = mark-published-inside h;
           result =
               k .result
               ∙ ap (λ (q : List Run). k .older ++ q)
@@ -204,10 +204,10 @@ module _ (xs₀ : List ℕ) (law : lawful xs₀ ≡ true) where
         }
 
     -- at the end it is put, and the rest is 0
-    pub settle-end : {all : ℕ} → i ≡ all → all ≡ length (runs xs₀) → {ys zs : List ℕ} → ys ≡ putAt xs (n * 4) start size number 0 →
-        zs ≡ zeroed ys (n * 4 + 4) (all * 4) → zs ≡ mapFor (spaceIn xs₀) (settled (bytesOf xs₀))
+    pub mark-published-end : {all : ℕ} → i ≡ all → all ≡ length (runs xs₀) → {ys zs : List ℕ} → ys ≡ putAt xs (n * 4) start size number 0 →
+        zs ≡ zeroed ys (n * 4 + 4) (all * 4) → zs ≡ mapFor (spaceIn xs₀) (asPublished (bytesOf xs₀))
     unfolding mapOf
-    settle-end {all} u v {ys} {zs} p q =
+    mark-published-end {all} u v {ys} {zs} p q =
         let o = runOf start size (cellOf number 0) in
         let done = k .older ++ (o ∷ []) in
         let tail = drop (4 * i) xs₀ in
@@ -217,7 +217,7 @@ module _ (xs₀ : List ℕ) (law : lawful xs₀ ≡ true) where
         let g : 4 ≤ length (k .mid) = omega (arith, k .room, k .behind) in
         let e : ys ≡ fours done ++ (drop 4 (k .mid) ++ tail) =
         p ∙ put-behind xs [] (k .older) (k .mid) tail (n * 4) o start size number 0 (k .slice) w g refl refl a b in
-        let whole : runsOf (settled (bytesOf xs₀)) ≡ done =
+        let whole : runsOf (asPublished (bytesOf xs₀)) ≡ done =
         k .result ∙ ap (λ (r : List Run). k .older ++ r) (glue-last start size number (drop i (runs xs₀)) (drop-of-length-le (runs xs₀) low)) in
         let l : length (fours done) ≡ n * 4 + 4 = omega (arith, length-fours done, length-append (k .older) (o ∷ []), k .count) in
         let c : length (fours done ++ drop 4 (k .mid)) ≡ i * 4 =

@@ -1,21 +1,21 @@
--- `extents::lawful::post` meets its contract. Assumes nothing.
+-- `extents::lawful::write_through` meets its contract.
 use borrow.Author.Needs.{needs}
-use Rattle.extents.proofs.Doubles.{view-in-posted, view-law-posted, own-posted, view-in-settled, view-law-settled, post-lay, post-done, post-empty, post-enough, post-short, settle-enough, settle-short, cell-zero, post-low, post-high, post-past, post-full, post-view-full, post-share}
+use Rattle.extents.proofs.Doubles.{view-in-written-through, view-law-written-through, own-written-through, view-in-as-published, view-law-as-published, write-through-lay, write-through-done, write-through-empty, write-through-enough, write-through-short, mark-published-enough, mark-published-short, cell-zero, write-through-low, write-through-high, write-through-past, write-through-full, write-through-view-full, write-through-share}
 use Rattle.extents.proofs.Entering.{cell-fine, refused}
-use Rattle.extents.specs.Entries.{postedMaps}
+use Rattle.extents.specs.Entries.{writtenThroughMaps}
 use mathlib.Core.Bool.{false}
 use Rattle.extents.specs.declared.Answer.the-variants.{Done}
 use denote.Ref.{now}
 use native.Mathlib.Omega.{arith}
 use Rattle.extents_pair.proofs.Pairing.{two-told}
-use Rattle.extents.proofs.lawful.post.Statement.{statement}
-use Rattle.extents.proofs.lawful.post.Tie as tie
+use Rattle.extents.proofs.lawful.write_through.Statement.{statement}
+use Rattle.extents.proofs.lawful.write_through.Tie as tie
 
 returns : tie.Need-returns
 returns c =
     let p2 = c .before .before in
     let a = p2 .args in
-    refused 14 Done (postedMaps (a .space) (a .view) (a .below) (now (a .maps)) (a .start) (a .length) (a .number)) (now (a .maps)) (post-low
+    refused 14 Done (writtenThroughMaps (a .space) (a .view) (a .below) (now (a .maps)) (a .start) (a .length) (a .number)) (now (a .maps)) (write-through-low
     (a .space) (a .view) (a .below) (now (a .maps)) (a .start) (a .length) (a .number) (omega arith) (omega arith) (p2 .pre) (c .if1 .taken)) (omega
     arith)
 
@@ -23,7 +23,7 @@ returns-2 : tie.Need-returns-2
 returns-2 c =
     let p3 = c .before .before .before in
     let a = p3 .args in
-    refused 14 Done (postedMaps (a .space) (a .view) (a .below) (now (a .maps)) (a .start) (a .length) (a .number)) (now (a .maps)) (post-high
+    refused 14 Done (writtenThroughMaps (a .space) (a .view) (a .below) (now (a .maps)) (a .start) (a .length) (a .number)) (now (a .maps)) (write-through-high
     (a .space) (a .view) (a .below) (now (a .maps)) (a .start) (a .length) (a .number) (omega arith) (omega arith) (p3 .pre) (c .if2 .taken)) (omega
     arith)
 
@@ -34,7 +34,7 @@ returns-3 : tie.Need-returns-3
 returns-3 c =
     let p4 = c .before .before .before .before in
     let a = p4 .args in
-    refused 11 Done (postedMaps (a .space) (a .view) (a .below) (now (a .maps)) (a .start) (a .length) (a .number)) (now (a .maps)) (post-past
+    refused 11 Done (writtenThroughMaps (a .space) (a .view) (a .below) (now (a .maps)) (a .start) (a .length) (a .number)) (now (a .maps)) (write-through-past
     (a .space) (a .view) (a .below) (now (a .maps)) (a .start) (a .length) (a .number) (omega arith) (omega arith) (p4 .pre) (omega (
       arith,
       c .before .before .if1 .left,
@@ -70,12 +70,12 @@ returns-4 c =
     let p7 = p6 .before in
     let p9 = p7 .before .before in
     let a = p9 .args in
-    refused 16 Done (postedMaps (a .space) (a .view) (a .below) (now (a .maps)) (a .start) (a .length) (a .number)) (now (a .maps)) (post-full
+    refused 16 Done (writtenThroughMaps (a .space) (a .view) (a .below) (now (a .maps)) (a .start) (a .length) (a .number)) (now (a .maps)) (write-through-full
     (a .space) (a .view) (a .below) (now (a .maps)) (a .start) (a .length) (a .number) (omega arith) (omega arith) (p9 .pre) (omega (
       arith,
       p7 .if1 .left,
     )) (omega (arith, p6 .if2 .left)) (omega (arith, p5 .if3 .left))
-    (post-short (a .space) (a .view) (a .below) (now (a .maps)) (a .start) (a .length) (a .number) (cell-zero
+    (write-through-short (a .space) (a .view) (a .below) (now (a .maps)) (a .start) (a .length) (a .number) (cell-zero
     (a .number)) (c .before .fits2 .ensures) (c .if4 .taken))) (omega arith)
 
 fits-requires-2 : tie.Need-fits-requires-2
@@ -94,12 +94,12 @@ returns-5 c =
     let p10 = p9 .before in
     let p12 = p10 .before .before in
     let a = p12 .args in
-    refused 16 Done (postedMaps (a .space) (a .view) (a .below) (now (a .maps)) (a .start) (a .length) (a .number)) (now (a .maps)) (post-view-full
+    refused 16 Done (writtenThroughMaps (a .space) (a .view) (a .below) (now (a .maps)) (a .start) (a .length) (a .number)) (now (a .maps)) (write-through-view-full
     (a .space) (a .view) (a .below) (now (a .maps)) (a .start) (a .length) (a .number) (omega arith) (omega arith) (p12 .pre) (omega (
       arith,
       p10 .if1 .left,
     )) (omega (arith, p9 .if2 .left)) (omega (arith, p8 .if3 .left))
-    (settle-short (a .space) (a .view) (a .below) (now (a .maps)) (a .start) (a .length) (a .number) (cell-zero
+    (mark-published-short (a .space) (a .view) (a .below) (now (a .maps)) (a .start) (a .length) (a .number) (cell-zero
     (a .number)) (c .before .fits3 .ensures) (c .if5 .taken))) (omega arith)
 
 share-requires : tie.Need-share-requires
@@ -120,18 +120,18 @@ share-requires c κs =
           omega (arith, p10 .if2 .left),
           p7 .own-runs .ensures,
         ),
-        post-share (a .space) (a .view) (a .below) (now (a .maps)) (a .start) (a .length) (a .number) (omega arith) (omega
+        write-through-share (a .space) (a .view) (a .below) (now (a .maps)) (a .start) (a .length) (a .number) (omega arith) (omega
             arith) (p13 .pre) (omega (arith, p11 .if1 .left)) (omega (
               arith,
               p10 .if2 .left,
-            )) (omega (arith, p9 .if3 .left)) (post-enough (a .space) (a .view) (a .below) (now (a .maps))
-            (a .start) (a .length) (a .number) (cell-zero (a .number)) (p5 .fits2 .ensures) (p4 .if4 .left)) (settle-enough (a .space) (a .view)
+            )) (omega (arith, p9 .if3 .left)) (write-through-enough (a .space) (a .view) (a .below) (now (a .maps))
+            (a .start) (a .length) (a .number) (cell-zero (a .number)) (p5 .fits2 .ensures) (p4 .if4 .left)) (mark-published-enough (a .space) (a .view)
             (a .below) (now (a .maps)) (a .start) (a .length) (a .number) (cell-zero (a .number)) (c .before .before .fits3 .ensures) (c .before .if5 .left)),
       ),
     )
 
-settle-requires : tie.Need-settle-requires
-settle-requires c κs =
+mark-published-requires : tie.Need-mark-published-requires
+mark-published-requires c κs =
     let p3 = c .before .before .before in
     let p5 = p3 .before .before in
     let p6 = p5 .before in
@@ -144,14 +144,14 @@ settle-requires c κs =
     let p17 = p15 .before .before in
     let a = p17 .args in
     let xs = now (a .maps) in
-    let m = post-enough (a .space) (a .view) (a .below) xs (a .start) (a .length) (a .number) (cell-zero (a .number)) (p9 .fits2 .ensures) (p8 .if4 .left) in
-    let n = settle-enough (a .space) (a .view) (a .below) xs (a .start) (a .length) (a .number) (cell-zero (a .number)) (p6 .fits3 .ensures) (p5 .if5 .left) in (
-      view-in-posted (a .space) (a .view) (a .below) xs (a .start) (a .length) (a .number) (omega arith) (omega arith) (p17 .pre)
+    let m = write-through-enough (a .space) (a .view) (a .below) xs (a .start) (a .length) (a .number) (cell-zero (a .number)) (p9 .fits2 .ensures) (p8 .if4 .left) in
+    let n = mark-published-enough (a .space) (a .view) (a .below) xs (a .start) (a .length) (a .number) (cell-zero (a .number)) (p6 .fits3 .ensures) (p5 .if5 .left) in (
+      view-in-written-through (a .space) (a .view) (a .below) xs (a .start) (a .length) (a .number) (omega arith) (omega arith) (p17 .pre)
           (omega (arith, p15 .if1 .left)) (omega (arith, p14 .if2 .left)) (omega (arith, p13 .if3 .left)) m n (p3 .share .ensures),
       (
-        view-law-posted (a .space) (a .view) (a .below) xs (a .start) (a .length) (a .number) (omega arith) (omega arith) (p17 .pre)
+        view-law-written-through (a .space) (a .view) (a .below) xs (a .start) (a .length) (a .number) (omega arith) (omega arith) (p17 .pre)
             (omega (arith, p15 .if1 .left)) (omega (arith, p14 .if2 .left)) (omega (arith, p13 .if3 .left)) m n (p3 .share .ensures),
-        own-posted (a .space) (a .view) (a .below) xs (a .start) (a .length) (a .number) (omega arith) (omega arith) (p17 .pre)
+        own-written-through (a .space) (a .view) (a .below) xs (a .start) (a .length) (a .number) (omega arith) (omega arith) (p17 .pre)
             (omega (arith, p15 .if1 .left)) (omega (arith, p14 .if2 .left)) (omega (arith, p13 .if3 .left)) m n (p3 .share .ensures) (p11 .own-runs .ensures),
       ),
     )
@@ -169,30 +169,30 @@ lay-requires c κs =
     let p20 = p19 .before in
     let p22 = p20 .before .before in
     let a = p22 .args in (
-      view-in-settled (a .space) (a .view) (a .below) (now (a .maps)) (a .start) (a .length) (a .number) (omega arith) (omega arith) (p22 .pre)
+      view-in-as-published (a .space) (a .view) (a .below) (now (a .maps)) (a .start) (a .length) (a .number) (omega arith) (omega arith) (p22 .pre)
           (omega (arith, p20 .if1 .left)) (omega (arith, p19 .if2 .left))
-          (omega (arith, p18 .if3 .left)) (post-enough (a .space) (a .view) (a .below) (now (a .maps)) (a .start) (a .length)
-          (a .number) (cell-zero (a .number)) (p14 .fits2 .ensures) (p13 .if4 .left)) (settle-enough (a .space) (a .view) (a .below) (now
+          (omega (arith, p18 .if3 .left)) (write-through-enough (a .space) (a .view) (a .below) (now (a .maps)) (a .start) (a .length)
+          (a .number) (cell-zero (a .number)) (p14 .fits2 .ensures) (p13 .if4 .left)) (mark-published-enough (a .space) (a .view) (a .below) (now
           (a .maps)) (a .start) (a .length) (a .number) (cell-zero (a .number)) (p11 .fits3 .ensures) (p10 .if5 .left)) (p8 .share .ensures)
-          (p4 .settle .ensures),
+          (p4 .mark-published .ensures),
       (
-        view-law-settled (a .space) (a .view) (a .below) (now (a .maps)) (a .start) (a .length) (a .number) (omega arith) (omega arith) (p22 .pre)
+        view-law-as-published (a .space) (a .view) (a .below) (now (a .maps)) (a .start) (a .length) (a .number) (omega arith) (omega arith) (p22 .pre)
             (omega (arith, p20 .if1 .left)) (omega (arith, p19 .if2 .left))
-            (omega (arith, p18 .if3 .left)) (post-enough (a .space) (a .view) (a .below) (now (a .maps)) (a .start) (a .length)
-            (a .number) (cell-zero (a .number)) (p14 .fits2 .ensures) (p13 .if4 .left)) (settle-enough (a .space) (a .view) (a .below) (now
+            (omega (arith, p18 .if3 .left)) (write-through-enough (a .space) (a .view) (a .below) (now (a .maps)) (a .start) (a .length)
+            (a .number) (cell-zero (a .number)) (p14 .fits2 .ensures) (p13 .if4 .left)) (mark-published-enough (a .space) (a .view) (a .below) (now
             (a .maps)) (a .start) (a .length) (a .number) (cell-zero (a .number)) (p11 .fits3 .ensures) (p10 .if5 .left)) (p8 .share .ensures)
-            (p4 .settle .ensures),
+            (p4 .mark-published .ensures),
         (
           (c .before .if6 .taken, cell-fine (a .number) false (omega (arith, p20 .if1 .left)) (omega (arith, p19 .if2 .left)) (cell-zero (a .number))),
-          post-lay
+          write-through-lay
               (a .space) (a .view) (a .below) (now (a .maps)) (a .start) (a .length) (a .number) (omega arith) (omega arith) (p22 .pre) (omega
               (arith, p20 .if1 .left)) (omega (arith, p19 .if2 .left)) (omega (
                 arith,
                 p18 .if3 .left,
-              )) (post-enough (a .space) (a .view) (a .below) (now (a .maps)) (a .start) (a .length) (a .number)
-              (cell-zero (a .number)) (p14 .fits2 .ensures) (p13 .if4 .left)) (settle-enough (a .space) (a .view) (a .below) (now (a .maps))
+              )) (write-through-enough (a .space) (a .view) (a .below) (now (a .maps)) (a .start) (a .length) (a .number)
+              (cell-zero (a .number)) (p14 .fits2 .ensures) (p13 .if4 .left)) (mark-published-enough (a .space) (a .view) (a .below) (now (a .maps))
               (a .start) (a .length) (a .number) (cell-zero (a .number)) (p11 .fits3 .ensures) (p10 .if5 .left)) (p8 .share .ensures)
-              (p4 .settle .ensures) (cell-zero
+              (p4 .mark-published .ensures) (cell-zero
               (a .number)),
         ),
       ),
@@ -214,12 +214,12 @@ returns-6 c =
     let p23 = p22 .before in
     let p25 = p23 .before .before in
     let a = p25 .args in
-    post-done (a .space) (a .view) (a .below) (now (a .maps)) (a .start) (a .length) (a .number) (omega arith) (omega arith) (p25 .pre) (omega
+    write-through-done (a .space) (a .view) (a .below) (now (a .maps)) (a .start) (a .length) (a .number) (omega arith) (omega arith) (p25 .pre) (omega
     (arith, p23 .if1 .left)) (omega (arith, p22 .if2 .left))
-    (omega (arith, p21 .if3 .left)) (post-enough (a .space) (a .view) (a .below) (now (a .maps)) (a .start) (a .length)
-    (a .number) (cell-zero (a .number)) (p17 .fits2 .ensures) (p16 .if4 .left)) (settle-enough (a .space) (a .view) (a .below) (now
+    (omega (arith, p21 .if3 .left)) (write-through-enough (a .space) (a .view) (a .below) (now (a .maps)) (a .start) (a .length)
+    (a .number) (cell-zero (a .number)) (p17 .fits2 .ensures) (p16 .if4 .left)) (mark-published-enough (a .space) (a .view) (a .below) (now
     (a .maps)) (a .start) (a .length) (a .number) (cell-zero (a .number)) (p14 .fits3 .ensures) (p13 .if5 .left)) (p11 .share .ensures)
-    (p7 .settle .ensures)
+    (p7 .mark-published .ensures)
     (cell-zero (a .number)) (c .before .before .lay .ensures)
 
 same-length-4 : tie.Need-same-length-4
@@ -238,16 +238,16 @@ returns-7 c =
     let p19 = p18 .before in
     let p21 = p19 .before .before in
     let a = p21 .args in
-    post-empty (a .space) (a .view) (a .below) (now (a .maps)) (a .start) (a .length) (a .number) (omega arith) (omega arith) (p21 .pre) (omega
+    write-through-empty (a .space) (a .view) (a .below) (now (a .maps)) (a .start) (a .length) (a .number) (omega arith) (omega arith) (p21 .pre) (omega
     (arith, p19 .if1 .left)) (omega (arith, p18 .if2 .left))
-    (omega (arith, p17 .if3 .left)) (post-enough (a .space) (a .view) (a .below) (now (a .maps)) (a .start) (a .length)
-    (a .number) (cell-zero (a .number)) (p13 .fits2 .ensures) (p12 .if4 .left)) (settle-enough (a .space) (a .view) (a .below) (now
+    (omega (arith, p17 .if3 .left)) (write-through-enough (a .space) (a .view) (a .below) (now (a .maps)) (a .start) (a .length)
+    (a .number) (cell-zero (a .number)) (p13 .fits2 .ensures) (p12 .if4 .left)) (mark-published-enough (a .space) (a .view) (a .below) (now
     (a .maps)) (a .start) (a .length) (a .number) (cell-zero (a .number)) (p10 .fits3 .ensures) (p9 .if5 .left)) (p7 .share .ensures)
-    (p3 .settle .ensures)
+    (p3 .mark-published .ensures)
     (c .if6 .left)
 
-pub post-spec : {M : Type 1} → statement M
-post-spec =
+pub write-through-spec : {M : Type 1} → statement M
+write-through-spec =
     tie.close
     (tie.spec
     returns
@@ -264,7 +264,7 @@ post-spec =
     same-length-2
     returns-5
     share-requires
-    settle-requires
+    mark-published-requires
     lay-requires
     same-length-3
     returns-6

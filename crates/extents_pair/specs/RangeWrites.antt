@@ -8,27 +8,27 @@ use lib.ListN.{length, take, drop}
 use Rattle.extents_meaning.specs.Cells.{Bytes, unpublished, cleared, inRange, overwrite, published}
 use Rattle.extents_meaning.specs.Runs.{Run, runsOf}
 use Rattle.extents_meaning.specs.Maps.{mapFor, runs, bytesOf, lawful}
-use Rattle.extents_pair.specs.declared.share.Stroke.{Stroke}
+use Rattle.extents_pair.specs.declared.share.RangeWrite.{RangeWrite}
 
 -- ---- Ranges to be written
 
 -- a range and its cell
-abbrev pub strokeOf : ℕ → ℕ → ℕ → Stroke
-strokeOf from to cell = record { from = from; to = to; cell = cell }
+abbrev pub rangeWriteOf : ℕ → ℕ → ℕ → RangeWrite
+rangeWriteOf from to cell = record { from = from; to = to; cell = cell }
 
 -- a byte moved into a range
-abbrev pub within : ℕ → ℕ → ℕ → ℕ
-within lo hi x = max lo (min x hi)
+abbrev pub clamped : ℕ → ℕ → ℕ → ℕ
+clamped lo hi x = max lo (min x hi)
 
 -- the part of a run in a range, with its cell published; empty where the run is published
-unfoldable pub stroke : ℕ → ℕ → Run → Stroke
-stroke lo hi r =
-    strokeOf (within lo hi (r .start)) (within lo hi (cond (unpublished (r .cell)) (r .start + r .length) (r .start))) (cleared (r .cell))
+unfoldable pub rangeWrite : ℕ → ℕ → Run → RangeWrite
+rangeWrite lo hi r =
+    rangeWriteOf (clamped lo hi (r .start)) (clamped lo hi (cond (unpublished (r .cell)) (r .start + r .length) (r .start))) (cleared (r .cell))
 
 -- those of all runs
-unfoldable pub strokes : ℕ → ℕ → List Run → List Stroke
-strokes lo hi [] = []
-strokes lo hi (r ∷ rs) = stroke lo hi r ∷ strokes lo hi rs
+unfoldable pub rangeWrites : ℕ → ℕ → List Run → List RangeWrite
+rangeWrites lo hi [] = []
+rangeWrites lo hi (r ∷ rs) = rangeWrite lo hi r ∷ rangeWrites lo hi rs
 
 -- ---- Passes
 
@@ -37,7 +37,7 @@ abbrev pub filled : ℕ → ℕ → Bytes → Bytes
 filled from to f = overwrite from (to - from) (f to) f
 
 -- each range gets the cell behind it, from right to left
-unfoldable pub downs : List Stroke → Bytes → Bytes
+unfoldable pub downs : List RangeWrite → Bytes → Bytes
 downs [] f = f
 downs (s ∷ us) f = filled (s .from) (s .to) (downs us f)
 
@@ -69,18 +69,18 @@ pub record Two (size v w : ℕ) (xs : List ℕ) : Type 0 where
 
 module _ (size v w lo hi : ℕ) (xs : List ℕ) where
   -- the ranges that a pass writes
-  abbrev pub passing : List Stroke
-  passing = strokes lo hi (runs (partAt v size xs))
+  abbrev pub passing : List RangeWrite
+  passing = rangeWrites lo hi (runs (partAt v size xs))
 
   -- what the pass down makes of the published map's bytes
-  abbrev pub sunk : Bytes
-  sunk = downs passing (bytesOf (partAt w size xs))
+  abbrev pub passedDown : Bytes
+  passedDown = downs passing (bytesOf (partAt w size xs))
 
   -- what the pass up makes of them
-  abbrev pub raised : Bytes
-  raised = taken lo hi (bytesOf (partAt v size xs)) (bytesOf (partAt w size xs))
+  abbrev pub passedUp : Bytes
+  passedUp = taken lo hi (bytesOf (partAt v size xs)) (bytesOf (partAt w size xs))
 
   -- a pass up is ready: a pass down was made, and the map fits at the end
   pub record Ready : Type 0 where
-    pub fit : length (runsOf raised) ≤ size / 4
-    pub level : (b : ℕ) → bytesOf (partAt w size xs) b ≡ downs passing raised b
+    pub fit : length (runsOf passedUp) ≤ size / 4
+    pub level : (b : ℕ) → bytesOf (partAt w size xs) b ≡ downs passing passedUp b

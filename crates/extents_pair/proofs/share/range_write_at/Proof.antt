@@ -1,10 +1,10 @@
--- `extents_pair::share::stroke_at` meets its contract. Assumes nothing.
+-- `extents_pair::share::range_write_at` meets its contract.
 use borrow.Author.Needs.{needs}
 use native.Mathlib.Omega.{arith}
 use denote.Ref.{now}
-use Rattle.extents_pair.proofs.Taking.{there, stroke-one}
-use Rattle.extents_pair.proofs.share.stroke_at.Statement.{statement}
-use Rattle.extents_pair.proofs.share.stroke_at.Tie as tie
+use Rattle.extents_pair.proofs.Taking.{there, range-write-one}
+use Rattle.extents_pair.proofs.share.range_write_at.Statement.{statement}
+use Rattle.extents_pair.proofs.share.range_write_at.Tie as tie
 
 mul-at : tie.Need-mul-at
 mul-at c = search needs
@@ -30,11 +30,11 @@ add-end-2 c =
     let t = there (now (a .map)) (a .i) (c .before .before .before .pre .0) (c .before .before .before .pre .1) in
     omega (arith, t .start, t .length, t .inside)
 
-bring-requires : tie.Need-bring-requires
-bring-requires c κs = search needs
+clamp-requires : tie.Need-clamp-requires
+clamp-requires c κs = search needs
 
-bring-requires-2 : tie.Need-bring-requires-2
-bring-requires-2 c κs = search needs
+clamp-requires-2 : tie.Need-clamp-requires-2
+clamp-requires-2 c κs = search needs
 
 add-t8 : tie.Need-add-t8
 add-t8 c = search needs
@@ -55,10 +55,10 @@ returns : tie.Need-returns
 returns c =
     let a = c .before .before .before .before .before .before .args in
     let t = there (now (a .map)) (a .i) (c .before .before .before .before .before .before .pre .0) (c .before .before .before .before .before .before .pre .1) in
-    stroke-one t (a .lo) (a .hi) (c .before .before .bring .ensures) (c .before .bring2 .ensures) (c .before .before .before .before .before .before .pre .3)
+    range-write-one t (a .lo) (a .hi) (c .before .before .clamp .ensures) (c .before .clamp2 .ensures) (c .before .before .before .before .before .before .pre .3)
 
-pub stroke-at-spec : {M : Type 1} → statement M
-stroke-at-spec =
+pub range-write-at-spec : {M : Type 1} → statement M
+range-write-at-spec =
     tie.close
     (tie.spec
     mul-at
@@ -68,8 +68,8 @@ stroke-at-spec =
     mul-end
     shared-slice-read-end
     add-end-2
-    bring-requires
-    bring-requires-2
+    clamp-requires
+    clamp-requires-2
     add-t8
     mul-t11
     shared-slice-read-t15

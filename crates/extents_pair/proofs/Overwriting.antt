@@ -1,4 +1,4 @@
--- The ranges that a view's runs make, and what is drawn with them: the published map of the end. Assumes nothing.
+-- The ranges that a view's runs make, and what is written with them: the published map of the end.
 use Prim.Native.Nat.{ℕ, zero, suc, _+_, _-_, _≤_, _<_}
 use native.Mathlib.Omega.{arith}
 use native.Mathlib.Decide.{decLt}
@@ -12,9 +12,9 @@ use Rattle.extents_meaning.specs.Cells.{Bytes, unpublished, cleared, inRange, o
 use Rattle.extents_meaning.specs.Runs.{Run, cellAt, Rising, Lawful}
 use Rattle.extents_meaning.proofs.Longest.{Fine, range-in, range-before, range-behind, cell-first, cell-behind, mean-before, mean-behind, mean-first, lawful-fine}
 use Rattle.extents_meaning.proofs.Passes.{over-before}
-use Rattle.extents_pair.specs.declared.share.Stroke.{Stroke}
-use Rattle.extents_pair.specs.Strokes.{strokeOf, within, stroke, strokes, downs, taken}
-use Rattle.extents_pair.proofs.Sweeps.{over-at, over-past, over-none, Good, good-over, Rises, Drawn, downs-before, downs-drawn, drawn-self, drawn-downs, drawn-one}
+use Rattle.extents_pair.specs.declared.share.RangeWrite.{RangeWrite}
+use Rattle.extents_pair.specs.RangeWrites.{rangeWriteOf, clamped, rangeWrite, rangeWrites, downs, taken}
+use Rattle.extents_pair.proofs.Sweeps.{over-at, over-past, over-none, Good, good-over, Rises, Drawn, downs-before, downs-overwritten, overwritten-self, overwritten-downs, overwritten-one}
 
 -- ---- A published byte
 
@@ -90,24 +90,24 @@ taken-good lo hi v f g k =
 -- ---- The ranges of runs
 
 -- later runs have the later ranges
-pub strokes-later : (lo hi i : ℕ) (rs : List Run) → strokes lo hi (drop i rs) ≡ drop i (strokes lo hi rs)
-unfolding strokes
-strokes-later lo hi zero rs = refl
-strokes-later lo hi (suc i) [] = refl
-strokes-later lo hi (suc i) (r ∷ rs) = strokes-later lo hi i rs
+pub range-writes-later : (lo hi i : ℕ) (rs : List Run) → rangeWrites lo hi (drop i rs) ≡ drop i (rangeWrites lo hi rs)
+unfolding rangeWrites
+range-writes-later lo hi zero rs = refl
+range-writes-later lo hi (suc i) [] = refl
+range-writes-later lo hi (suc i) (r ∷ rs) = range-writes-later lo hi i rs
 
 -- the range of a published run is empty
-pub stroke-empty : (lo hi : ℕ) (r : Run) → unpublished (r .cell) ≡ false → stroke lo hi r .to ≡ stroke lo hi r .from
-unfolding stroke
-stroke-empty lo hi r u = ap (λ (x : Bool). within lo hi (cond x (r .start + r .length) (r .start))) u
+pub range-write-empty : (lo hi : ℕ) (r : Run) → unpublished (r .cell) ≡ false → rangeWrite lo hi r .to ≡ rangeWrite lo hi r .from
+unfolding rangeWrite
+range-write-empty lo hi r u = ap (λ (x : Bool). clamped lo hi (cond x (r .start + r .length) (r .start))) u
 
--- within an empty range the ranges of all runs are empty, so a pass down changes nothing
-pub downs-none : (lo hi : ℕ) (rs : List Run) (f : Bytes) → hi ≤ lo → (b : ℕ) → downs (strokes lo hi rs) f b ≡ f b
-unfolding strokes stroke downs
+-- clamped an empty range the ranges of all runs are empty, so a pass down changes nothing
+pub downs-none : (lo hi : ℕ) (rs : List Run) (f : Bytes) → hi ≤ lo → (b : ℕ) → downs (rangeWrites lo hi rs) f b ≡ f b
+unfolding rangeWrites rangeWrite downs
 downs-none lo hi [] f h b = refl
 downs-none lo hi (r ∷ rs) f h b =
-    let s = stroke lo hi r in
-    let g = downs (strokes lo hi rs) f in
+    let s = rangeWrite lo hi r in
+    let g = downs (rangeWrites lo hi rs) f in
     over-none (s .from) (s .to) (g (s .to)) g b (omega arith) ∙ downs-none lo hi rs f h b
 
 -- the end of a run or its start
@@ -116,30 +116,30 @@ part-end true s n = omega arith
 part-end false s n = omega arith
 
 -- they rise
-strokes-rise : (lo hi : ℕ) (rs : List Run) (p e c : ℕ) → lo ≤ hi → hi ≤ OFFSET-MAX → p ≤ within lo hi e → Rising OFFSET-MAX e c rs →
-    Rises p (strokes lo hi rs)
-unfolding strokes stroke
-strokes-rise lo hi [] p e c h k q t = tt
-strokes-rise lo hi (r ∷ rs) p e c h k q t =
+range-writes-rise : (lo hi : ℕ) (rs : List Run) (p e c : ℕ) → lo ≤ hi → hi ≤ OFFSET-MAX → p ≤ clamped lo hi e → Rising OFFSET-MAX e c rs →
+    Rises p (rangeWrites lo hi rs)
+unfolding rangeWrites rangeWrite
+range-writes-rise lo hi [] p e c h k q t = tt
+range-writes-rise lo hi (r ∷ rs) p e c h k q t =
     let n = t .0 .rising in
     let x = part-end (unpublished (r .cell)) (r .start) (r .length) in
     let end = r .start + r .length in (
       omega arith,
       omega arith,
       omega arith,
-      strokes-rise lo hi rs (stroke lo hi r .to) end (r .cell) h k (omega arith) (t .1),
+      range-writes-rise lo hi rs (rangeWrite lo hi r .to) end (r .cell) h k (omega arith) (t .1),
     )
 
--- they draw the published bytes
-strokes-drawn : (lo hi : ℕ) (rs : List Run) (p e c : ℕ) (f g : Bytes) → lo ≤ p → p ≤ within lo hi e → Rising OFFSET-MAX e c rs →
-    ((b : ℕ) → p ≤ b → b < hi → g b ≡ published (cellAt rs) f b) → ((b : ℕ) → p ≤ b → hi ≤ b → g b ≡ f b) → Drawn p (strokes lo hi rs) f g
-unfolding strokes stroke cellAt
-strokes-drawn lo hi [] p e c f g l q t h z = λ b k. go b k (decLt b hi)
+-- they overwrites the published bytes
+range-writes-overwritten : (lo hi : ℕ) (rs : List Run) (p e c : ℕ) (f g : Bytes) → lo ≤ p → p ≤ clamped lo hi e → Rising OFFSET-MAX e c rs →
+    ((b : ℕ) → p ≤ b → b < hi → g b ≡ published (cellAt rs) f b) → ((b : ℕ) → p ≤ b → hi ≤ b → g b ≡ f b) → Drawn p (rangeWrites lo hi rs) f g
+unfolding rangeWrites rangeWrite cellAt
+range-writes-overwritten lo hi [] p e c f g l q t h z = λ b k. go b k (decLt b hi)
   where
     go : (b : ℕ) → p ≤ b → Dec (b < hi) → g b ≡ f b
     go b k (yes m) = h b k m
     go b k (no m) = z b k (omega arith)
-strokes-drawn lo hi (r ∷ rs) p e c f g l q t h z = go (unpublished (r .cell)) refl (strokes-drawn lo hi rs)
+range-writes-overwritten lo hi (r ∷ rs) p e c f g l q t h z = go (unpublished (r .cell)) refl (range-writes-overwritten lo hi rs)
   where
     end : ℕ
     end = r .start + r .length
@@ -151,11 +151,11 @@ strokes-drawn lo hi (r ∷ rs) p e c f g l q t h z = go (unpublished (r .cell)) 
     all = cellAt (r ∷ rs)
 
     -- before the run
-    gap : (b : ℕ) → p ≤ b → b < within lo hi (r .start) → g b ≡ f b
+    gap : (b : ℕ) → p ≤ b → b < clamped lo hi (r .start) → g b ≡ f b
     gap b k m = h b k (omega arith) ∙ take-zero all f b (mean-first OFFSET-MAX e c r rs t b (omega arith))
 
     -- from the run on
-    after : (b : ℕ) → within lo hi (r .start) ≤ b → p ≤ b
+    after : (b : ℕ) → clamped lo hi (r .start) ≤ b → p ≤ b
     after b k = omega (arith, q, rising, k)
 
     -- behind it the later runs say all
@@ -163,25 +163,25 @@ strokes-drawn lo hi (r ∷ rs) p e c f g l q t h z = go (unpublished (r .cell)) 
     later b k = ap (λ (v : ℕ). cond (unpublished v) (cleared v) (f b)) (cell-behind r rs b k)
 
     go : (x : Bool) → unpublished (r .cell) ≡ x →
-        ((p e c : ℕ) (f g : Bytes) → lo ≤ p → p ≤ within lo hi e → Rising OFFSET-MAX e c rs →
-        ((b : ℕ) → p ≤ b → b < hi → g b ≡ published (cellAt rs) f b) → ((b : ℕ) → p ≤ b → hi ≤ b → g b ≡ f b) → Drawn p (strokes lo hi rs) f g) →
-        Drawn p (strokeOf (within lo hi (r .start)) (within lo hi (cond x end (r .start))) (cleared (r .cell)) ∷ strokes lo hi rs) f g
+        ((p e c : ℕ) (f g : Bytes) → lo ≤ p → p ≤ clamped lo hi e → Rising OFFSET-MAX e c rs →
+        ((b : ℕ) → p ≤ b → b < hi → g b ≡ published (cellAt rs) f b) → ((b : ℕ) → p ≤ b → hi ≤ b → g b ≡ f b) → Drawn p (rangeWrites lo hi rs) f g) →
+        Drawn p (rangeWriteOf (clamped lo hi (r .start)) (clamped lo hi (cond x end (r .start))) (cleared (r .cell)) ∷ rangeWrites lo hi rs) f g
     go true u ih = (
       gap,
       λ b k m.
           let o : all b ≡ r .cell = cell-first r rs b (omega (arith, l)) (omega (arith, l)) in
           h b (after b k) (omega (arith, l)) ∙ take-one all f b (ap unpublished o ∙ u) ∙ ap cleared o,
-      ih (within lo hi end) end (r .cell) f g (omega arith) (omega arith) (t .1)
+      ih (clamped lo hi end) end (r .cell) f g (omega arith) (omega arith) (t .1)
           (λ b k m. h b (after b (omega arith)) m ∙ later b (omega (arith, k, m))) (λ b k m. z b (after b (omega arith)) m),
     )
     go false u ih = (
       gap,
       λ b k m. absurd (omega arith),
-      ih (within lo hi (r .start)) end (r .cell) f g (omega arith) (omega arith) (t .1) (λ b k m. rest b k m (decLt b end))
+      ih (clamped lo hi (r .start)) end (r .cell) f g (omega arith) (omega arith) (t .1) (λ b k m. rest b k m (decLt b end))
           (λ b k m. z b (after b k) m),
     )
       where
-        rest : (b : ℕ) → within lo hi (r .start) ≤ b → b < hi → Dec (b < end) → g b ≡ published (cellAt rs) f b
+        rest : (b : ℕ) → clamped lo hi (r .start) ≤ b → b < hi → Dec (b < end) → g b ≡ published (cellAt rs) f b
         rest b k m (yes n) =
             let o : all b ≡ r .cell = cell-first r rs b (omega (arith, k, m)) n in
             h b (after b k) m ∙ take-none all f b (ap unpublished o ∙ u)
@@ -192,28 +192,28 @@ strokes-drawn lo hi (r ∷ rs) p e c f g l q t h z = go (unpublished (r .cell)) 
 
 module _ (lo hi : ℕ) (rs : List Run) (w : Lawful rs) where
   -- they rise from the first byte on
-  pub pass-rises : lo ≤ hi → hi ≤ OFFSET-MAX → Rises lo (strokes lo hi rs)
-  pass-rises h k = strokes-rise lo hi rs lo 0 0 h k (omega arith) (w .in-order)
+  pub pass-rises : lo ≤ hi → hi ≤ OFFSET-MAX → Rises lo (rangeWrites lo hi rs)
+  pass-rises h k = range-writes-rise lo hi rs lo 0 0 h k (omega arith) (w .in-order)
 
-  -- they draw what is taken
-  pub taken-drawn : (f : Bytes) → Drawn lo (strokes lo hi rs) f (taken lo hi (cellAt rs) f)
-  taken-drawn f =
-      strokes-drawn lo hi rs lo 0 0 f (taken lo hi (cellAt rs) f) (omega arith) (omega arith) (w .in-order) (taken-in lo hi (cellAt rs) f)
+  -- they overwrites what is taken
+  pub taken-overwritten : (f : Bytes) → Drawn lo (rangeWrites lo hi rs) f (taken lo hi (cellAt rs) f)
+  taken-overwritten f =
+      range-writes-overwritten lo hi rs lo 0 0 f (taken lo hi (cellAt rs) f) (omega arith) (omega arith) (w .in-order) (taken-in lo hi (cellAt rs) f)
       (taken-behind lo hi (cellAt rs) f)
 
-  -- after the pass down of drawn bytes these are taken
-  pub taken-back : lo ≤ hi → hi ≤ OFFSET-MAX → (f g h : Bytes) → Drawn lo (strokes lo hi rs) f g → ((b : ℕ) → h b ≡ downs (strokes lo hi rs) g b) →
+  -- after the pass down of written bytes these are taken
+  pub taken-back : lo ≤ hi → hi ≤ OFFSET-MAX → (f g h : Bytes) → Drawn lo (rangeWrites lo hi rs) f g → ((b : ℕ) → h b ≡ downs (rangeWrites lo hi rs) g b) →
       (b : ℕ) → taken lo hi (cellAt rs) h b ≡ g b
   taken-back i k f g h d e b = taken-same lo hi (cellAt rs) h (downs us g) e b ∙ go (decLt b lo)
     where
-      us : List Stroke
-      us = strokes lo hi rs
+      us : List RangeWrite
+      us = rangeWrites lo hi rs
 
       go : Dec (b < lo) → taken lo hi (cellAt rs) (downs us g) b ≡ g b
       go (yes l) = taken-before lo hi (cellAt rs) (downs us g) b l ∙ downs-before us lo g (pass-rises i k) b l
       go (no l) =
-          drawn-one us lo (downs us g) (taken lo hi (cellAt rs) (downs us g)) g (taken-drawn (downs us g))
-          (drawn-downs us lo g g (pass-rises i k) (drawn-self us lo f g d)) b (omega arith)
+          overwritten-one us lo (downs us g) (taken lo hi (cellAt rs) (downs us g)) g (taken-overwritten (downs us g))
+          (overwritten-downs us lo g g (pass-rises i k) (overwritten-self us lo f g d)) b (omega arith)
 
 -- ---- What is to be published: a view's unpublished bytes, and a range with a cell of its own
 
@@ -222,23 +222,23 @@ abbrev pub goal : List Run → Bytes → ℕ → ℕ → ℕ → Bytes
 goal rs f start end c = overwrite start (end - start) c (published (cellAt rs) f)
 
 -- the ranges on the left of the range
-abbrev pub lefts : List Run → ℕ → List Stroke
-lefts rs start = strokes 0 start rs
+abbrev pub lefts : List Run → ℕ → List RangeWrite
+lefts rs start = rangeWrites 0 start rs
 
 -- those on its right
-abbrev pub rights : List Run → ℕ → List Stroke
-rights rs end = strokes end OFFSET-MAX rs
+abbrev pub rights : List Run → ℕ → List RangeWrite
+rights rs end = rangeWrites end OFFSET-MAX rs
 
 -- and the range with these
-abbrev pub others : List Run → ℕ → ℕ → ℕ → List Stroke
-others rs start end c = strokeOf start end c ∷ rights rs end
+abbrev pub others : List Run → ℕ → ℕ → ℕ → List RangeWrite
+others rs start end c = rangeWriteOf start end c ∷ rights rs end
 
 module _ (rs : List Run) (w : Lawful rs) (f : Bytes) (start end c : ℕ) (h : start ≤ end) (m : end ≤ OFFSET-MAX) where
   -- the bytes at the end, and the range with those on its right
   abbrev new : Bytes
   new = goal rs f start end c
 
-  abbrev us : List Stroke
+  abbrev us : List RangeWrite
   us = others rs start end c
 
   -- nothing is written from the end of all bytes on
@@ -262,23 +262,23 @@ module _ (rs : List Run) (w : Lawful rs) (f : Bytes) (start end c : ℕ) (h : st
   pub lefts-rise : Rises 0 (lefts rs start)
   lefts-rise = pass-rises 0 start rs w (omega arith) (omega arith)
 
-  -- those on the right draw the bytes at the end from there on
-  pub rights-drawn : Drawn end (rights rs end) f new
-  rights-drawn =
-      strokes-drawn end OFFSET-MAX rs end 0 0 f new (omega arith) (omega arith) (w .in-order)
+  -- those on the right overwrites the bytes at the end from there on
+  pub rights-overwritten : Drawn end (rights rs end) f new
+  rights-overwritten =
+      range-writes-overwritten end OFFSET-MAX rs end 0 0 f new (omega arith) (omega arith) (w .in-order)
       (λ b l k. over-past start end c (published (cellAt rs) f) b (omega arith) l)
       (λ b l k. over-past start end c (published (cellAt rs) f) b (omega arith) l ∙ take-zero (cellAt rs) f b (view-ends b k))
 
   -- the range and those from the range on
-  others-drawn : Drawn start us f new
-  others-drawn = (λ b l k. absurd (omega arith), over-at start end c (published (cellAt rs) f), rights-drawn)
+  others-overwritten : Drawn start us f new
+  others-overwritten = (λ b l k. absurd (omega arith), over-at start end c (published (cellAt rs) f), rights-overwritten)
 
   -- and those on the left all, where the others are passed down
-  pub lefts-drawn : Drawn 0 (lefts rs start) (downs us f) (downs us new)
-  lefts-drawn =
-      strokes-drawn 0 start rs 0 0 0 (downs us f) (downs us new) (omega arith) (omega arith) (w .in-order)
+  pub lefts-overwritten : Drawn 0 (lefts rs start) (downs us f) (downs us new)
+  lefts-overwritten =
+      range-writes-overwritten 0 start rs 0 0 0 (downs us f) (downs us new) (omega arith) (omega arith) (w .in-order)
       (λ b l k.
       downs-before us start new others-rise b k
       ∙ over-before start (end - start) c (published (cellAt rs) f) b k
       ∙ (λ i. cond (unpublished (cellAt rs b)) (cleared (cellAt rs b)) (sym (downs-before us start f others-rise b k) i)))
-      (λ b l k. sym (downs-drawn us start f new others-rise others-drawn b k))
+      (λ b l k. sym (downs-overwritten us start f new others-rise others-overwritten b k))
