@@ -1,25 +1,67 @@
 // Runs the examples of RFC 4180, section 2, and the reader's edge cases, and writes what reading finds: a line for each record, with the
 // number of fields, the first six spans, the record's end and the place after it. What it writes is held to the file stdout.
+//
+// The cases stand on standard input, one on each line:
+//
+//     # WORDS        what the next case shows; nothing is run
+//     N|TEXT|        reads the records of the text with the limit N, one digit
+//     -|TEXT|        reads the records of the text with a limit that no text meets
+//     =|TEXT|WORD|   says whether the first field of the text is the word
+//
+// In a text and in a word `%` and two hexadecimal digits (`0` to `9`, `A` to `F`) are one byte, and every other byte stands for itself. A line
+// of another form is written out behind the word `unreadable`.
+ghost use Prim.Native.Nat.{_≤_, _<_};
+ghost use lib.ListN.{length};
+ghost use Rattle.io.specs.Counts.{Counts};
 use csv::Answer;
 use csv::Span;
 
+const STDIN: i32 = 0;
+
+const STDOUT: i32 = 1;
+
+// The limit of a case that is to meet none.
+const NO_LIMIT: usize = 1000;
+
+// The most records of a text that are read.
+const RECORDS: usize = 8;
+
+// The spans that a reading has.
+const SPANS: usize = 6;
+
+// The most bytes of a text or a word.
+const ROOM: usize = 64;
+
+// The byte before a text, between a text and a word, and behind the last of them.
+const BAR: u8 = b'|';
+
+// Where the first bar of a line stands.
+const FIRST_BAR: usize = 1;
+
+// Where a text starts, behind the first bar.
+const TEXT: usize = 2;
+
+// What `digit` answers where there is none.
+const NO_DIGIT: u8 = 16;
+
 fn put(text: &[u8]) {
-    io::write_all(1, text);
+    io::write_all(STDOUT, text);
 }
 
-fn put_number(n: usize) {
-    io::print_decimal(1, n as u64);
+// Writes two words, each with a number behind it.
+fn put_pair(word: &[u8], n: usize, second: &[u8], m: usize) {
+    io::write_all(STDOUT, word);
+    io::print_decimal(STDOUT, n as u64);
+    io::write_all(STDOUT, second);
+    io::print_decimal(STDOUT, m as u64);
 }
 
-// A span as its start, its length, `"` where two quotes stand in it, and `-` where its content is empty.
+// Writes a span as its start, its length, `"` where two quotes stand in it, and `-` where its content is empty.
 fn put_span(text: &[u8], span: Span) {
     let start = span.start;
     let len = span.len;
     let doubled = span.doubled;
-    put(b" ");
-    put_number(start);
-    put(b"+");
-    put_number(len);
+    put_pair(b" ", start, b"+", len);
     if doubled {
         put(b"\"");
     }
@@ -28,7 +70,17 @@ fn put_span(text: &[u8], span: Span) {
     }
 }
 
-// One record; answers the place after it, or the end of the text where there is none.
+// Writes the number of a record's fields and the spans of the first six.
+fn put_spans(text: &[u8], count: usize, spans: [Span; 6]) {
+    put(b" ");
+    io::print_decimal(STDOUT, count as u64);
+    put(b" fields");
+    for i in 0..SPANS {
+        put_span(text, spans[i]);
+    }
+}
+
+// Writes one record and answers the place after it, or the end of the text where there is none.
 fn put_record(text: &[u8], at: usize, limit: usize) -> usize {
     let r = csv::read_record(text, at, limit);
     let answer = r.answer;
@@ -37,20 +89,9 @@ fn put_record(text: &[u8], at: usize, limit: usize) -> usize {
         Answer::Malformed => put(b" malformed\n"),
         Answer::Limit => put(b" limit\n"),
         Answer::Record => {
-            put(b" ");
-            put_number(r.count);
-            put(b" fields");
             let spans = r.spans;
-            put_span(text, spans[0]);
-            put_span(text, spans[1]);
-            put_span(text, spans[2]);
-            put_span(text, spans[3]);
-            put_span(text, spans[4]);
-            put_span(text, spans[5]);
-            put(b" end ");
-            put_number(r.end);
-            put(b" next ");
-            put_number(r.next);
+            put_spans(text, r.count, spans);
+            put_pair(b" end ", r.end, b" next ", r.next);
             put(b"\n");
             return r.next;
         }
@@ -58,15 +99,10 @@ fn put_record(text: &[u8], at: usize, limit: usize) -> usize {
     text.len()
 }
 
-// The records of a text, at most eight, each on a line.
-fn show(text: &[u8], limit: usize) {
-    put(b"text of ");
-    put_number(text.len());
-    put(b" limit ");
-    put_number(limit);
-    put(b"\n");
+// Writes the records of a text, each on a line.
+fn put_records(text: &[u8], limit: usize) {
     let mut at = 0;
-    for _ in 0..8usize {
+    for _ in 0..RECORDS {
         let next = put_record(text, at, limit);
         if next <= at {
             return;
@@ -75,7 +111,13 @@ fn show(text: &[u8], limit: usize) {
     }
 }
 
-// Whether the first field of a text is the word.
+fn show(text: &[u8], limit: usize) {
+    put_pair(b"text of ", text.len(), b" limit ", limit);
+    put(b"\n");
+    put_records(text, limit);
+}
+
+// Writes whether the first field of a text is the word.
 fn compare(text: &[u8], word: &[u8]) {
     let r = csv::read_record(text, 0, text.len());
     let spans = r.spans;
@@ -86,238 +128,179 @@ fn compare(text: &[u8], word: &[u8]) {
     }
 }
 
-fn texts_1() {
-    // RFC 4180, section 2, rule 1
-    show(b"aaa,bbb,ccc\r\nzzz,yyy,xxx\r\n", 1000);
-    // rule 2
-    show(b"aaa,bbb,ccc\r\nzzz,yyy,xxx", 1000);
-    // rule 3
-    show(
-        b"field_name,field_name,field_name\r\naaa,bbb,ccc\r\nzzz,yyy,xxx\r\n",
-        1000,
-    );
-    // rule 4
-    show(b"aaa,bbb,ccc", 1000);
-    // rule 5
-    show(b"\"aaa\",\"bbb\",\"ccc\"\r\nzzz,yyy,xxx", 1000);
-    // rule 6
-    show(b"\"aaa\",\"b\r\nbb\",\"ccc\"\r\nzzz,yyy,xxx", 1000);
-    // rule 7
-    show(b"\"aaa\",\"b\"\"bb\",\"ccc\"", 1000);
-    // no bytes
-    show(b"", 1000);
-    // an empty record
-    show(b"\r\n", 1000);
-    // two empty records
-    show(b"\r\n\r\n", 1000);
-    // a text that ends in CR LF CR LF
-    show(b"a\r\n\r\n", 1000);
-    // an empty record in the middle
-    show(b"a\r\n\r\nb", 1000);
+// The value of a hexadecimal digit.
+fn digit(b: u8) -> u8
+    ensures { λ r. ⌜ r ≤ 16 ⌝ }
+{
+    match b {
+        b'0'..=b'9' => b - b'0',
+        b'A'..=b'F' => b - b'A' + 10,
+        _ => NO_DIGIT,
+    }
 }
 
-fn texts_2() {
-    // a text that ends in a comma
-    show(b"a,", 1000);
-    // a comma alone
-    show(b",", 1000);
-    // a comma before CR LF
-    show(b"a,\r\n", 1000);
-    // one field
-    show(b"a\r\n", 1000);
-    // six fields
-    show(b"1,2,3,4,5,6\r\n", 1000);
-    // seven fields
-    show(b"1,2,3,4,5,6,7\r\n", 1000);
-    // nine empty fields
-    show(b",,,,,,,,\r\n", 1000);
-    // a lone CR
-    show(b"a\rb", 1000);
-    // a lone CR before CR LF
-    show(b"a\r\r\n", 1000);
-    // CR at the end
-    show(b"a\r", 1000);
-    // CR alone
-    show(b"\r", 1000);
-    // a lone LF
-    show(b"a\nb", 1000);
+// The byte at a place of a line, and 0 behind its end.
+fn raw_at(line: &[u8], at: usize) -> u8 {
+    if at < line.len() { line[at] } else { 0 }
 }
 
-fn texts_3() {
-    // LF alone
-    show(b"\n", 1000);
-    // LF CR
-    show(b"a\n\r", 1000);
-    // a quote in the middle of a bare field
-    show(b"a\"b", 1000);
-    // a quote at the end of a bare field
-    show(b"ab\"", 1000);
-    // a space before a quote
-    show(b" \"a\"", 1000);
-    // text after a closing quote
-    show(b"\"a\"b", 1000);
-    // a space after a closing quote
-    show(b"\"a\" ", 1000);
-    // LF after a closing quote
-    show(b"\"a\"\n", 1000);
-    // CR at the end after a closing quote
-    show(b"\"a\"\r", 1000);
-    // an unclosed quote
-    show(b"\"a", 1000);
-    // a quote alone
-    show(b"\"", 1000);
-    // an empty quoted field
-    show(b"\"\"", 1000);
+// One byte of a text, and the place behind what stands for it; `good` is false at a bar and at `%` without two digits.
+struct Byte {
+    value: u8,
+    next: usize,
+    good: bool,
 }
 
-fn texts_4() {
-    // an unclosed field of one quote
-    show(b"\"\"\"", 1000);
-    // a quoted quote
-    show(b"\"\"\"\"", 1000);
-    // doubled quotes at both ends
-    show(b"\"\"\"a\"\"\"", 1000);
-    // doubled quotes in the middle
-    show(b"\"a\"\"b\"\"c\"", 1000);
-    // quoted comma
-    show(b"\"a,b\",c", 1000);
-    // quoted CR LF and nothing else
-    show(b"\"\r\n\"\r\n", 1000);
-    // quoted lone CR and lone LF
-    show(b"\"\r\",\"\n\"", 1000);
-    // quoted empty fields
-    show(b"\"\",\"\",\"\"\r\n", 1000);
-    // a quoted field after a bare one
-    show(b"a,\"b\"\r\nc", 1000);
-    // byte 0
-    show(b"a\x00", 1000);
-    // byte 0 in quotes
-    show(b"\"a\x00\"", 1000);
-    // byte 9
-    show(b"a\tb", 1000);
+// Decodes the byte at a place of a line.
+fn decode_byte(line: &[u8], at: usize) -> Byte
+    requires { ⌜ at < length (now line) ⌝ }
+    ensures { λ r. ⌜ at < r .next ⌝ }
+{
+    let byte = line[at];
+    if byte != b'%' {
+        return Byte {
+            value: byte,
+            next: at + 1,
+            good: byte != BAR,
+        };
+    }
+    let bad = Byte {
+        value: byte,
+        next: at + 1,
+        good: false,
+    };
+    let high = digit(raw_at(line, at + 1));
+    if high == NO_DIGIT {
+        return bad;
+    }
+    let low = digit(raw_at(line, at + 2));
+    if low == NO_DIGIT {
+        return bad;
+    }
+    Byte {
+        value: high * 16 + low,
+        next: at + 3,
+        good: true,
+    }
 }
 
-fn texts_5() {
-    // byte 9 in quotes
-    show(b"\"\t\"", 1000);
-    // byte 31
-    show(b"\x1f", 1000);
-    // byte 31 in quotes
-    show(b"\"\x1f\"", 1000);
-    // byte 32 and byte 126
-    show(b" ~", 1000);
-    // byte 127
-    show(b"\x7f", 1000);
-    // byte 127 in quotes
-    show(b"\"\x7f\"", 1000);
-    // byte 128
-    show(b"\x80", 1000);
-    // byte 128 in quotes
-    show(b"\"\x80\"", 1000);
-    // byte 255
-    show(b"\xff", 1000);
-    // byte 255 in quotes
-    show(b"\"\xff\"", 1000);
-    // a malformed second record
-    show(b"a,b\r\nc,\x07\r\nd\r\n", 1000);
-    // limit 0
-    show(b"a\r\n", 0);
+// The number of bytes of a text, and the place where decoding ended: at the bar behind the text, where the line is readable.
+struct Decoded {
+    count: usize,
+    end: usize,
 }
 
-fn texts_6() {
-    // limit at a bare byte
-    show(b"ab\r\n", 1);
-    // limit after a bare field
-    show(b"ab\r\n", 2);
-    // limit between CR and LF
-    show(b"ab\r\n", 3);
-    // limit after CR LF, and the text ends
-    show(b"ab\r\n", 4);
-    // limit past the text
-    show(b"ab\r\n", 5);
-    // limit after CR LF, and the text goes on
-    show(b"ab\r\ncd", 4);
-    // limit at a comma
-    show(b"a,b", 1);
-    // limit after a comma
-    show(b"a,b", 2);
-    // limit at the end of a last record
-    show(b"a,b", 3);
-    // limit at an opening quote
-    show(b"\"a\",b", 0);
-    // limit in quotes
-    show(b"\"a\",b", 1);
-    // limit at a closing quote
-    show(b"\"a\",b", 2);
+// Decodes the text that starts at a place of a line, to the front of `bytes` and as far as there is room.
+fn decode(line: &[u8], from: usize, bytes: &mut [u8]) -> Decoded
+    ensures { λ r. ⌜ Counts (r .count) (now (bytes .exit)) ⌝ }
+{
+    let mut at = from;
+    let mut count = 0;
+    while at < line.len() {
+        let one = decode_byte(line, at);
+        let byte = one.value;
+        if !one.good {
+            return Decoded { count, end: at };
+        }
+        if bytes.len() <= count {
+            return Decoded { count, end: at };
+        }
+        bytes[count] = byte;
+        count += 1;
+        at = one.next;
+    }
+    Decoded { count, end: at }
 }
 
-fn texts_7() {
-    // limit after a closing quote
-    show(b"\"a\",b", 3);
-    // limit after a quoted field and its comma
-    show(b"\"a\",b", 4);
-    // limit between two quotes
-    show(b"\"a\"\"b\"", 3);
-    // limit after two quotes
-    show(b"\"a\"\"b\"", 4);
-    // limit at a malformed byte
-    show(b"a\x00b", 1);
-    // limit after a malformed byte
-    show(b"a\x00b", 2);
-    // limit at a lone CR
-    show(b"a\rb", 1);
-    // limit after a lone CR
-    show(b"a\rb", 2);
-    // limit after a lone CR and its byte
-    show(b"a\rb", 3);
-    // limit after an unclosed quote
-    show(b"\"a", 2);
-    // limit 0, and no bytes
-    show(b"", 0);
+// The place behind a bar, or the end of the line where there is no bar.
+fn behind_bar(line: &[u8], at: usize) -> usize {
+    if at < line.len() && line[at] == BAR {
+        return at + 1;
+    }
+    line.len()
 }
 
-fn words() {
-    // the same word
-    compare(b"kind", b"kind");
-    // another word
-    compare(b"kind", b"king");
-    // a prefix
-    compare(b"kin", b"kind");
-    // a longer word
-    compare(b"kinds", b"kind");
-    // the empty word
-    compare(b"", b"");
-    // a quoted word
-    compare(b"\"kind\"", b"kind");
-    // quoted empty
-    compare(b"\"\"", b"");
-    // two quotes are one
-    compare(b"\"a\"\"b\"", b"a\"b");
-    // two quotes are not two
-    compare(b"\"a\"\"b\"", b"a\"\"b");
-    // four quotes are two
-    compare(b"\"a\"\"\"\"b\"", b"a\"\"b");
-    // a quote at the start
-    compare(b"\"\"\"a\"", b"\"a");
-    // a quote at the end
-    compare(b"\"a\"\"\"", b"a\"");
-    // only a quote
-    compare(b"\"\"\"\"", b"\"");
-    // only a quote, and more
-    compare(b"\"\"\"\"", b"\"a");
-    // capital letters
-    compare(b"Kind", b"kind");
-    // a space
-    compare(b"kind ", b"kind");
+// Whether a place of a line has the bar that closes it.
+fn is_closed(line: &[u8], at: usize) -> bool {
+    raw_at(line, at) == BAR && behind_bar(line, at) == line.len()
+}
+
+fn put_unreadable(line: &[u8]) {
+    put(b"unreadable: ");
+    put(line);
+    put(b"\n");
+}
+
+// Runs the line of a text.
+fn run_text(line: &[u8], limit: usize) {
+    let mut text = [0u8; ROOM];
+    let decoded = decode(line, TEXT, &mut text);
+    let n = decoded.count;
+    if is_closed(line, decoded.end) {
+        show(&text[..n], limit);
+    } else {
+        put_unreadable(line);
+    }
+}
+
+// Runs the line of a text and a word.
+fn run_word(line: &[u8]) {
+    let mut text = [0u8; ROOM];
+    let decoded = decode(line, TEXT, &mut text);
+    let n = decoded.count;
+    let mut word = [0u8; ROOM];
+    let decoded_word = decode(line, behind_bar(line, decoded.end), &mut word);
+    let m = decoded_word.count;
+    if is_closed(line, decoded_word.end) {
+        compare(&text[..n], &word[..m]);
+    } else {
+        put_unreadable(line);
+    }
+}
+
+fn run_line(line: &[u8]) {
+    let kind = raw_at(line, 0);
+    if kind == b'#' {
+        return;
+    }
+    if raw_at(line, FIRST_BAR) != BAR {
+        put_unreadable(line);
+        return;
+    }
+    match kind {
+        b'-' => run_text(line, NO_LIMIT),
+        b'0'..=b'9' => run_text(line, (kind - b'0') as usize),
+        b'=' => run_word(line),
+        _ => put_unreadable(line),
+    }
+}
+
+// The place of the next line feed, or the end.
+fn line_end(input: &[u8], from: usize) -> usize
+    requires { ⌜ from ≤ length (now input) ⌝ }
+    ensures { λ r. ⌜ (from ≤ r) × (r ≤ length (now (input .entry))) ⌝ }
+{
+    let mut at = from;
+    while at < input.len() {
+        if input[at] == b'\n' {
+            return at;
+        }
+        at += 1;
+    }
+    at
+}
+
+fn run_lines(input: &[u8]) {
+    let mut at = 0;
+    while at < input.len() {
+        let end = line_end(input, at);
+        run_line(&input[at..end]);
+        at = end + 1;
+    }
 }
 
 fn main() {
-    texts_1();
-    texts_2();
-    texts_3();
-    texts_4();
-    texts_5();
-    texts_6();
-    texts_7();
-    words();
+    let mut input = io::large_buffer();
+    let n = io::read_full(STDIN, &mut input);
+    run_lines(&input[..n]);
 }
