@@ -1,4 +1,4 @@
--- `csv_vectors::decode` meets its contract. Assumes nothing.
+-- `csv_vectors::decode` meets its contract.
 use borrow.Author.Needs.{needs}
 use Prim.Native.Nat.{_≤_, _-_}
 use native.Mathlib.Omega.{arith}

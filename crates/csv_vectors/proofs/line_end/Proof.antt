@@ -1,4 +1,4 @@
--- `csv_vectors::line_end` meets its contract. Assumes nothing.
+-- `csv_vectors::line_end` meets its contract.
 use borrow.Author.Needs.{needs}
 use Prim.Native.Nat.{_≤_, _-_}
 use lib.ListN.{length}

@@ -1,4 +1,4 @@
--- `csv_vectors::run_lines` is safe and ends. Assumes nothing.
+-- `csv_vectors::run_lines` is safe and ends.
 use borrow.Author.Needs.{needs}
 use Prim.Native.Nat.{_-_}
 use lib.ListN.{length}
