@@ -9,7 +9,7 @@ use lib.Dec.{ltb}
 use Rattle.print.specs.Decimal.{widthWithin, decimalOf}
 use Rattle.print.specs.Puts.{lay, putIn, putEnd}
 use Rattle.print.proofs.Laying.{put-lay, lay-lay, lay-length, number-length}
-use Rattle.races.specs.Races.{Verdict, free, racing}
+use Rattle.races_meaning.specs.Races.{Verdict, free, racing}
 use Rattle.checker.specs.Report.{lineEnd, raceWord, pair, verdictWords, modelLine}
 
 -- ---- Lengths

@@ -17,8 +17,8 @@ use Rattle.rows.specs.Questions.{firstNo}
 use Rattle.trace.proofs.Whole.{refused-told}
 use Rattle.races.specs.declared.Found.{Found}
 use Rattle.races.specs.declared.Found.the-variants.{Free, Race, Refused}
-use Rattle.races.specs.Races.{Verdict, free, racing, verdictOf}
-use Rattle.races.specs.Scan.{judgeQuestions, foundOf, answerOf}
+use Rattle.races_meaning.specs.Races.{Verdict, free, racing, verdictOf}
+use Rattle.races.specs.Answers.{judgeQuestions, foundOf, answerOf}
 use Rattle.checker.specs.Report.{lineEnd, heading, posix, commit, session, mpiio, freeWords, raceWord, refusedWord, pair, verdictWords, modelLine, reportOf, readByProgram, reportLength, reportIn}
 use Rattle.checker.proofs.Lines.{pair-most, line-most, Laid, put-laid, laid-length, then}
 use Rattle.checker.proofs.Verdicts.{passes-other, outcome, told, rows-again}

@@ -9,8 +9,8 @@ use Rattle.rows.specs.declared.Row.{Row}
 use Rattle.trace.specs.Questions.{Outcome, refused, accepted, checkTrace}
 use Rattle.trace.proofs.Laws.{accepted-passed, accepted-sound}
 use Rattle.trace.proofs.Refusals.{Bounded, refusal-bounded}
-use Rattle.races.specs.Races.{Verdict, free, racing, verdictOf}
-use Rattle.races.proofs.Verdicts.{race-out, racing-iff}
+use Rattle.races_meaning.specs.Races.{Verdict, free, racing, verdictOf}
+use Rattle.races_meaning.proofs.Verdicts.{race-out, racing-iff}
 use Rattle.checker.specs.declared.Judged.{Judged}
 use Rattle.checker.specs.declared.Judged.the-variants.{Free, Race, Refused}
 use Rattle.checker.specs.Judging.{judgedRows, judgedOf}

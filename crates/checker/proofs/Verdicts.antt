@@ -22,8 +22,8 @@ use Rattle.happens_before.proofs.Asking.{all-asked}
 use Rattle.trace.proofs.Sounds.{sound-row}
 use Rattle.races.specs.declared.Found.{Found}
 use Rattle.races.specs.declared.Found.the-variants as found
-use Rattle.races.specs.Races.{Verdict, free, racing, verdictOf}
-use Rattle.races.specs.Scan.{judgeQuestions, foundOf, answerOf}
+use Rattle.races_meaning.specs.Races.{Verdict, free, racing, verdictOf}
+use Rattle.races.specs.Answers.{judgeQuestions, foundOf, answerOf}
 use Rattle.races.proofs.Whole.{same-first}
 use Rattle.checker.specs.declared.Judged.{Judged}
 use Rattle.checker.specs.declared.Judged.the-variants.{Free, Race, Refused}

@@ -5,7 +5,7 @@ use mathlib.Core.List.{List, _++_}
 use lib.ListN.{length, replicate}
 use Rattle.trace.specs.Questions.{Outcome, refused, accepted, refusalLeaves, rowsLeft}
 use Rattle.happens_before.specs.Order.{countsOf}
-use Rattle.races.specs.Races.{Verdict, free, racing, verdictOf}
+use Rattle.races_meaning.specs.Races.{Verdict, free, racing, verdictOf}
 use Rattle.checker.specs.declared.Judged.{Judged}
 use Rattle.checker.specs.declared.Judged.the-variants.{Free, Race, Refused}
 

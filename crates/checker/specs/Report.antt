@@ -8,7 +8,7 @@ use Rattle.models.specs.Models.{POSIX, COMMIT-MODEL, SESSION, MPI-IO}
 use Rattle.print.specs.Decimal.{decimalOf}
 use Rattle.rows.specs.declared.Row.{Row}
 use Rattle.trace.specs.Questions.{Outcome, refused, accepted, checkTrace}
-use Rattle.races.specs.Races.{Verdict, free, racing, verdictOf}
+use Rattle.races_meaning.specs.Races.{Verdict, free, racing, verdictOf}
 
 -- ---- Words
 

@@ -8,7 +8,7 @@ use Rattle.trace.specs.Questions.{callQuestions, filledAsUsed, numbersInRange, 
 use Rattle.rows.specs.Questions.{firstNo}
 use Rattle.rows.specs.Counting.{anyBelow, leastFrom}
 use Rattle.happens_before.specs.Order.{edge, hbWithin}
-use Rattle.races.specs.Races.{shareByte, conflict, chainPosix, chainCommit, chainSession, chainMpiIo, chain, synchronized, race, Verdict, free, racing, verdictOf}
+use Rattle.races_meaning.specs.Races.{shareByte, conflict, chainPosix, chainCommit, chainSession, chainMpiIo, chain, synchronized, race, Verdict, free, racing, verdictOf}
 
 -- ---- Lines, without their line ends
 

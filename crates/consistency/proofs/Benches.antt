@@ -15,7 +15,7 @@ use Rattle.rows.specs.Questions.{firstNo}
 use Rattle.rows.specs.Counting.{anyBelow, leastFrom}
 use Rattle.happens_before.specs.Order.{edge, hbWithin}
 use Rattle.consistency.proofs.BenchVerdicts.{judged, traces, expected, bench-verdicts}
-use Rattle.races.specs.Races.{shareByte, conflict, chainCommit, chain, synchronized, race, racing, verdictOf}
+use Rattle.races_meaning.specs.Races.{shareByte, conflict, chainCommit, chain, synchronized, race, racing, verdictOf}
 use Rattle.extents_meaning.specs.Cells.{Bytes, cellOf}
 use Rattle.extents_meaning.specs.Runs.{Run, runOf, cellAt, Lawful}
 use Rattle.extents_meaning.specs.Maps.{mapOf, mapFor, mapAt}

@@ -20,9 +20,9 @@ use Rattle.rows.proofs.Bools.{and-out}
 use Rattle.happens_before.proofs.Clocks.{edge-forward, hb-iff}
 use Rattle.extents_meaning.specs.Cells.{inRange}
 use Rattle.machine_meaning.specs.Layers.{ofFile}
-use Rattle.races.specs.Races.{conflict, chain, synchronized, race, verdictOf, free}
-use Rattle.races.proofs.Verdicts.{free-iff, race-out}
-use Rattle.races.proofs.Conflicts.{Conflict as RowsConflict, conflict-iff}
+use Rattle.races_meaning.specs.Races.{conflict, chain, synchronized, race, verdictOf, free}
+use Rattle.races_meaning.proofs.Verdicts.{free-iff, race-out}
+use Rattle.races_meaning.proofs.Conflicts.{Conflict as RowsConflict, conflict-iff}
 use Rattle.rows.specs.Lists.{In, Once}
 use Rattle.consistency.specs.Files.{End, processesOf, NumbersIn, ByAll}
 use Rattle.consistency.proofs.Core.{Chain, Conflict, Synchronized, Free, Commits}

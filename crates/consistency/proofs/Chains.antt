@@ -18,9 +18,9 @@ use Rattle.rows.specs.Rows.{rowAt}
 use Rattle.rows.proofs.Bools.{and-out}
 use Rattle.extents_meaning.specs.Cells.{inRange}
 use Rattle.machine_meaning.specs.Layers.{ofFile}
-use Rattle.races.specs.Races.{sameFile, chain}
-use Rattle.races.specs.Marks.{publishedBy, refreshedBy, tableChain}
-use Rattle.races.proofs.Chains.{HB-in, two-iff, table-chain}
+use Rattle.races_meaning.specs.Races.{sameFile, chain}
+use Rattle.races_meaning.specs.Marks.{publishedBy, refreshedBy, tableChain}
+use Rattle.races_meaning.proofs.Chains.{HB-in, two-iff, table-chain}
 use Rattle.consistency.proofs.Core.{Published, Refreshed, Chain}
 use Rattle.consistency.proofs.Meaning.{covers, covers-kind, byteTrace}
 

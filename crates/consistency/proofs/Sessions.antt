@@ -20,7 +20,7 @@ use Rattle.rows.specs.Counting.{anyBelow, leastFrom}
 use Rattle.happens_before.specs.Order.{edge, hbWithin}
 use Rattle.rows.specs.Rows.{rowAt}
 use Rattle.happens_before.proofs.Clocks.{edge-forward}
-use Rattle.races.specs.Races.{shareByte, conflict, chainCommit, chainSession, chain, synchronized, race, free, racing, verdictOf}
+use Rattle.races_meaning.specs.Races.{shareByte, conflict, chainCommit, chainSession, chain, synchronized, race, free, racing, verdictOf}
 use Rattle.extents_meaning.specs.Cells.{numberIn}
 use Rattle.machine_meaning.specs.Layers.{Layers, fresh, nothing, ofFile}
 use Rattle.machine_meaning.specs.States.{Header}

@@ -19,8 +19,8 @@ use Rattle.rows.specs.Rows.{rowAt}
 use Rattle.rows.proofs.Bools.{and-out}
 use Rattle.trace.proofs.Sounds.{sound-row}
 use Rattle.extents_meaning.specs.Cells.{numberIn, inRange}
-use Rattle.races.specs.Races.{race, verdictOf, free}
-use Rattle.races.proofs.Verdicts.{free-iff, race-out}
+use Rattle.races_meaning.specs.Races.{race, verdictOf, free}
+use Rattle.races_meaning.proofs.Verdicts.{free-iff, race-out}
 use Rattle.machine_meaning.specs.Layers.{Layers, fresh, nothing, ofFile}
 use Rattle.machine_meaning.specs.States.{Header, mapsLength}
 use Rattle.machine_meaning.specs.Steps.{usesRange}

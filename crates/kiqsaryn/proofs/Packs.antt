@@ -13,9 +13,9 @@ use Rattle.happens_before.specs.Filling.{fillQuestions, filledOf, filledLeft}
 use Rattle.rows.proofs.Slices.{length-rows}
 use Rattle.races.specs.declared.Found.{Found}
 use Rattle.races.specs.declared.Found.the-variants as found
-use Rattle.races.specs.Races.{Verdict, free, racing, verdictOf}
-use Rattle.races.specs.Scan.{judgeQuestions, foundOf, answerOf}
-use Rattle.races.proofs.Verdicts.{race-out, racing-iff}
+use Rattle.races_meaning.specs.Races.{Verdict, free, racing, verdictOf}
+use Rattle.races.specs.Answers.{judgeQuestions, foundOf, answerOf}
+use Rattle.races_meaning.proofs.Verdicts.{race-out, racing-iff}
 use Rattle.races.proofs.Whole.{few-judged}
 use Rattle.trace.specs.declared.Checked.{Checked}
 use Rattle.trace.specs.Questions.{Outcome, Leaves, checkTrace}

@@ -7,7 +7,7 @@ use lib.Dec.{eqb}
 use Rattle.happens_before.specs.Filling.{filledLeft}
 use Rattle.races.specs.declared.Found.{Found}
 use Rattle.races.specs.declared.Found.the-variants.{Free, Race, Refused}
-use Rattle.races.specs.Scan.{answerOf}
+use Rattle.races.specs.Answers.{answerOf}
 use Rattle.trace.specs.declared.Checked.{Checked}
 use Rattle.trace.specs.declared.Checked.the-variants.{Accepted, Refused as RefusedAt}
 use Rattle.rows.specs.declared.Row.{Row}

@@ -14,8 +14,8 @@ use Rattle.models.specs.Table.{refreshes}
 use Rattle.rows.specs.Rows.{rowHere, rowsIn, rowAt, rowIn}
 use Rattle.rows.proofs.Slices.{row-in}
 pub use Rattle.happens_before.proofs.Joins.{process-in}
-use Rattle.races.specs.Races.{conflict, shareByte}
-use Rattle.races.specs.Search.{isRefresh, refreshAt}
+use Rattle.races_meaning.specs.Races.{conflict, shareByte}
+use Rattle.races_meaning.specs.Search.{isRefresh, refreshAt}
 use Rattle.rows.specs.Counting.{lastBelow}
 
 -- ---- The numbers of a row

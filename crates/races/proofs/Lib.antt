@@ -1,9 +1,3 @@
-pub mod Verdicts
-pub mod Conflicts
-pub mod Chains
-pub mod Best
-pub mod Scans
 pub mod Cells
 pub mod Passes
 pub mod Whole
-pub mod Meaning

@@ -20,10 +20,10 @@ use Rattle.happens_before.specs.Clock.{cellIn}
 use Rattle.rows.proofs.Products.{block-before}
 use Rattle.happens_before.proofs.Filling.{rowsOf, length-rowsOf, cell-done}
 use Rattle.rows.proofs.Slices.{length-rows, row-in}
-use Rattle.races.specs.Races.{isData, conflict}
+use Rattle.races_meaning.specs.Races.{isData, conflict}
 use Rattle.rows.specs.Counting.{leastFrom, lastBelow}
-use Rattle.races.specs.Search.{isRefresh, refreshAt}
-use Rattle.races.specs.Scan.{noted, lastNoted, inOrder, raceAt}
+use Rattle.races_meaning.specs.Search.{isRefresh, refreshAt}
+use Rattle.races_meaning.specs.Scan.{noted, lastNoted, inOrder, raceAt}
 use Rattle.races.specs.Given.{Given}
 use Rattle.rows.proofs.Zeros.{zeros}
 

@@ -20,13 +20,14 @@ use Rattle.happens_before.specs.Filling.{countLimits, fillQuestions, filledOf, 
 use Rattle.rows.proofs.Bools.{and-out}
 use Rattle.rows.proofs.Slices.{length-rows}
 use Rattle.happens_before.proofs.Asking.{Asked, asked, done-told, refused-told}
-use Rattle.races.specs.Races.{conflict, verdictOf}
+use Rattle.races_meaning.specs.Races.{conflict, verdictOf}
 use Rattle.rows.specs.Counting.{leastFrom}
-use Rattle.races.specs.Scan.{inOrder, raceAt, judgeQuestions, foundOf, answerOf}
+use Rattle.races_meaning.specs.Scan.{inOrder, raceAt}
+use Rattle.races.specs.Answers.{judgeQuestions, foundOf, answerOf}
 use Rattle.races.specs.Given.{Given}
 use Rattle.races.specs.declared.Found.{Found}
 use Rattle.races.specs.declared.Found.the-variants.{Free, Race, Refused}
-use Rattle.races.proofs.Scans.{none-found, first-found}
+use Rattle.races_meaning.proofs.Scans.{none-found, first-found}
 
 -- no number below 1
 pub zero-of : {x : ℕ} → x ≤ 0 → x ≡ 0

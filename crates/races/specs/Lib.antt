@@ -1,5 +1,2 @@
-pub mod Races
-pub mod Marks
-pub mod Search
-pub mod Scan
+pub mod Answers
 pub mod Given

@@ -5,7 +5,7 @@ use native.Mathlib.Omega.{arith}
 use mathlib.Core.Path.{_≡_, sym, _∙_}
 use denote.Ref.{now}
 use Rattle.rows.specs.Rows.{rowsIn}
-use Rattle.races.specs.Scan.{raceAt}
+use Rattle.races_meaning.specs.Scan.{raceAt}
 use Rattle.races.proofs.Whole.{answer-free, answer-race, race-bound, below-more, zero-of}
 use Rattle.races.proofs.first_race.Statement.{statement}
 use Rattle.races.proofs.first_race.Tie as tie

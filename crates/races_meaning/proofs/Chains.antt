@@ -17,8 +17,8 @@ use Rattle.rows.specs.Rows.{rowAt}
 use Rattle.rows.proofs.Bools.{and-out, same-test}
 use Rattle.rows.proofs.Below.{any-in, any-out}
 use Rattle.happens_before.proofs.Clocks.{edge-forward, edge-in, HB-less, hb-iff}
-use Rattle.races.specs.Races.{sameFile, isSync, chainPosix, chainCommit, chainSession, chainMpiIo, chain}
-use Rattle.races.specs.Marks.{publishedBy, refreshedBy, tableChain}
+use Rattle.races_meaning.specs.Races.{sameFile, isSync, chainPosix, chainCommit, chainSession, chainMpiIo, chain}
+use Rattle.races_meaning.specs.Marks.{publishedBy, refreshedBy, tableChain}
 
 -- ---- Tests
 

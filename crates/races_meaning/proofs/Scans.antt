@@ -14,15 +14,15 @@ use Rattle.happens_before.specs.Order.{edge, HB}
 use Rattle.rows.specs.Rows.{rowAt}
 use Rattle.rows.proofs.Bools.{and-out, same-test}
 use Rattle.happens_before.proofs.Clocks.{edge-forward, HB-less, hb-iff}
-use Rattle.races.specs.Races.{sameFile, conflict, synchronized, race, free, racing, verdictOf}
+use Rattle.races_meaning.specs.Races.{sameFile, conflict, synchronized, race, free, racing, verdictOf}
 use Rattle.rows.specs.Counting.{leastFrom, lastBelow}
-use Rattle.races.specs.Marks.{publishedBy, refreshedBy, tableChain}
-use Rattle.races.specs.Search.{isPublish, publishAt, refreshAt, bestChain}
-use Rattle.races.specs.Scan.{before, noted, lastNoted, inOrder, raceAt}
-use Rattle.races.proofs.Verdicts.{least-is, race-out, free-iff, racing-iff}
-use Rattle.races.proofs.Conflicts.{Conflict, conflict-iff}
-use Rattle.races.proofs.Chains.{two-iff, table-chain}
-use Rattle.races.proofs.Best.{Latest, last-is, refreshed, publish-first, refresh-last, best-chain, counts-tell}
+use Rattle.races_meaning.specs.Marks.{publishedBy, refreshedBy, tableChain}
+use Rattle.races_meaning.specs.Search.{isPublish, publishAt, refreshAt, bestChain}
+use Rattle.races_meaning.specs.Scan.{before, noted, lastNoted, inOrder, raceAt}
+use Rattle.races_meaning.proofs.Verdicts.{least-is, race-out, free-iff, racing-iff}
+use Rattle.races_meaning.proofs.Conflicts.{Conflict, conflict-iff}
+use Rattle.races_meaning.proofs.Chains.{two-iff, table-chain}
+use Rattle.races_meaning.proofs.Best.{Latest, last-is, refreshed, publish-first, refresh-last, best-chain, counts-tell}
 
 -- ---- A write: its chain and the last noted row
 

@@ -13,7 +13,7 @@ use Rattle.rows.specs.declared.Row.{Row}
 use Rattle.rows.specs.Counting.{anyBelow, leastFrom}
 use Rattle.rows.proofs.Bools.{and-out}
 use Rattle.rows.proofs.Below.{any-in, any-out}
-use Rattle.races.specs.Races.{shareByte, race, Verdict, free, racing, verdictOf}
+use Rattle.races_meaning.specs.Races.{shareByte, race, Verdict, free, racing, verdictOf}
 
 -- two ranges overlap exactly where some byte lies in both
 pub share-iff : (r s : Row) →

@@ -10,7 +10,7 @@ use Rattle.models.specs.Table.{publishes, refreshes}
 use Rattle.rows.specs.declared.Row.{Row}
 use Rattle.happens_before.specs.Order.{sameProcess, edge, hb, count}
 use Rattle.rows.specs.Rows.{rowAt}
-use Rattle.races.specs.Races.{sameFile}
+use Rattle.races_meaning.specs.Races.{sameFile}
 use Rattle.rows.specs.Counting.{leastFrom, lastBelow}
 
 module _ (rows : List Row) (model : ℕ) where

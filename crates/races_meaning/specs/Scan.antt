@@ -6,18 +6,13 @@ use mathlib.Core.List.{List, [], _∷_}
 use lib.ListN.{length}
 use lib.Dec.{leb, ltb, eqb}
 use Rattle.rows.specs.Kinds.{WRITE}
-use Rattle.rows.specs.Limits.{MODELS}
 use Rattle.models.specs.Table.{publishes}
 use Rattle.rows.specs.declared.Row.{Row}
 use Rattle.rows.specs.Rows.{rowsIn, rowAt}
-use Rattle.rows.specs.Questions.{longEnough, Question}
 use Rattle.happens_before.specs.Order.{count}
-use Rattle.happens_before.specs.Filling.{countLimits, processesIn}
-use Rattle.races.specs.Races.{isWrite, sameFile, conflict, Verdict, free, racing, verdictOf}
+use Rattle.races_meaning.specs.Races.{isWrite, sameFile, conflict, Verdict, free, racing, verdictOf}
 use Rattle.rows.specs.Counting.{leastFrom, lastBelow}
-use Rattle.races.specs.Search.{refreshAt}
-use Rattle.races.specs.declared.Found.{Found}
-use Rattle.races.specs.declared.Found.the-variants.{Free, Race, Refused}
+use Rattle.races_meaning.specs.Search.{refreshAt}
 
 module _ (rows : List Row) (model : ℕ) where
   -- row i, of process p, happens before row j or is it, by the counts
@@ -49,18 +44,3 @@ module _ (rows : List Row) (model : ℕ) where
       cond (ltb x y) (suc x) 0
 
 -- ---- What the call asks and answers
-
--- the questions of filling the counts, and in 2 whether the model is 0 to 3
-unfoldable pub judgeQuestions : ℕ → ℕ → ℕ → List ℕ → ℕ → List Question
-judgeQuestions n processLimit model xs countsLength =
-    record { number = 1; yes = longEnough n processLimit (length xs) countsLength }
-    ∷ (record { number = 2; yes = ltb model MODELS && countLimits n processLimit }
-    ∷ (record { number = 10; yes = processesIn n processLimit xs } ∷ []))
-
-abbrev pub foundOf : Verdict → Found
-foundOf free = Free
-foundOf (racing earlier later) = Race earlier later
-
--- the verdict, or the first No
-abbrev pub answerOf : ℕ → List ℕ → ℕ → ℕ → Found
-answerOf first xs n model = cond (eqb first 0) (foundOf (verdictOf (rowsIn n xs) model)) (Refused first)

@@ -17,10 +17,10 @@ use Rattle.happens_before.specs.Order.{sameProcess, edge, HB}
 use Rattle.rows.specs.Rows.{rowAt}
 use Rattle.rows.proofs.Bools.{and-out, or-out, or-right, not-passed}
 use Rattle.happens_before.proofs.Clocks.{edge-forward, hb-iff}
-use Rattle.races.specs.Races.{sameFile, isSync, conflict, chain, synchronized, race, free, racing, verdictOf}
-use Rattle.races.proofs.Verdicts.{First, free-iff, racing-iff}
-use Rattle.races.proofs.Conflicts.{Conflict, conflict-iff}
-use Rattle.races.proofs.Chains.{posix-iff, commit-iff, session-iff, mpi-io-iff}
+use Rattle.races_meaning.specs.Races.{sameFile, isSync, conflict, chain, synchronized, race, free, racing, verdictOf}
+use Rattle.races_meaning.proofs.Verdicts.{First, free-iff, racing-iff}
+use Rattle.races_meaning.proofs.Conflicts.{Conflict, conflict-iff}
+use Rattle.races_meaning.proofs.Chains.{posix-iff, commit-iff, session-iff, mpi-io-iff}
 
 -- ---- What document 01 says
 

@@ -20,11 +20,11 @@ use Rattle.rows.specs.Rows.{rowAt}
 use Rattle.rows.proofs.Bools.{and-out, or-out, or-right, same-test, not-passed}
 use Rattle.rows.proofs.Below.{count-less, count-cut}
 use Rattle.happens_before.proofs.Clocks.{edge-forward, program-order, HB-less, HB-trans, hb-iff, placeOf, place-iff}
-use Rattle.races.specs.Races.{sameFile}
-use Rattle.races.specs.Marks.{publishedBy, refreshedBy, tableChain}
-use Rattle.races.specs.Search.{isPublish, isRefresh, publishAt, refreshAt, bestChain, countsOrder}
-use Rattle.races.proofs.Verdicts.{Least, least-is}
-use Rattle.races.proofs.Chains.{HB-in, HB-start, two-iff}
+use Rattle.races_meaning.specs.Races.{sameFile}
+use Rattle.races_meaning.specs.Marks.{publishedBy, refreshedBy, tableChain}
+use Rattle.races_meaning.specs.Search.{isPublish, isRefresh, publishAt, refreshAt, bestChain, countsOrder}
+use Rattle.races_meaning.proofs.Verdicts.{Least, least-is}
+use Rattle.races_meaning.proofs.Chains.{HB-in, HB-start, two-iff}
 
 -- ---- The first that passes and the last that passes
 

@@ -9,8 +9,8 @@ use Rattle.rows.specs.Kinds.{READ, WRITE}
 use Rattle.rows.specs.declared.Row.{Row}
 use Rattle.happens_before.specs.Order.{sameProcess}
 use Rattle.rows.proofs.Bools.{and-out, or-out}
-use Rattle.races.specs.Races.{isWrite, isData, sameFile, shareByte, conflict}
-use Rattle.races.proofs.Verdicts.{share-iff}
+use Rattle.races_meaning.specs.Races.{isWrite, isData, sameFile, shareByte, conflict}
+use Rattle.races_meaning.proofs.Verdicts.{share-iff}
 
 -- Two data rows that name the same file, share at least one byte, are of different processes, and one is a write.
 pub record Conflict (r s : Row) : Type 0 where

@@ -10,7 +10,7 @@ use Rattle.rows.specs.declared.Row.{Row}
 use Rattle.rows.specs.Counting.{anyBelow}
 use Rattle.happens_before.specs.Order.{sameProcess, edge, hb}
 use Rattle.rows.specs.Rows.{rowAt}
-use Rattle.races.specs.Races.{sameFile}
+use Rattle.races_meaning.specs.Races.{sameFile}
 
 module _ (rows : List Row) (model : ℕ) where
   -- Row c publishes the write X: X itself where a write publishes, else a later row of its process and file that does.

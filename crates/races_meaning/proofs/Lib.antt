@@ -1,0 +1,6 @@
+pub mod Verdicts
+pub mod Conflicts
+pub mod Chains
+pub mod Best
+pub mod Scans
+pub mod Meaning

@@ -1,0 +1,4 @@
+pub mod Races
+pub mod Marks
+pub mod Search
+pub mod Scan
