@@ -7,7 +7,9 @@ use mathlib.Core.List.{map, List, [], _∷_, _++_}
 use Rattle.rows.specs.Kinds.{WRITE, COMMIT}
 use Rattle.models.specs.Models.{COMMIT-MODEL}
 use Rattle.models.specs.Table.{publishes, refreshes}
-use Rattle.csv.specs.Reading.{records, recordsFrom, onFound, readAt, fieldsFrom, onStop, prepend, fieldAt, afterCR, stopOf, run, isText, contentOf, sameBytes}
+use Rattle.csv_field.specs.FieldReading.{fieldAt, afterCR, stopOf, textLength, isText}
+use Rattle.csv_content.specs.Content.{contentOf, sameBytes}
+use Rattle.csv.specs.Reading.{records, recordsFrom, onFound, readAt, fieldsFrom, onStop, prepend}
 use Rattle.rows.specs.declared.Row.{Row}
 use Rattle.trace.specs.Rows.{wordOf, usedBy, allDigits, startsPlain, valueFrom, rowOf}
 use Rattle.trace.specs.Questions.{callQuestions, filledAsUsed, numbersInRange, messageInOrder, fieldQuestions, rowQuestions, judgeRows, readTrace, checkTrace, accepted}
@@ -66,7 +68,7 @@ pub record K : Type 0 where
 
 -- the text is read as these rows
 k-taken : checkTrace kText 0 COMMIT-MODEL 4 2 8192 24 8 ≡ accepted kRows
-unfolding records recordsFrom onFound readAt fieldsFrom onStop prepend fieldAt afterCR stopOf run isText contentOf sameBytes wordOf usedBy allDigits
+unfolding records recordsFrom onFound readAt fieldsFrom onStop prepend fieldAt afterCR stopOf textLength isText contentOf sameBytes wordOf usedBy allDigits
     startsPlain valueFrom rowOf firstNo callQuestions filledAsUsed numbersInRange messageInOrder fieldQuestions rowQuestions judgeRows readTrace
     checkTrace
 k-taken = refl

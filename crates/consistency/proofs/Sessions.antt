@@ -10,8 +10,9 @@ use Rattle.rows.specs.Limits.{FILES}
 use Rattle.rows.specs.Kinds.{WRITE, COMMIT, CLOSE, SEND, RECV}
 use Rattle.models.specs.Models.{COMMIT-MODEL, SESSION}
 use Rattle.models.specs.Table.{publishes, refreshes}
-use Rattle.csv.specs.Reading.{records, recordsFrom, onFound, readAt, fieldsFrom, onStop, prepend, fieldAt}
-use Rattle.csv.specs.Reading.{afterCR, stopOf, run as runText, isText, contentOf, sameBytes}
+use Rattle.csv.specs.Reading.{records, recordsFrom, onFound, readAt, fieldsFrom, onStop, prepend}
+use Rattle.csv_field.specs.FieldReading.{fieldAt, afterCR, stopOf, textLength, isText}
+use Rattle.csv_content.specs.Content.{contentOf, sameBytes}
 use Rattle.rows.specs.declared.Row.{Row}
 use Rattle.trace.specs.Rows.{wordOf, usedBy, allDigits, startsPlain, valueFrom, rowOf}
 use Rattle.trace.specs.Questions.{callQuestions, filledAsUsed, numbersInRange, any, messageInOrder, fieldQuestions, rowQuestions, judgeRows, readTrace, checkTrace, accepted}
@@ -64,7 +65,7 @@ pub record SessionRace : Type 0 where
 
 -- the text is read as these rows
 s-taken : checkTrace sText 0 SESSION 6 2 8192 36 12 ≡ accepted sRows
-unfolding records recordsFrom onFound readAt fieldsFrom onStop prepend fieldAt afterCR stopOf runText isText contentOf sameBytes wordOf usedBy
+unfolding records recordsFrom onFound readAt fieldsFrom onStop prepend fieldAt afterCR stopOf textLength isText contentOf sameBytes wordOf usedBy
     allDigits startsPlain valueFrom rowOf firstNo callQuestions filledAsUsed numbersInRange any messageInOrder fieldQuestions rowQuestions judgeRows
     readTrace checkTrace
 s-taken = refl

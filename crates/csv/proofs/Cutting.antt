@@ -1,47 +1,28 @@
--- A reader with a limit needs no more bytes than the limit and one: what lies behind them changes no record.
+-- A reader with a limit needs no more bytes than one more than the limit: the bytes behind those change no record.
 use Prim.Native.Nat.{ℕ, suc, zero, _+_, _-_, _≤_, _<_}
 use native.Mathlib.Omega.{arith}
 use native.Mathlib.Decide.{decLt}
 use mathlib.Core.Path.{_≡_, refl, sym, ap, subst, _∙_}
-use mathlib.Core.Bool.{Bool, true, false, cond}
-use mathlib.Core.List.{List, [], _∷_, _++_, map}
-use lib.ListN.{length, getD, take, drop, length-drop, length-take}
+use mathlib.Core.Bool.{Bool, true}
+use mathlib.Core.List.{List, [], _∷_, map}
+use lib.ListN.{length, take}
 use lib.Seq.{length-take-le, take-take, take-all}
-use lib.Dec.{eqb}
-use Rattle.csv.specs.Grammar.{DQUOTE}
-use Rattle.csv.specs.Reading.{run, quotes, noSpan, bareAt, quotedTo, fieldAt, prepend, onStop, fieldsFrom, recordIn, readAt, rawOf, contentOf, undouble, onFound, recordsFrom, records, Records, Found, nothing, malformed, past-limit, found}
-use Rattle.csv.specs.declared.Span.{Span}
-use Rattle.csv.specs.declared.scan.Cell.{Cell}
-use Rattle.csv.specs.declared.scan.Quotes.{Quotes}
-use Rattle.csv.specs.declared.scan.Quotes.the-variants.{Unclosed, Broken, Closed}
-use Rattle.csv.specs.declared.scan.Stop.{Stop}
-use Rattle.csv.specs.declared.scan.Stop.the-variants.{Comma, LineEnd, TextEnd, Bad, Cut}
-use Rattle.csv.proofs.Places.{run-in, closed-in, quote-in, comma-place, prepend-found, found-places}
+use Rattle.csv_field.specs.FieldReading.{fieldAt}
+use Rattle.csv_content.specs.Content.{contentOf}
+use Rattle.csv.specs.Reading.{prepend, onStop, fieldsFrom, recordIn, readAt, onFound, recordsFrom, records, Records, Finding, nothing, malformed, past-limit, found}
+use Rattle.csv_field.specs.declared.Span.{Span}
+use Rattle.csv_field.specs.declared.ScannedField.{ScannedField}
+use Rattle.csv_field.specs.declared.Stop.{Stop}
+use Rattle.csv_field.specs.declared.Stop.the-variants.{Comma, LineEnd, TextEnd, Bad, Cut}
+use Rattle.csv_field.proofs.Places.{comma-place, span-in}
+use Rattle.csv_content.proofs.Contents.{content-cut}
+use Rattle.csv.proofs.Places.{prepend-found, found-places}
 use Rattle.csv.proofs.Limit.{read-cut, records-enough}
 
 -- every span ends at or before a place
 abbrev Inside : ℕ → List Span → Type 0
 Inside n [] = Unit {0}
 Inside n (s ∷ ss) = (s .start + s .len ≤ n) × Inside n ss
-
--- a field's span ends within the bytes
-span-in : (s : List ℕ) (cut : Bool) (at : ℕ) → at ≤ length s → fieldAt s cut at .span .start + fieldAt s cut at .span .len ≤ length s
-unfolding fieldAt quotedTo
-span-in s cut at h = go (eqb (getD s at 0) DQUOTE) refl
-  where
-    w : List ℕ
-    w = drop (at + 1) s
-
-    shut : (q : Quotes) → quotes 0 false w ≡ q → at < length s → quotedTo s cut (at + 1) q .span .start + quotedTo s cut (at + 1) q .span .len ≤ length s
-    shut Unclosed e l = omega arith
-    shut Broken e l = omega arith
-    shut (Closed n d) e l = omega (arith, closed-in w n d e, length-drop (at + 1) s)
-
-    go : (x : Bool) → eqb (getD s at 0) DQUOTE ≡ x →
-        (cond x (quotedTo s cut (at + 1) (quotes 0 false w)) (bareAt s cut at)) .span .start
-        + (cond x (quotedTo s cut (at + 1) (quotes 0 false w)) (bareAt s cut at)) .span .len ≤ length s
-    go true e = shut (quotes 0 false w) refl (quote-in s at e)
-    go false e = omega (arith, run-in (drop at s), length-drop at s)
 
 -- the spans of a record end within the bytes
 fields-inside : (k : ℕ) (s : List ℕ) (cut : Bool) (at : ℕ) (spans : List Span) (end next : ℕ) → at ≤ length s →
@@ -50,7 +31,7 @@ unfolding fieldsFrom onStop prepend
 fields-inside zero s cut at spans end next h e = let z : _≡_ {A = ℕ} 0 1 = cc in absurd (omega arith)
 fields-inside (suc k) s cut at spans end next h e = go (fieldAt s cut at .stop) refl e (λ rest l. fields-inside k s cut (fieldAt s cut at .end + 1) rest end next l)
   where
-    c : Cell
+    c : ScannedField
     c = fieldAt s cut at
 
     alone : (c .span ∷ []) ≡ spans → Inside (length s) spans
@@ -70,38 +51,26 @@ fields-inside (suc k) s cut at spans end next h e = go (fieldAt s cut at .stop) 
     go Bad f q ih = let z : _≡_ {A = ℕ} 0 1 = cc in absurd (omega arith)
     go Cut f q ih = let z : _≡_ {A = ℕ} 0 1 = cc in absurd (omega arith)
 
--- a part that ends within the first bytes is a part of them
-part-cut : (text : List ℕ) (start len m : ℕ) → start + len ≤ m → take len (drop start (take m text)) ≡ take len (drop start text)
-part-cut text zero len m h = take-take len m text (omega arith)
-part-cut [] (suc start) len zero h = refl
-part-cut [] (suc start) len (suc m) h = refl
-part-cut (b ∷ t) (suc start) len zero h = absurd (omega arith)
-part-cut (b ∷ t) (suc start) len (suc m) h = part-cut t start len m (omega arith)
-
--- bytes behind a span change nothing of its content
-content-cut : (text : List ℕ) (m : ℕ) (span : Span) → span .start + span .len ≤ m → contentOf (take m text) span ≡ contentOf text span
-unfolding contentOf
-content-cut text m span h = ap (λ raw. cond (span .doubled) (undouble false raw) raw) (part-cut text (span .start) (span .len) m h)
-
--- nor of the contents of spans
+-- bytes behind spans change nothing of their contents
 contents-cut : (text : List ℕ) (m n : ℕ) (spans : List Span) → n ≤ m → Inside n spans → map (contentOf (take m text)) spans ≡ map (contentOf text) spans
 contents-cut text m n [] h i = refl
 contents-cut text m n (s ∷ ss) h i =
     λ j. content-cut text m s (omega (arith, i .0)) j ∷ contents-cut text m n ss h (i .1) j
 
 module _ (text : List ℕ) (limit m : ℕ) (low : limit < m) (high : m < length text) where
+  -- the part's length
   length-cut : length (take m text) ≡ m
   length-cut = length-take-le m text (omega arith)
 
-  -- the record at a place up to the limit
+  -- a reader finds one record at a place up to the limit, in the text and in its part
   read-same : (at : ℕ) → at ≤ limit → readAt (take m text) at limit ≡ readAt text at limit
   read-same at h =
       read-cut (take m text) at limit (omega (arith, length-cut)) (omega (arith, length-cut))
       ∙ ap (λ s. recordIn s true at) (take-take limit m text (omega arith))
       ∙ sym (read-cut text at limit (omega arith) (omega arith))
 
-  -- a record's fields have the same contents, and it ends within the limit
-  found-cut : (r : Found) (at : ℕ) → at ≤ limit → readAt text at limit ≡ r → (f g : ℕ → Records) →
+  -- the records from a finding on are those in the text, where the records behind are
+  found-cut : (r : Finding) (at : ℕ) → at ≤ limit → readAt text at limit ≡ r → (f g : ℕ → Records) →
       ((next : ℕ) → next ≤ limit → f next ≡ g next) → onFound (take m text) r f ≡ onFound text r g
   unfolding onFound
   found-cut nothing at h e f g q = refl
@@ -115,7 +84,7 @@ module _ (text : List ℕ) (limit m : ℕ) (low : limit < m) (high : m < length 
       let rest = q next (p .4 (omega arith)) in
       λ j. record { rows = same j ∷ rest j .rows; ending = rest j .ending }
 
-  -- the records from a place up to the limit
+  -- the records from a place up to the limit are those in the text
   records-same : (k at : ℕ) → at ≤ limit → recordsFrom k (take m text) limit at ≡ recordsFrom k text limit at
   unfolding recordsFrom
   records-same zero at h = refl

@@ -1,5 +1,4 @@
--- Reading finds a record with these contents exactly where the grammar of RFC 4180 derives one, and the grammar is unambiguous.
---
+-- A reader finds a record with these contents exactly where the grammar of RFC 4180 derives one, and the grammar is unambiguous.
 use Prim.Native.Nat.{ℕ, suc, zero, _+_, _-_, _≤_, _<_}
 use native.Mathlib.Omega.{arith}
 use native.Mathlib.Nat.{le-refl}
@@ -12,20 +11,22 @@ use lib.ListN.{length, take, drop, length-append, length-drop, take-append-drop,
 use lib.Seq.{take-all, take-length, take-append-seam, drop-at, drop-append-le}
 use lib.Dec.{ltb}
 use borrow.Author.Tests.{lt-ltb, le-ltb, ltb-true, ltb-false}
-use Rattle.csv.specs.Grammar.{CRLF, Record, Line, ended, last, Text}
-use Rattle.csv.specs.Reading.{recordIn, readAt, Found, nothing, malformed, past-limit, found, contentOf, onFound, recordsFrom, records, Records, all-read}
-use Rattle.csv.specs.declared.Span.{Span}
-use Rattle.csv.proofs.Fields.{behind}
+use Rattle.csv_field.specs.FieldGrammar.{CRLF}
+use Rattle.csv.specs.Grammar.{Record, Line, ended, last, Text}
+use Rattle.csv_content.specs.Content.{contentOf}
+use Rattle.csv.specs.Reading.{recordIn, readAt, Finding, nothing, malformed, past-limit, found, onFound, recordsFrom, records, Records, all-read}
+use Rattle.csv_field.specs.declared.Span.{Span}
+use Rattle.csv_content.proofs.Fields.{behind}
 use Rattle.csv.proofs.Records.{Halt, line, whole, after, record-found, Derived, found-derived, Settled, settled}
 use Rattle.csv.proofs.Places.{found-places}
 use Rattle.csv.proofs.Limit.{limit-same}
 
--- a record at the front of a text is what its length takes
+-- a record at the front of a text has the text's first bytes
 line-own : {t own rest : List ℕ} {fields : List (List ℕ)} → Line t own fields rest → take (length own) t ≡ own
 line-own {own} {rest} (ended e r) = rw e (take-append-seam own (CRLF rest))
 line-own {own} (last e z n r) = rw e (take-length own)
 
--- and the rest of the text its last bytes
+-- the rest behind a record has the text's last bytes
 line-rest : {t own rest : List ℕ} {fields : List (List ℕ)} → Line t own fields rest → drop (length t - length rest) t ≡ rest
 line-rest {t} {own} {rest} (ended e r) =
     let p = own ++ CRLF [] in
@@ -42,7 +43,7 @@ some-bytes [] n = absurd (n refl)
 some-bytes (b ∷ l) n = omega arith
 
 module _ (text : List ℕ) (at limit : ℕ) where
-  -- a record of the grammar before what stands after one is found
+  -- the reader finds a record of the grammar before what stands after a record
   record-read : {w u : List ℕ} {cs : List (List ℕ)} {next : ℕ} → at < length text → Record w cs → drop at (take limit text) ≡ w ++ u →
       (h : Halt (ltb limit (length text)) u) → after h (at + length w) ≡ next →
       (spans : List Span) × (readAt text at limit ≡ found spans (at + length w) next) × (map (contentOf text) spans ≡ cs)
@@ -53,7 +54,7 @@ module _ (text : List ℕ) (at limit : ℕ) where
       let x = record-found s (drop limit text) (ltb limit (length text)) r (suc (length s)) at split h fuel in
       (x .0, rw (lt-ltb at (length text), ← e) (x .1), rw take-append-drop at (x .2))
 
-  -- and is at the front of the text
+  -- a record of the grammar before what stands after a record is a Line of the text
   record-line : {w u : List ℕ} {cs : List (List ℕ)} → at < length text → Record w cs → drop at (take limit text) ≡ w ++ u →
       (h : Halt (ltb limit (length text)) u) → Line (drop at text) w cs (drop (after h (at + length w)) text)
   record-line {w} i r split (line {rest}) =
@@ -68,7 +69,7 @@ module _ (text : List ℕ) (at limit : ℕ) where
       let n : w ≡ [] → ⊥ = λ z. omega (arith, ap length z, ap length (q ∙ append-nil w), length-drop at text) in
       last (q ∙ append-nil w) (behind w [] text at q) n r
 
-  -- what is found is that record
+  -- the record that the reader finds is a Line of the text
   derived-line : (spans : List Span) (end next : ℕ) → at < length text → Derived (take limit text) (ltb limit (length text)) at →
       readAt text at limit ≡ found spans end next →
       Line (drop at text) (take (end - at) (drop at text)) (map (contentOf text) spans) (drop next text)
@@ -81,7 +82,7 @@ module _ (text : List ℕ) (at limit : ℕ) where
       let k : end - at ≡ length (d .own) = omega arith in
       rw (k, line-own l, c, n) l
 
--- what reading finds is derived by the grammar: the record's own bytes, its fields by content, and the rest of the text
+-- The grammar derives what the reader finds: the record's own bytes, its fields by content, and the rest of the text.
 pub found-line : (text : List ℕ) (at limit : ℕ) (spans : List Span) (end next : ℕ) →
     readAt text at limit ≡ found spans end next →
     Line (drop at text) (take (end - at) (drop at text)) (map (contentOf text) spans) (drop next text)
@@ -96,7 +97,7 @@ found-line text at limit spans end next e = go (ltb at (length text)) refl e
         e
     go false p f = let z : _≡_ {A = ℕ} 0 1 = cc in absurd (omega arith)
 
--- what the grammar derives is found
+-- the reader finds what the grammar derives
 pub line-found : (text : List ℕ) (at limit : ℕ) {own : List ℕ} {fields : List (List ℕ)} {rest : List ℕ} →
     length text ≤ limit → Line (drop at text) own fields rest →
     (spans : List Span) × (readAt text at limit ≡ found spans (at + length own) (length text - length rest)) × (map (contentOf text) spans ≡ fields)
@@ -110,7 +111,7 @@ line-found text at limit {own} {rest} h (last e z n r) =
     let q : drop at text ≡ own ++ [] = e ∙ sym (append-nil own) in
     record-read text at limit (omega arith) r (rw (take-all limit text h) q) (whole (le-ltb limit (length text) h)) (omega arith)
 
--- a text is a record and its rest in one way at the most
+-- a text splits into a record and a rest in at most one way
 pub unambiguous : {t own own′ rest rest′ : List ℕ} {fields fields′ : List (List ℕ)} →
     Line t own fields rest → Line t own′ fields′ rest′ → (own ≡ own′) × (fields ≡ fields′) × (rest ≡ rest′)
 unambiguous {t} {own} {own′} {rest} {rest′} l l′ =
@@ -124,12 +125,12 @@ unambiguous {t} {own} {own′} {rest} {rest′} l l′ =
       sym (line-rest l) ∙ ap (λ (k : ℕ). drop k t) m ∙ line-rest l′,
     )
 
--- where the whole text may be looked at, no limit is met
+-- a reader that may look at the whole text meets no limit
 settled-read : (text : List ℕ) (at limit : ℕ) → length text ≤ limit → at < length text → Settled (readAt text at limit)
 unfolding readAt
 settled-read text at limit h i = rw (lt-ltb at (length text), le-ltb limit (length text)) (settled (take limit text) _ at)
 
--- malformed is said exactly of a place where bytes stand and the grammar derives no record
+-- the reader finds a malformed record exactly where bytes stand and the grammar derives no record
 pub malformed-iff : (text : List ℕ) (at limit : ℕ) → length text ≤ limit →
     (readAt text at limit ≡ malformed) ↔ ((at < length text) × ((own : List ℕ) (fields : List (List ℕ)) (rest : List ℕ) → Line (drop at text) own fields rest → ⊥))
 unfolding readAt
@@ -146,7 +147,7 @@ malformed-iff text at limit h = (
     never : {own rest : List ℕ} {fields : List (List ℕ)} → Line (drop at text) own fields rest → readAt text at limit ≡ malformed → ⊥
     never l e = let x = line-found text at limit h l in let z : _≡_ {A = ℕ} 0 1 = cc in omega arith
 
-    go : (f : Found) → readAt text at limit ≡ f → Settled f →
+    go : (f : Finding) → readAt text at limit ≡ f → Settled f →
         ((own : List ℕ) (fields : List (List ℕ)) (rest : List ℕ) → Line (drop at text) own fields rest → ⊥) → readAt text at limit ≡ malformed
     go nothing e t n = absurd t
     go malformed e t n = e
@@ -154,7 +155,7 @@ malformed-iff text at limit h = (
     go (found spans end next) e t n = absurd (n _ _ _ (found-line text at limit spans end next e))
 
 module _ (text : List ℕ) (limit : ℕ) (h : length text ≤ limit) where
-  -- nothing is found only at the end of the text
+  -- the reader finds nothing only at the end of the text
   nothing-end : (at : ℕ) → readAt text at limit ≡ nothing → length text ≤ at
   nothing-end at e = go (ltb at (length text)) refl
     where
@@ -166,14 +167,14 @@ module _ (text : List ℕ) (limit : ℕ) (h : length text ≤ limit) where
   text-end : (at : ℕ) → length text ≤ at → Text (drop at text) []
   text-end at i = rw (drop-of-length-le text i) Text.none
 
-  -- the records from a place on, all read, are a text
+  -- the grammar derives the records from a place on, where the reader reads all
   read-text : (k at : ℕ) → length text < at + k → recordsFrom k text limit at .ending ≡ all-read →
       Text (drop at text) (recordsFrom k text limit at .rows)
   unfolding recordsFrom onFound
   read-text zero at i e = text-end at (omega arith)
   read-text (suc k) at i e = go (readAt text at limit) refl e (λ p j q. read-text k p j q)
     where
-      go : (f : Found) → readAt text at limit ≡ f → onFound text f (λ p. recordsFrom k text limit p) .ending ≡ all-read →
+      go : (f : Finding) → readAt text at limit ≡ f → onFound text f (λ p. recordsFrom k text limit p) .ending ≡ all-read →
           ((p : ℕ) → length text < p + k → recordsFrom k text limit p .ending ≡ all-read → Text (drop p text) (recordsFrom k text limit p .rows)) →
           Text (drop at text) (onFound text f (λ p. recordsFrom k text limit p) .rows)
       go nothing q e r = text-end at (nothing-end at q)
@@ -182,7 +183,7 @@ module _ (text : List ℕ) (limit : ℕ) (h : length text ≤ limit) where
       go (found spans end next) q e r =
           Text.more (found-line text at limit spans end next q) (r next (omega (arith, found-places text at limit spans end next q)) e)
 
-  -- a record that is found and the records after it
+  -- the records from a place on are the record that the reader finds there and the records after it
   one-found : {fields : List (List ℕ)} {rows : List (List (List ℕ))} (k at : ℕ) (spans : List Span) (end next : ℕ) →
       readAt text at limit ≡ found spans end next → map (contentOf text) spans ≡ fields →
       recordsFrom k text limit next ≡ record { rows = rows; ending = all-read } →
@@ -190,7 +191,7 @@ module _ (text : List ℕ) (limit : ℕ) (h : length text ≤ limit) where
   unfolding recordsFrom onFound
   one-found k at spans end next e f r = rw (e, f, r)
 
-  -- a text from a place on is the records, all read
+  -- the reader reads all records that the grammar derives from a place on
   text-read : {t : List ℕ} {rows : List (List (List ℕ))} → Text t rows → (k at : ℕ) → drop at text ≡ t → length text < at + k →
       recordsFrom k text limit at ≡ record { rows = rows; ending = all-read }
   unfolding recordsFrom onFound readAt
@@ -208,7 +209,7 @@ module _ (text : List ℕ) (limit : ℕ) (h : length text ≤ limit) where
       let u = unambiguous (found-line text at limit _ _ _ (f .1)) (rw (sym e) at l) in
       one-found k at _ _ _ (f .1) (f .2) (text-read x k (length text - length rest) (u .2) (omega arith))
 
--- the records of a text, all read, are those that the grammar derives
+-- where the limit is not below the text's length, the reader reads exactly the records that the grammar derives
 pub records-text : (text : List ℕ) (limit : ℕ) (rows : List (List (List ℕ))) → length text ≤ limit →
     (records text limit ≡ record { rows = rows; ending = all-read }) ↔ Text text rows
 unfolding records
@@ -217,14 +218,14 @@ records-text text limit rows h = (
   λ t. text-read text limit h t _ 0 refl (omega arith),
 )
 
--- where all of a text is read, the text ends within the limit
+-- where the reader reads all of a text, the text ends within the limit
 within-limit : (text : List ℕ) (limit k at : ℕ) → length text < at + k → at ≤ limit → recordsFrom k text limit at .ending ≡ all-read →
     length text ≤ limit
 unfolding recordsFrom onFound
 within-limit text limit zero at h i e = omega arith
 within-limit text limit (suc k) at h i e = go (readAt text at limit) refl e (λ p j. within-limit text limit k p j) (decLt limit (length text))
   where
-    go : (f : Found) → readAt text at limit ≡ f → onFound text f (λ p. recordsFrom k text limit p) .ending ≡ all-read →
+    go : (f : Finding) → readAt text at limit ≡ f → onFound text f (λ p. recordsFrom k text limit p) .ending ≡ all-read →
         ((p : ℕ) → length text < p + k → p ≤ limit → recordsFrom k text limit p .ending ≡ all-read → length text ≤ limit) →
         Dec (limit < length text) → length text ≤ limit
     go nothing q e r d =
@@ -237,7 +238,8 @@ within-limit text limit (suc k) at h i e = go (readAt text at limit) refl e (λ 
         r next (omega arith) (p .4 l) e
     go (found spans end next) q e r (no l) = omega arith
 
--- All of a text is read exactly where it ends within the limit and the grammar derives it, and its records are those that are derived.
+-- The reader reads all of a text exactly where the text ends within the limit and the grammar derives it, and reads the records that the
+-- grammar derives.
 pub all-read-iff : (text : List ℕ) (limit : ℕ) (rows : List (List (List ℕ))) →
     (records text limit ≡ record { rows = rows; ending = all-read }) ↔ ((length text ≤ limit) × Text text rows)
 unfolding records

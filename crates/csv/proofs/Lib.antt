@@ -1,14 +1,8 @@
-pub mod Bytes
-pub mod Runs
 pub mod Places
 pub mod Limit
-pub mod Fields
 pub mod Records
 pub mod Grammar
-pub mod Steps
-pub mod Cells
 pub mod Going
-pub mod Contents
 pub mod Examples
 pub mod Answers
 pub mod Cutting

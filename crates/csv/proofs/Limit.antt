@@ -1,101 +1,45 @@
--- What a byte limit changes, and that reading record after record ends.
+-- What a byte limit changes, and why a reader that reads record after record ends.
 use Prim.Native.Nat.{ℕ, suc, zero, _+_, _-_, _≤_, _<_}
 use native.Mathlib.Omega.{arith}
 use native.Mathlib.Decide.{decLe, decLt}
 use mathlib.Core.Path.{_≡_, refl, sym, ap, _∙_}
 use mathlib.Core.Bool.{Bool, true, false}
-use mathlib.Core.List.{List, [], _∷_, _++_, append-nil}
+use mathlib.Core.List.{List, [], _∷_, _++_}
 use mathlib.Core.Logic.{_⊎_, inl, inr}
-use lib.ListN.{length, take, drop, length-take, length-append, drop-of-length-le, take-append-drop}
-use lib.Seq.{drop-append-le, drop-append-add, take-all}
+use lib.ListN.{length, take, drop, length-take, length-append, take-append-drop}
+use lib.Seq.{take-all}
 use borrow.Author.Tests.{lt-ltb, le-ltb}
-use Rattle.csv.specs.Grammar.{DQUOTE, CR, LF}
-use Rattle.csv.specs.Reading.{isText, isQuoted, run, quotes, afterCR, stopOf, cell, quotedTo, fieldAt, prepend, onStop, fieldsFrom, recordIn, readAt, Records, onFound, recordsFrom, Found, nothing, malformed, past-limit, found}
-use Rattle.csv.specs.declared.Span.{Span}
-use Rattle.csv.specs.declared.scan.Cell.{Cell}
-use Rattle.csv.specs.declared.scan.Stop.{Stop}
-use Rattle.csv.specs.declared.scan.Stop.the-variants.{Comma, LineEnd, TextEnd, Bad, Cut}
-use Rattle.csv.proofs.Places.{Stops, comma, line, cut-end, cut-cr, bad, stops, Plain, View, ends, broken, unclosed, view, past-end, comma-place, whole-place, fields-past, found-places}
+use Rattle.csv_field.specs.FieldReading.{fieldAt}
+use Rattle.csv.specs.Reading.{prepend, onStop, fieldsFrom, recordIn, readAt, Records, onFound, recordsFrom, Finding, nothing, malformed, past-limit, found}
+use Rattle.csv_field.specs.declared.Span.{Span}
+use Rattle.csv_field.specs.declared.ScannedField.{ScannedField}
+use Rattle.csv_field.specs.declared.Stop.{Stop}
+use Rattle.csv_field.specs.declared.Stop.the-variants.{Comma, LineEnd, TextEnd, Bad, Cut}
+use Rattle.csv_field.proofs.Places.{comma-place, whole-place}
+use Rattle.csv_field.proofs.MoreBytes.{field-more, field-cut}
+use Rattle.csv.proofs.Places.{fields-past, found-places}
 
--- ---- what reading reads
+-- ---- The bytes that a reader looks at
 
--- at the end of the text, nothing
+-- at the end of the text a reader finds nothing
 pub read-past : (text : List ℕ) (at limit : ℕ) → length text ≤ at → readAt text at limit ≡ nothing
 unfolding readAt
 read-past text at limit h = rw (le-ltb at (length text) h)
 
--- of a text that is longer than the limit, the bytes before it
+-- of a text that is longer than the limit, a reader looks at the bytes before the limit
 pub read-cut : (text : List ℕ) (at limit : ℕ) → at < length text → limit < length text → readAt text at limit ≡ recordIn (take limit text) true at
 unfolding readAt
 read-cut text at limit h g = rw (lt-ltb at (length text) h, lt-ltb limit (length text) g)
 
--- of any other, all bytes
+-- of any other text, a reader looks at all bytes
 pub read-whole : (text : List ℕ) (at limit : ℕ) → at < length text → length text ≤ limit → readAt text at limit ≡ recordIn text false at
 unfolding readAt
 read-whole text at limit h g = rw (lt-ltb at (length text) h, le-ltb limit (length text) g, take-all limit text g)
 
--- ---- a field and more bytes after it
+-- ---- The fields of a record
 
--- what follows a field stays what it is, whatever bytes come after
-stop-more : {t : List ℕ} {x : Stop} → Stops true t x → (x ≡ Cut → ⊥) → (u : List ℕ) (c : Bool) → stopOf c (t ++ u) ≡ x
-unfolding stopOf afterCR
-stop-more comma h u c = refl
-stop-more line h u c = refl
-stop-more cut-end h u c = absurd (h refl)
-stop-more cut-cr h u c = absurd (h refl)
-stop-more (bad t f) h u c = f u c
-
--- where a field is cut off at what follows it, bytes may come after that end the record, and such that make it malformed
-stop-cut : {t : List ℕ} → Stops true t Cut →
-    ((u : List ℕ) × (length u ≡ 3) × Plain u × (stopOf false (t ++ u) ≡ LineEnd)) × (stopOf false (t ++ (0 ∷ [])) ≡ Bad)
-unfolding stopOf afterCR run isText
-stop-cut cut-end = ((CR ∷ (LF ∷ (0 ∷ [])), refl, (refl, refl), refl), refl)
-stop-cut cut-cr = ((LF ∷ (0 ∷ (0 ∷ [])), refl, (refl, refl), refl), refl)
-
--- a field that is not cut off stays what it is, whatever bytes come after
-field-more : (p u : List ℕ) (c : Bool) (at : ℕ) → (fieldAt p true at .stop ≡ Cut → ⊥) → fieldAt (p ++ u) c at ≡ fieldAt p true at
-unfolding stopOf quotes quotedTo run
-field-more p u c at h = go (decLe at (length p))
-  where
-    none : (n : ℕ) → length p ≤ n → stopOf true (drop n p) ≡ Cut
-    none n l = rw (drop-of-length-le p l)
-
-    viewed : View p at → fieldAt (p ++ u) c at ≡ fieldAt p true at
-    viewed (ends span end i j f) =
-        let q : fieldAt p true at ≡ cell p true span end = rw append-nil at (f [] true (λ l. (refl, refl))) in
-        let d : stopOf c (drop end p ++ u) ≡ stopOf true (drop end p) = stop-more (stops true (drop end p)) (λ e. h (rw q e)) u c in
-        f u c (λ l. absurd (h (rw q (none end l)))) ∙ rw (q, drop-append-le end p u j, d)
-    viewed (broken f) = f u c ∙ sym (rw append-nil at (f [] true))
-    viewed (unclosed l f) = absurd (h (rw (rw append-nil at (f [] true .1))))
-
-    go : Dec (at ≤ length p) → fieldAt (p ++ u) c at ≡ fieldAt p true at
-    go (yes l) = viewed (view p at l)
-    go (no l) = absurd (h (rw (past-end p true at (omega arith)) (none (at + run (drop at p)) (omega arith))))
-
--- where a field is cut off, bytes may come after that end its record, and such that make it malformed
-field-cut : (p : List ℕ) (at : ℕ) → at ≤ length p → fieldAt p true at .stop ≡ Cut →
-    ((u : List ℕ) × (length u ≡ 3) × (fieldAt (p ++ u) false at .stop ≡ LineEnd)) × (fieldAt (p ++ (0 ∷ [])) false at .stop ≡ Bad)
-unfolding stopOf afterCR quotes quotedTo run isText isQuoted
-field-cut p at h e = go (view p at h)
-  where
-    go : View p at →
-        ((u : List ℕ) × (length u ≡ 3) × (fieldAt (p ++ u) false at .stop ≡ LineEnd)) × (fieldAt (p ++ (0 ∷ [])) false at .stop ≡ Bad)
-    go (ends span end i j f) =
-        let q : fieldAt p true at ≡ cell p true span end = rw append-nil at (f [] true (λ l. (refl, refl))) in
-        let r = stop-cut (rw (rw q at e) at (stops true (drop end p))) in (
-          (r .0 .0, r .0 .1, rw (f (r .0 .0) false (λ l. r .0 .2), drop-append-le end p (r .0 .0) j) (r .0 .3)),
-          rw (f (0 ∷ []) false (λ l. (refl, refl)), drop-append-le end p (0 ∷ []) j) (r .1),
-        )
-    go (broken f) = let q : Bad ≡ Cut = rw (rw append-nil at (f [] true)) at e in let z : _≡_ {A = ℕ} 0 1 = cc in absurd (omega arith)
-    go (unclosed l f) =
-        let n : at + 1 + (length p - (at + 1)) + 1 ≡ length p + 1 = omega arith in
-        let u : List ℕ = DQUOTE ∷ (CR ∷ (LF ∷ [])) in
-        ((u, refl, rw (f u false .1, n, drop-append-add p u 1)), rw (f (0 ∷ []) false .1))
-
--- ---- the fields of a record
-
--- what a field makes of its record hangs on what reading on finds, and only where a comma follows it
-on-same : (x : Stop) (span : Span) (end : ℕ) (f g : ℕ → Found) → (x ≡ Comma → f (end + 1) ≡ g (end + 1)) → onStop x span end f ≡ onStop x span end g
+-- what a reader finds behind a field depends on `rest` only where a comma follows the field
+on-same : (x : Stop) (span : Span) (end : ℕ) (f g : ℕ → Finding) → (x ≡ Comma → f (end + 1) ≡ g (end + 1)) → onStop x span end f ≡ onStop x span end g
 unfolding onStop
 on-same Comma span end f g h = ap (prepend span) (h refl)
 on-same LineEnd span end f g h = refl
@@ -103,13 +47,13 @@ on-same TextEnd span end f g h = refl
 on-same Bad span end f g h = refl
 on-same Cut span end f g h = refl
 
--- a record is past the limit because a field is cut off, or because reading on behind a comma meets the limit
-on-past : (x : Stop) (span : Span) (end : ℕ) (f : ℕ → Found) → onStop x span end f ≡ past-limit →
+-- a record is past the limit because the limit cuts off the field, or because the fields behind a comma are past the limit
+on-past : (x : Stop) (span : Span) (end : ℕ) (f : ℕ → Finding) → onStop x span end f ≡ past-limit →
     (x ≡ Cut) ⊎ ((x ≡ Comma) × (f (end + 1) ≡ past-limit))
 unfolding onStop prepend
 on-past Comma span end f e = inr (refl, go (f (end + 1)) e)
   where
-    go : (r : Found) → prepend span r ≡ past-limit → r ≡ past-limit
+    go : (r : Finding) → prepend span r ≡ past-limit → r ≡ past-limit
     go nothing q = q
     go malformed q = q
     go past-limit q = q
@@ -119,7 +63,7 @@ on-past TextEnd span end f e = let z : _≡_ {A = ℕ} 0 1 = cc in absurd (omega
 on-past Bad span end f e = let z : _≡_ {A = ℕ} 0 1 = cc in absurd (omega arith)
 on-past Cut span end f e = inl refl
 
--- enough turns are enough: each field takes a byte
+-- a bound larger than the bytes' number changes no record: each field but the last takes a byte
 fields-enough : (k m : ℕ) (s : List ℕ) (cut : Bool) (at : ℕ) → at ≤ length s → length s < at + k → length s < at + m →
     fieldsFrom k s cut at ≡ fieldsFrom m s cut at
 unfolding fieldsFrom
@@ -128,13 +72,13 @@ fields-enough (suc k) zero s cut at h i j = absurd (omega arith)
 fields-enough (suc k) (suc m) s cut at h i j =
     on-same _ _ _ _ _ (λ f. let c = comma-place s cut at f in fields-enough k m s cut _ (omega arith) (omega arith) (omega arith))
 
--- a text that is not cut meets no limit
+-- a record of a text that is not cut meets no limit
 fields-whole : (k : ℕ) (s : List ℕ) (at : ℕ) → fieldsFrom k s false at ≡ past-limit → ⊥
 unfolding fieldsFrom
 fields-whole zero s at e = let z : _≡_ {A = ℕ} 0 1 = cc in absurd (omega arith)
 fields-whole (suc k) s at e = go (on-past _ _ _ _ e) (fields-whole k s (fieldAt s false at .end + 1))
   where
-    c : Cell
+    c : ScannedField
     c = fieldAt s false at
 
     go : (c .stop ≡ Cut) ⊎ ((c .stop ≡ Comma) × (fieldsFrom k s false (c .end + 1) ≡ past-limit)) →
@@ -142,7 +86,7 @@ fields-whole (suc k) s at e = go (on-past _ _ _ _ e) (fields-whole k s (fieldAt 
     go (inl q) ih = whole-place s at q
     go (inr q) ih = ih (q .1)
 
--- a record that meets no limit stays what it is, whatever bytes come after
+-- a record that meets no limit stays as it is whatever bytes come after
 fields-more : (k : ℕ) (p u : List ℕ) (c : Bool) (at : ℕ) → (fieldsFrom k p true at ≡ past-limit → ⊥) →
     fieldsFrom k (p ++ u) c at ≡ fieldsFrom k p true at
 unfolding fieldsFrom onStop prepend
@@ -152,19 +96,19 @@ fields-more (suc k) p u c at h =
     rw (field-more p u c at (λ f. h (rw f)))
     (on-same (d .stop) (d .span) (d .end) _ _ (λ f. fields-more k p u c (d .end + 1) (λ q. h (rw (f, q)))))
 
--- bytes may come after p that end the record at a place, and such that make it malformed
+-- some bytes behind p end the record at a place, and others make it malformed
 abbrev Undecided : ℕ → List ℕ → ℕ → Type 0
 Undecided k p at =
     ((u : List ℕ) × (length u ≡ 3) × (spans : List Span) × (end : ℕ) × (next : ℕ) × (fieldsFrom k (p ++ u) false at ≡ found spans end next))
     × (fieldsFrom k (p ++ (0 ∷ [])) false at ≡ malformed)
 
--- so it is where reading meets the limit
+-- a record that meets the limit is Undecided
 fields-cut : (k : ℕ) (p : List ℕ) (at : ℕ) → at ≤ length p → fieldsFrom k p true at ≡ past-limit → Undecided k p at
 unfolding fieldsFrom onStop prepend
 fields-cut zero p at h e = let z : _≡_ {A = ℕ} 0 1 = cc in absurd (omega arith)
 fields-cut (suc k) p at h e = go (on-past _ _ _ _ e) (fields-cut k p (fieldAt p true at .end + 1))
   where
-    c : Cell
+    c : ScannedField
     c = fieldAt p true at
 
     comma-more : c .stop ≡ Comma → (u : List ℕ) → fieldAt (p ++ u) false at ≡ c
@@ -183,9 +127,9 @@ fields-cut (suc k) p at h e = go (on-past _ _ _ _ e) (fields-cut k p (fieldAt p 
           rw (comma-more (q .0) (0 ∷ []), q .0, r .1),
         )
 
--- ---- the limit
+-- ---- The limit
 
--- a limit is met only by a text that is longer
+-- only a text longer than the limit meets the limit
 pub limit-cut : (text : List ℕ) (at limit : ℕ) → readAt text at limit ≡ past-limit → (limit < length text) × (at < length text)
 limit-cut text at limit e = go (decLt limit (length text)) (decLt at (length text))
   where
@@ -194,7 +138,7 @@ limit-cut text at limit e = go (decLt limit (length text)) (decLt at (length tex
     go (no i) (yes j) = absurd (fields-whole _ text at (sym (read-whole text at limit j (omega arith)) ∙ e))
     go i (no j) = let q = read-past text at limit (omega arith) in let z : _≡_ {A = ℕ} 0 1 = cc in absurd (omega arith)
 
--- a limit changes no answer but to say that it was met
+-- a reader that does not meet the limit finds what a reader without a limit finds
 pub limit-same : (text : List ℕ) (at limit : ℕ) → (readAt text at limit ≡ past-limit → ⊥) → readAt text at limit ≡ readAt text at (length text)
 limit-same text at limit h = go (decLt limit (length text)) (decLt at (length text))
   where
@@ -214,7 +158,7 @@ limit-same text at limit h = go (decLt limit (length text)) (decLt at (length te
     go (no i) (yes j) = read-whole text at limit j (omega arith) ∙ sym (read-whole text at (length text) j (omega arith))
     go i (no j) = read-past text at limit (omega arith) ∙ sym (read-past text at (length text) (omega arith))
 
--- enough turns read what stands in p with bytes after it
+-- a bound larger than the bytes' number reads the record of p with u behind it
 read-more : (k : ℕ) (p u : List ℕ) (at : ℕ) → at ≤ length p → 0 < length u → length p + length u < k →
     readAt (p ++ u) at (length (p ++ u)) ≡ fieldsFrom k (p ++ u) false at
 read-more k p u at h i j =
@@ -222,7 +166,8 @@ read-more k p u at h i j =
     read-whole (p ++ u) at (length (p ++ u)) (omega arith) (omega arith) ∙
     fields-enough (suc (length (p ++ u))) k (p ++ u) false at (omega arith) (omega arith) (omega arith)
 
--- Where the limit is met, the bytes before it decide nothing: they go on to a record in one text, and to a malformed one in another.
+-- Where a reader meets the limit, the bytes before the limit decide nothing: some texts that go on from them have a record there, and
+-- others a malformed one.
 pub limit-undecided : (text : List ℕ) (at limit : ℕ) → at ≤ limit → readAt text at limit ≡ past-limit →
     ((more : List ℕ) × (spans : List Span) × (end : ℕ) × (next : ℕ) × (readAt (take limit text ++ more) at (length (take limit text ++ more)) ≡ found spans end next))
     × ((more : List ℕ) × (readAt (take limit text ++ more) at (length (take limit text ++ more)) ≡ malformed))
@@ -252,10 +197,10 @@ limit-undecided text at limit h e = go (fields-cut k p at i (fields-enough k _ p
           (0 ∷ [], read-more k p (0 ∷ []) at i (omega arith) (omega arith) ∙ r .1),
         )
 
--- ---- record after record
+-- ---- Record after record
 
--- what is read after a record hangs on the place after it
-found-same : (text : List ℕ) (r : Found) (f g : ℕ → Records) → ((spans : List Span) (end next : ℕ) → r ≡ found spans end next → f next ≡ g next) →
+-- the records from a finding on depend on `rest` only at the place of the next record
+found-same : (text : List ℕ) (r : Finding) (f g : ℕ → Records) → ((spans : List Span) (end next : ℕ) → r ≡ found spans end next → f next ≡ g next) →
     onFound text r f ≡ onFound text r g
 unfolding onFound
 found-same text nothing f g h = refl
@@ -263,7 +208,7 @@ found-same text malformed f g h = refl
 found-same text past-limit f g h = refl
 found-same text (found spans end next) f g h = rw (h spans end next refl)
 
--- reading record after record ends: enough turns are enough, however many there are
+-- a bound larger than the bytes' number changes no records
 pub records-enough : (k m : ℕ) (text : List ℕ) (limit at : ℕ) → length text < at + k → length text < at + m →
     recordsFrom k text limit at ≡ recordsFrom m text limit at
 unfolding recordsFrom onFound

@@ -1,277 +1,30 @@
--- Where fields and records end: within the text, and each record after its start.
-use Prim.Native.Nat.{ℕ, suc, zero, _+_, _-_, _≤_, _<_}
+-- Where records end: within the text, and after their start.
+use Prim.Native.Nat.{ℕ, suc, zero, _+_, _≤_, _<_}
 use native.Mathlib.Omega.{arith}
 use native.Mathlib.Decide.{decLe}
-use mathlib.Core.Path.{_≡_, refl, ap, subst, _∙_}
+use mathlib.Core.Path.{_≡_, refl, _∙_}
 use mathlib.Core.Bool.{Bool, true, false, cond}
-use mathlib.Core.List.{List, [], _∷_, _++_, append-nil}
-use mathlib.Core.Logic.{_⊎_, inl, inr}
-use lib.ListN.{length, getD, take, drop, length-drop, length-take, drop-of-length-le, List·getD-eq-default}
-use lib.Seq.{drop-append-le}
-use lib.Dec.{ltb, eqb}
-use borrow.Author.Tests.{eqb-true, ltb-true, ltb-false}
-use Rattle.csv.specs.Grammar.{COMMA, DQUOTE, CR, LF}
-use Rattle.csv.specs.Reading.{isText, isQuoted, run, quotes, afterQuote, afterCR, stopOf, cell, noSpan, bareAt, quotedTo, fieldAt, prepend, onStop, fieldsFrom, recordIn, readAt, Found, nothing, malformed, past-limit, found}
-use Rattle.csv.specs.declared.Span.{Span}
-use Rattle.csv.specs.declared.scan.Cell.{Cell}
-use Rattle.csv.specs.declared.scan.Quotes.{Quotes}
-use Rattle.csv.specs.declared.scan.Quotes.the-variants.{Unclosed, Broken, Closed}
-use Rattle.csv.specs.declared.scan.Stop.{Stop}
-use Rattle.csv.specs.declared.scan.Stop.the-variants.{Comma, LineEnd, TextEnd, Bad, Cut}
+use mathlib.Core.List.{List}
+use lib.ListN.{length, take, drop, length-take, drop-of-length-le}
+use lib.Dec.{ltb}
+use borrow.Author.Tests.{ltb-true, ltb-false}
+use Rattle.csv_field.specs.FieldReading.{textLength, stopOf, fieldAt}
+use Rattle.csv.specs.Reading.{prepend, onStop, fieldsFrom, recordIn, readAt, Finding, nothing, malformed, past-limit, found}
+use Rattle.csv_field.specs.declared.Span.{Span}
+use Rattle.csv_field.specs.declared.ScannedField.{ScannedField}
+use Rattle.csv_field.specs.declared.Stop.{Stop}
+use Rattle.csv_field.specs.declared.Stop.the-variants.{Comma, LineEnd, TextEnd, Bad, Cut}
+use Rattle.csv_field.proofs.Places.{past-end, comma-place, line-place, text-place}
 
--- What stands where a field ends, by what it is taken for. Of what is malformed there, no more bytes make anything else, but for a CR at
--- the end of a text that is not cut.
-pub data Stops : Bool → List ℕ → Stop → Type 0 where
-  comma : {cut : Bool} {t : List ℕ} → Stops cut (COMMA ∷ t) Comma
-  line : {cut : Bool} {t : List ℕ} → Stops cut (CR ∷ (LF ∷ t)) LineEnd
-  text-end : Stops false [] TextEnd
-  lone : Stops false (CR ∷ []) Bad
-  cut-end : Stops true [] Cut
-  cut-cr : Stops true (CR ∷ []) Cut
-  bad : {cut : Bool} (t : List ℕ) → ((u : List ℕ) (c : Bool) → stopOf c (t ++ u) ≡ Bad) → Stops cut t Bad
-
--- what follows a CR, told by the bytes
-stops-cr : (cut : Bool) (t : List ℕ) → Stops cut (CR ∷ t) (afterCR cut t)
-unfolding afterCR stopOf
-stops-cr true [] = cut-cr
-stops-cr false [] = lone
-stops-cr cut (b ∷ t) = go (eqb b LF) refl
-  where
-    go : (x : Bool) → eqb b LF ≡ x → Stops cut (CR ∷ (b ∷ t)) (cond x LineEnd Bad)
-    go true e = rw (eqb-true b LF e) line
-    go false e = bad (CR ∷ (b ∷ t)) (λ u c. rw e)
-
--- what stopOf answers, told by the bytes
-pub stops : (cut : Bool) (t : List ℕ) → Stops cut t (stopOf cut t)
-unfolding stopOf
-stops true [] = cut-end
-stops false [] = text-end
-stops cut (b ∷ t) = go (eqb b COMMA) (eqb b CR) refl refl
-  where
-    go : (x y : Bool) → eqb b COMMA ≡ x → eqb b CR ≡ y → Stops cut (b ∷ t) (cond x Comma (cond y (afterCR cut t) Bad))
-    go true y e f = rw (eqb-true b COMMA e) comma
-    go false true e f = rw (eqb-true b CR f) (stops-cr cut t)
-    go false false e f = bad (b ∷ t) (λ u c. rw (e, f))
-
--- bytes that go on neither with a field without quotes nor with one whose closing quote stands before them
-abbrev pub Plain : List ℕ → Type 0
-Plain u = (run u ≡ 0) × (eqb (getD u 0 0) DQUOTE ≡ false)
-
--- more bytes change no run, but where it reaches the end of those before
-run-more : (w u : List ℕ) → (length w ≤ run w → run u ≡ 0) → run (w ++ u) ≡ run w
-unfolding run
-run-more [] u h = h (omega arith)
-run-more (b ∷ t) u h = go (isText b) h (run-more t u)
-  where
-    go : (x : Bool) → (suc (length t) ≤ cond x (suc (run t)) 0 → run u ≡ 0) → ((length t ≤ run t → run u ≡ 0) → run (t ++ u) ≡ run t) →
-        cond x (suc (run (t ++ u))) 0 ≡ cond x (suc (run t)) 0
-    go true g more = ap suc (more (λ l. g (omega arith)))
-    go false g more = refl
-
--- a run ends within the bytes
-pub run-in : (w : List ℕ) → run w ≤ length w
-unfolding run
-run-in [] = omega arith
-run-in (b ∷ t) = go (isText b) (run-in t)
-  where
-    go : (x : Bool) → run t ≤ length t → cond x (suc (run t)) 0 ≤ suc (length t)
-    go true h = omega arith
-    go false h = omega arith
-
--- How more bytes, u, change what stands after an opening quote: r without them and q with them; k is the place where they begin.
-abbrev Goes : List ℕ → ℕ → Quotes → Quotes → Type 0
-Goes u k Unclosed q = (d : Bool) × (q ≡ quotes k d u)
-Goes u k Broken q = q ≡ Broken
-Goes u k (Closed m e) q = (m < k) × ((q ≡ Closed m e) ⊎ ((k ≡ suc m) × (q ≡ afterQuote m e u)))
-
--- whichever of two a test picks, more bytes change it so where they change both so
-goes-cond : (u : List ℕ) (k : ℕ) (x : Bool) (r q r′ q′ : Quotes) → Goes u k r q → Goes u k r′ q′ → Goes u k (cond x r r′) (cond x q q′)
-goes-cond u k true r q r′ q′ g h = g
-goes-cond u k false r q r′ q′ g h = h
-
--- after an opening quote, and after a quote within
-mutual
-  unfolding quotes afterQuote
-
-  quotes-more : (w u : List ℕ) (n : ℕ) (d : Bool) (k : ℕ) → k ≡ n + length w → Goes u k (quotes n d w) (quotes n d (w ++ u))
-  quotes-more [] u n d k h = let e : n ≡ k = omega arith in (d, rw e)
-  quotes-more (b ∷ t) u n d k h =
-      goes-cond u k (eqb b DQUOTE) (afterQuote n d t) (afterQuote n d (t ++ u)) _ _ (after-more t u n d k (omega arith))
-      (goes-cond u k (isQuoted b) (quotes (suc n) d t) (quotes (suc n) d (t ++ u)) Broken Broken (quotes-more t u (suc n) d k (omega arith)) refl)
-
-  after-more : (w u : List ℕ) (n : ℕ) (d : Bool) (k : ℕ) → k ≡ suc n + length w → Goes u k (afterQuote n d w) (afterQuote n d (w ++ u))
-  after-more [] u n d k h = (omega arith, inr (omega arith, refl))
-  after-more (b ∷ t) u n d k h =
-      goes-cond u k (eqb b DQUOTE) (quotes (suc (suc n)) true t) (quotes (suc (suc n)) true (t ++ u)) (Closed n d) (Closed n d)
-      (quotes-more t u (suc (suc n)) true k (omega arith)) (omega arith, inl refl)
-
--- a closing quote stands within the bytes
-pub closed-in : (w : List ℕ) (n : ℕ) (d : Bool) → quotes 0 false w ≡ Closed n d → n < length w
-closed-in w n d e = let g = subst (λ q. Goes [] (length w) q (quotes 0 false (w ++ []))) e (quotes-more w [] 0 false (length w) (omega arith)) in g .0
-
--- more bytes open no quote at a place, but where it is the end of those before
-quote-more : (p u : List ℕ) (at : ℕ) → at ≤ length p → (length p ≤ at → eqb (getD u 0 0) DQUOTE ≡ false) →
-    eqb (getD (p ++ u) at 0) DQUOTE ≡ eqb (getD p at 0) DQUOTE
-quote-more [] u zero h g = g (omega arith)
-quote-more [] u (suc at) h g = absurd (omega arith)
-quote-more (b ∷ p) u zero h g = refl
-quote-more (b ∷ p) u (suc at) h g = quote-more p u at (omega arith) (λ l. g (omega arith))
-
--- a quote stands within the text
-pub quote-in : (p : List ℕ) (at : ℕ) → eqb (getD p at 0) DQUOTE ≡ true → at < length p
-quote-in [] at e = let z : _≡_ {A = ℕ} 0 1 = cc in absurd (omega arith)
-quote-in (b ∷ p) zero e = omega arith
-quote-in (b ∷ p) (suc at) e = let h : at < length p = quote-in p at e in omega arith
-
--- after a closing quote, a byte that is no quote leaves it one
-plain-after : (m : ℕ) (d : Bool) (u : List ℕ) → Plain u → afterQuote m d u ≡ Closed m d
-unfolding quotes afterQuote
-plain-after m d [] h = refl
-plain-after m d (b ∷ t) h = rw (h .1)
-
--- A field of p, and what more bytes make of it: it ends at a place, and stays as it is unless the end of p ends it; it is broken; or its
--- closing quote is not in p.
-pub data View (p : List ℕ) (at : ℕ) : Type 0 where
-  ends : (span : Span) (end : ℕ) → at ≤ end → end ≤ length p →
-      ((u : List ℕ) (c : Bool) → (length p ≤ end → Plain u) → fieldAt (p ++ u) c at ≡ cell (p ++ u) c span end) → View p at
-  broken : ((u : List ℕ) (c : Bool) → fieldAt (p ++ u) c at ≡ record { span = noSpan; end = 0; stop = Bad }) → View p at
-  unclosed : at < length p →
-      ((u : List ℕ) (c : Bool) → (d : Bool) × (fieldAt (p ++ u) c at ≡ quotedTo (p ++ u) c (at + 1) (quotes (length p - (at + 1)) d u))) → View p at
-
--- more bytes change no run from a place on, but where it reaches the end of those before
-run-at : (p u : List ℕ) (at : ℕ) → at ≤ length p → (length p ≤ at + run (drop at p) → run u ≡ 0) → run (drop at (p ++ u)) ≡ run (drop at p)
-run-at p u at h g = rw (drop-append-le at p u h) (run-more (drop at p) u (λ l. g (omega (arith, length-drop at p))))
-
--- a field without quotes ends where its run does
-view-bare : (p : List ℕ) (at : ℕ) → at ≤ length p → eqb (getD p at 0) DQUOTE ≡ false → View p at
-unfolding fieldAt
-view-bare p at h e =
-    ends (record { start = at; len = run (drop at p); doubled = false }) (at + run (drop at p)) (omega arith)
-    (omega (arith, run-in (drop at p), length-drop at p))
-    (λ u c g. rw (quote-more p u at h (λ l. g (omega arith) .1), e, run-at p u at h (λ l. g l .0)))
-
--- a field in quotes goes by what stands after the opening one
-view-quoted : (p : List ℕ) (at : ℕ) → at < length p → eqb (getD p at 0) DQUOTE ≡ true → View p at
-unfolding fieldAt quotedTo
-view-quoted p at h e = go (quotes 0 false w) (λ u. quotes-more w u 0 false (length p - (at + 1)) (omega (arith, length-drop (at + 1) p)))
-  where
-    w : List ℕ
-    w = drop (at + 1) p
-
-    is : (u : List ℕ) (c : Bool) → fieldAt (p ++ u) c at ≡ quotedTo (p ++ u) c (at + 1) (quotes 0 false (w ++ u))
-    is u c = rw (quote-more p u at (omega arith) (λ l. absurd (omega arith)), e, drop-append-le (at + 1) p u (omega arith))
-
-    go : (r : Quotes) → ((u : List ℕ) → Goes u (length p - (at + 1)) r (quotes 0 false (w ++ u))) → View p at
-    go Unclosed g = unclosed h (λ u c. (g u .0, is u c ∙ ap (quotedTo (p ++ u) c (at + 1)) (g u .1)))
-    go Broken g = broken (λ u c. is u c ∙ ap (quotedTo (p ++ u) c (at + 1)) (g u))
-    go (Closed m d) g =
-        ends (record { start = at + 1; len = m; doubled = d }) (at + 1 + m + 1) (omega arith) (let l = g [] .0 in omega arith)
-        (λ u c f. is u c ∙ ap (quotedTo (p ++ u) c (at + 1)) (shut u f (g u .1)))
-      where
-        shut : (u : List ℕ) → (length p ≤ at + 1 + m + 1 → Plain u) →
-            (quotes 0 false (w ++ u) ≡ Closed m d) ⊎ ((length p - (at + 1) ≡ suc m) × (quotes 0 false (w ++ u) ≡ afterQuote m d u)) →
-            quotes 0 false (w ++ u) ≡ Closed m d
-        shut u f (inl q) = q
-        shut u f (inr q) = q .1 ∙ plain-after m d u (f (let l = q .0 in omega arith))
-
--- every field of a text is one of these
-pub view : (p : List ℕ) (at : ℕ) → at ≤ length p → View p at
-view p at h = go (eqb (getD p at 0) DQUOTE) refl
-  where
-    go : (x : Bool) → eqb (getD p at 0) DQUOTE ≡ x → View p at
-    go true e = view-quoted p at (quote-in p at e) e
-    go false e = view-bare p at h e
-
--- past the end of the text stands an empty field
-pub past-end : (s : List ℕ) (cut : Bool) (at : ℕ) → length s ≤ at → fieldAt s cut at ≡ bareAt s cut at
-unfolding fieldAt
-past-end s cut at h = rw (List·getD-eq-default s 0 h)
-
--- What says where a field ends. A malformed field does not, nor does one in which a cut text ends.
-abbrev On : Bool → Stop → Type 0
-On cut Comma = Unit {0}
-On cut LineEnd = Unit {0}
-On cut TextEnd = Unit {0}
-On cut Bad = ⊥
-On true Cut = ⊥
-On false Cut = Unit {0}
-
--- such a field ends after its start, within the text, before what follows it
-place : (s : List ℕ) (cut : Bool) (at : ℕ) (x : Stop) → On cut x → fieldAt s cut at .stop ≡ x →
-    (at ≤ fieldAt s cut at .end) × (at ≤ length s → fieldAt s cut at .end ≤ length s) × Stops cut (drop (fieldAt s cut at .end) s) x
-unfolding quotedTo quotes run
-place s cut at x on e = go (decLe at (length s))
-  where
-    Placed : Cell → Type 0
-    Placed c = (at ≤ c .end) × (at ≤ length s → c .end ≤ length s) × Stops cut (drop (c .end) s) x
-
-    by : (span : Span) (end : ℕ) → at ≤ end → (at ≤ length s → end ≤ length s) → fieldAt s cut at ≡ cell s cut span end → Placed (fieldAt s cut at)
-    by span end i j q = rw q (i, j, rw (rw q at e) at (stops cut (drop end s)))
-
-    quits : (c : Bool) → On c x → cond c Cut Bad ≡ x → ⊥
-    quits true o q = rw (← q) at o
-    quits false o q = rw (← q) at o
-
-    viewed : View s at → Placed (fieldAt s cut at)
-    viewed (ends span end i j f) = by span end i (λ l. j) (rw append-nil at (f [] cut (λ l. (refl, refl))))
-    viewed (broken f) = let q : Bad ≡ x = rw (rw append-nil at (f [] cut)) at e in absurd (rw (← q) at on)
-    viewed (unclosed l f) = absurd (quits cut on (rw (rw append-nil at (f [] cut .1)) at e))
-
-    go : Dec (at ≤ length s) → Placed (fieldAt s cut at)
-    go (yes h) = viewed (view s at h)
-    go (no h) = by _ (at + run (drop at s)) (omega arith) (λ l. absurd (h l)) (past-end s cut at (omega arith))
-
--- a comma takes a byte
-comma-in : {cut : Bool} {t : List ℕ} → Stops cut t Comma → 0 < length t
-comma-in comma = omega arith
-
--- CR LF takes two
-line-in : {cut : Bool} {t : List ℕ} → Stops cut t LineEnd → 2 ≤ length t
-line-in line = omega arith
-
--- the end of the text takes none, and no text is cut there
-text-in : {cut : Bool} {t : List ℕ} → Stops cut t TextEnd → (length t ≡ 0) × (cut ≡ false)
-text-in text-end = (refl, refl)
-
--- nothing is cut off in a text that is not cut
-whole-in : {t : List ℕ} → Stops false t Cut → ⊥
-whole-in d = elim d [ ]
-
--- a field that a comma follows ends before the text does
-pub comma-place : (s : List ℕ) (cut : Bool) (at : ℕ) → fieldAt s cut at .stop ≡ Comma →
-    (at ≤ fieldAt s cut at .end) × (fieldAt s cut at .end < length s)
-comma-place s cut at e =
-    let p = place s cut at Comma tt e in
-    (p .0, omega (arith, comma-in (p .2), length-drop (fieldAt s cut at .end) s))
-
--- a field that CR LF follows ends two bytes before the text does, or earlier
-pub line-place : (s : List ℕ) (cut : Bool) (at : ℕ) → fieldAt s cut at .stop ≡ LineEnd →
-    (at ≤ fieldAt s cut at .end) × (fieldAt s cut at .end + 2 ≤ length s)
-line-place s cut at e =
-    let p = place s cut at LineEnd tt e in
-    (p .0, omega (arith, line-in (p .2), length-drop (fieldAt s cut at .end) s))
-
--- a field that the end of the text follows ends there, and no text was cut
-pub text-place : (s : List ℕ) (cut : Bool) (at : ℕ) → at ≤ length s → fieldAt s cut at .stop ≡ TextEnd →
-    (at ≤ fieldAt s cut at .end) × (fieldAt s cut at .end ≡ length s) × (cut ≡ false)
-text-place s cut at h e =
-    let p = place s cut at TextEnd tt e in
-    let q = text-in (p .2) in
-    (p .0, omega (arith, p .1 h, length-drop (fieldAt s cut at .end) s), q .1)
-
--- in a text that is not cut, no field is cut off
-pub whole-place : (s : List ℕ) (at : ℕ) → fieldAt s false at .stop ≡ Cut → ⊥
-whole-place s at e = whole-in (place s false at Cut tt e .2)
-
--- reading that starts at or past the end of a cut text meets the limit
+-- a reader that starts at or past the end of a cut text meets the limit
 pub fields-past : (k : ℕ) (s : List ℕ) (at : ℕ) → length s ≤ at → fieldsFrom (suc k) s true at ≡ past-limit
 unfolding fieldsFrom onStop stopOf
 fields-past k s at h =
-    let l : length s ≤ at + run (drop at s) = omega arith in
+    let l : length s ≤ at + textLength (drop at s) = omega arith in
     rw (past-end s true at h, drop-of-length-le s l)
 
--- a record behind a field is the record that was found, behind it
-pub prepend-found : (span : Span) (r : Found) (spans : List Span) (end next : ℕ) → prepend span r ≡ found spans end next →
+-- a record found with a field in front is a record found behind the field
+pub prepend-found : (span : Span) (r : Finding) (spans : List Span) (end next : ℕ) → prepend span r ≡ found spans end next →
     (rest : List Span) × (r ≡ found rest end next)
 unfolding prepend
 prepend-found span nothing spans end next e = let z : _≡_ {A = ℕ} 0 1 = cc in absurd (omega arith)
@@ -279,11 +32,11 @@ prepend-found span malformed spans end next e = let z : _≡_ {A = ℕ} 0 1 = cc
 prepend-found span past-limit spans end next e = let z : _≡_ {A = ℕ} 0 1 = cc in absurd (omega arith)
 prepend-found span (found rest e n) spans end next q = (rest, cc)
 
--- where the fields of a record end: after its start and within the text; only at the end of a text that is not cut they may have no byte
+-- Where the fields of a record end: after the start and within the text. Only at the end of a text that is not cut a record may have no byte.
 abbrev Ends : List ℕ → Bool → ℕ → ℕ → ℕ → Type 0
 Ends s cut at end next = (at ≤ end) × (end ≤ next) × (next ≤ length s) × ((cut ≡ false → at < length s) → at < next)
 
--- the fields from a place on end so
+-- the fields from a place on end as Ends says
 fields-places : (k : ℕ) (s : List ℕ) (cut : Bool) (at : ℕ) (spans : List Span) (end next : ℕ) → at ≤ length s →
     fieldsFrom k s cut at ≡ found spans end next → Ends s cut at end next
 unfolding fieldsFrom onStop
@@ -291,7 +44,7 @@ fields-places zero s cut at spans end next h e = let z : _≡_ {A = ℕ} 0 1 = c
 fields-places (suc k) s cut at spans end next h e = go (fieldAt s cut at .stop) refl e
     (λ rest l. fields-places k s cut (fieldAt s cut at .end + 1) rest end next l)
   where
-    c : Cell
+    c : ScannedField
     c = fieldAt s cut at
 
     go : (x : Stop) → c .stop ≡ x → onStop x (c .span) (c .end) (λ p. fieldsFrom k s cut p) ≡ found spans end next →
@@ -315,7 +68,7 @@ fields-places (suc k) s cut at spans end next h e = go (fieldAt s cut at .stop) 
     go Bad f q ih = let z : _≡_ {A = ℕ} 0 1 = cc in absurd (omega arith)
     go Cut f q ih = let z : _≡_ {A = ℕ} 0 1 = cc in absurd (omega arith)
 
--- a record has at least one byte and ends within the text, or within the limit where there is one
+-- a record has at least one byte and ends within the text, and within the limit where the text is longer
 pub found-places : (text : List ℕ) (at limit : ℕ) (spans : List Span) (end next : ℕ) →
     readAt text at limit ≡ found spans end next → (at ≤ end) × (end ≤ next) × (at < next) × (next ≤ length text) × (limit < length text → next ≤ limit)
 unfolding readAt

@@ -1,30 +1,24 @@
-// Records and fields of RFC 4180, read in place: a reading answers places in the text and copies nothing.
-pub mod content;
-mod scan;
-
+// Records of RFC 4180, read in place: a reading answers places in the text and copies nothing.
 ghost use mathlib.Core.Path.{_≡_};
-ghost use Rattle.csv.specs.Reading.{readAt, readingOf, recordIn, without};
+ghost use Rattle.csv.specs.Reading.{readAt, readingOf, recordIn, without, wholeRecord};
+use csv_field::Span;
+use csv_field::Stop;
 
-// Where a field's bytes stand, without the quotes around them. `doubled` says that two quotes side by side stand among them, which are
-// one byte of the content.
-pub struct Span {
-    pub start: usize,
-    pub len: usize,
-    pub doubled: bool,
-}
+// The number of fields whose spans a reading keeps.
+pub const KEPT: usize = 6;
 
-// What stands at a place: no record, since the text is at its end; a malformed record; one that a byte past the limit would have to
-// decide; a record.
-pub enum Answer {
+// What stands at a place: no record, since the text ends there; a malformed record; a record that only a byte past the limit could
+// decide; a whole record.
+pub enum Status {
     End,
     Malformed,
     Limit,
     Record,
 }
 
-// The record at a place: the number of its fields, the spans of the first six, its end without its line end, and the place after it.
+// The record at a place: the number of fields, the spans of the first six, the end before the line end, and the place of the next record.
 pub struct Reading {
-    pub answer: Answer,
+    pub status: Status,
     pub count: usize,
     pub spans: [Span; 6],
     pub end: usize,
@@ -36,7 +30,7 @@ pub fn read_record(text: &[u8], at: usize, limit: usize) -> Reading
     ensures { λ r. ⌜ r ≡ readingOf (readAt (now (text .entry)) at limit) ⌝ }
 {
     if text.len() <= at {
-        return refusal(Answer::End);
+        return refusal(Status::End);
     }
     if limit < text.len() {
         return read_fields(&text[..limit], true, at);
@@ -44,9 +38,9 @@ pub fn read_record(text: &[u8], at: usize, limit: usize) -> Reading
     read_fields(text, false, at)
 }
 
-// An answer without a record.
-fn refusal(answer: Answer) -> Reading
-    ensures { λ r. ⌜ r ≡ without answer ⌝ }
+// A reading without a record.
+fn refusal(status: Status) -> Reading
+    ensures { λ r. ⌜ r ≡ without status ⌝ }
 {
     let none = Span {
         start: 0,
@@ -54,7 +48,7 @@ fn refusal(answer: Answer) -> Reading
         doubled: false,
     };
     Reading {
-        answer,
+        status,
         count: 0,
         spans: [none; 6],
         end: 0,
@@ -62,7 +56,20 @@ fn refusal(answer: Answer) -> Reading
     }
 }
 
-// Reads field after field up to the end of the record. `cut` says that the text goes on behind s.
+// A reading of a whole record.
+fn whole_record(count: usize, spans: [Span; 6], end: usize, next: usize) -> Reading
+    ensures { λ r. ⌜ r ≡ wholeRecord count spans end next ⌝ }
+{
+    Reading {
+        status: Status::Record,
+        count,
+        spans,
+        end,
+        next,
+    }
+}
+
+// Reads field after field up to the end of the record. `cut` says that the text goes on behind s, past the limit.
 fn read_fields(s: &[u8], cut: bool, at: usize) -> Reading
     ensures { λ r. ⌜ r ≡ readingOf (recordIn (now (s .entry)) cut at) ⌝ }
 {
@@ -75,41 +82,29 @@ fn read_fields(s: &[u8], cut: bool, at: usize) -> Reading
     let mut count = 0;
     let mut i = at;
     loop {
-        let cell = scan::field_at(s, cut, i);
-        let end = cell.end;
-        let span = cell.span;
-        let stop = cell.stop;
-        if count < 6 {
+        let field = csv_field::field_at(s, cut, i);
+        let end = field.end;
+        let span = field.span;
+        let stop = field.stop;
+        if count < KEPT {
             spans[count] = span;
         }
         count += 1;
         match stop {
-            scan::Stop::Comma => {
+            Stop::Comma => {
                 i = end + 1;
             }
-            scan::Stop::LineEnd => {
-                return Reading {
-                    answer: Answer::Record,
-                    count,
-                    spans,
-                    end,
-                    next: end + 2,
-                };
+            Stop::LineEnd => {
+                return whole_record(count, spans, end, end + 2);
             }
-            scan::Stop::TextEnd => {
-                return Reading {
-                    answer: Answer::Record,
-                    count,
-                    spans,
-                    end,
-                    next: end,
-                };
+            Stop::TextEnd => {
+                return whole_record(count, spans, end, end);
             }
-            scan::Stop::Bad => {
-                return refusal(Answer::Malformed);
+            Stop::Bad => {
+                return refusal(Status::Malformed);
             }
-            scan::Stop::Cut => {
-                return refusal(Answer::Limit);
+            Stop::Cut => {
+                return refusal(Status::Limit);
             }
         }
     }

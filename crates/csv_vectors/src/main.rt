@@ -13,8 +13,8 @@
 ghost use Prim.Native.Nat.{_≤_, _<_};
 ghost use lib.ListN.{length};
 ghost use Rattle.io.specs.Counts.{Counts};
-use csv::Answer;
-use csv::Span;
+use csv::Status;
+use csv_field::Span;
 
 const STDIN: i32 = 0;
 
@@ -65,7 +65,7 @@ fn put_span(text: &[u8], span: Span) {
     if doubled {
         put(b"\"");
     }
-    if csv::content::is_empty(text, span) {
+    if csv_content::is_empty(text, span) {
         put(b"-");
     }
 }
@@ -83,12 +83,12 @@ fn put_spans(text: &[u8], count: usize, spans: [Span; 6]) {
 // Writes one record and answers the place after it, or the end of the text where there is none.
 fn put_record(text: &[u8], at: usize, limit: usize) -> usize {
     let r = csv::read_record(text, at, limit);
-    let answer = r.answer;
-    match answer {
-        Answer::End => put(b" end\n"),
-        Answer::Malformed => put(b" malformed\n"),
-        Answer::Limit => put(b" limit\n"),
-        Answer::Record => {
+    let status = r.status;
+    match status {
+        Status::End => put(b" end\n"),
+        Status::Malformed => put(b" malformed\n"),
+        Status::Limit => put(b" limit\n"),
+        Status::Record => {
             let spans = r.spans;
             put_spans(text, r.count, spans);
             put_pair(b" end ", r.end, b" next ", r.next);
@@ -121,7 +121,7 @@ fn show(text: &[u8], limit: usize) {
 fn compare(text: &[u8], word: &[u8]) {
     let r = csv::read_record(text, 0, text.len());
     let spans = r.spans;
-    if csv::content::is_word(text, spans[0], word) {
+    if csv_content::is_word(text, spans[0], word) {
         put(b"same\n");
     } else {
         put(b"other\n");

@@ -10,8 +10,9 @@ use lib.Seq.{append-snoc}
 use lib.Dec.{eqb}
 use borrow.Author.Tests.{lt-ltb, ltb-true, eq-eqb, eqb-true}
 use Rattle.csv.specs.Grammar.{Text}
-use Rattle.csv.specs.Reading.{sameBytes, records, Records, Ending, all-read, at-malformed, at-limit}
-use Rattle.csv.proofs.Contents.{same-iff}
+use Rattle.csv_content.specs.Content.{sameBytes}
+use Rattle.csv.specs.Reading.{records, Records, Ending, all-read, at-malformed, at-limit}
+use Rattle.csv_content.proofs.Contents.{same-iff}
 use Rattle.csv.proofs.Grammar.{all-read-iff}
 use Rattle.rows.specs.declared.Row.{Row}
 use Rattle.trace.specs.Rows.{headerNames, sameFields, rowOf}

@@ -9,12 +9,13 @@ use lib.ListN.{length, getD, drop, drop-of-length-le}
 use lib.Seq.{drop-cons}
 use lib.Dec.{leb, eqb}
 use borrow.Author.Tests.{lt-ltb, le-ltb, le-leb, lt-leb, eq-eqb, ne-eqb, eqb-true, eqb-false}
-use Rattle.csv.specs.Reading.{contentOf, noSpan, sameBytes}
-use Rattle.csv.specs.declared.Span.{Span}
+use Rattle.csv_field.specs.FieldReading.{noSpan}
+use Rattle.csv_content.specs.Content.{contentOf, sameBytes}
+use Rattle.csv_field.specs.declared.Span.{Span}
 use Rattle.rows.specs.Limits.{MODELS, PROCESSES, ROWS}
 use Rattle.rows.specs.declared.Row.{Row}
-use Rattle.trace_fields.specs.declared.Judged.{Judged}
-use Rattle.trace_fields.specs.declared.Judged.the-variants.{Kept, No}
+use Rattle.trace_numbers.specs.declared.ReadRow.{ReadRow}
+use Rattle.trace_numbers.specs.declared.ReadRow.the-variants.{Kept, No}
 use Rattle.trace.specs.Rows.{headerNames, sameFields, rowOf}
 use Rattle.trace.specs.Questions.{inLimits, callQuestions, fieldQuestions, messageInOrder}
 use Rattle.rows.specs.Questions.{Question, firstNo}
@@ -174,7 +175,7 @@ module _ (first : ℕ) (fields : List (List ℕ)) where
 
 module _ (rowLimit processLimit n : ℕ) (earlier : List Row) (count : ℕ) (fields : List (List ℕ)) where
   -- the answer to a row's record
-  abbrev whole : Judged
+  abbrev whole : ReadRow
   whole = judgedRow rowLimit processLimit n earlier count fields
 
   -- 6 and 7 have No
@@ -187,7 +188,7 @@ module _ (rowLimit processLimit n : ℕ) (earlier : List Row) (count : ℕ) (fie
     unfolding judgedRow firstNo
     other-count s = rw (lt-ltb n rowLimit h, ne-eqb count 6 s)
 
-    module _ (s : count ≡ 6) {j : Judged} (e : j ≡ judgedFields processLimit fields) where
+    module _ (s : count ≡ 6) {j : ReadRow} (e : j ≡ judgedFields processLimit fields) where
       -- they have Yes, and the others decide
       inner : whole ≡ judgedBy (firstNo (fieldQuestions processLimit fields ++ last earlier fields)) fields
       unfolding judgedRow firstNo

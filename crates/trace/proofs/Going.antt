@@ -8,17 +8,18 @@ use lib.ListN.{length, take, drop, length-append, length-map}
 use lib.Seq.{take-at, drop-at, drop-drop, drop-append-add}
 use lib.Dec.{ltb, eqb}
 use borrow.Author.Tests.{eq-eqb, ne-eqb, eqb-true, eqb-false, ltb-true}
-use Rattle.csv.specs.Reading.{contentOf, readAt, recordsFrom, onFound, Found, nothing, malformed, past-limit, found, Records, firstSix, readingOf}
-use Rattle.csv.specs.declared.Span.{Span}
+use Rattle.csv_content.specs.Content.{contentOf}
+use Rattle.csv.specs.Reading.{readAt, recordsFrom, onFound, Finding, nothing, malformed, past-limit, found, Records, firstSix, readingOf}
+use Rattle.csv_field.specs.declared.Span.{Span}
 use Rattle.csv.specs.declared.Reading.{Reading}
-use Rattle.csv.specs.declared.Answer.the-variants.{End, Malformed, Limit, Record}
+use Rattle.csv.specs.declared.Status.the-variants.{End, Malformed, Limit, Record}
 use Rattle.csv.proofs.Limit.{records-next}
 use Rattle.csv.proofs.Places.{found-places}
 use Rattle.csv.proofs.Answers.{Told, tells, all-six}
 use Rattle.rows.specs.declared.Row.{Row}
 use Rattle.trace.specs.declared.Checked.the-variants.{Accepted, Refused}
-use Rattle.trace_fields.specs.declared.Judged.{Judged}
-use Rattle.trace_fields.specs.declared.Judged.the-variants.{Kept, No}
+use Rattle.trace_numbers.specs.declared.ReadRow.{ReadRow}
+use Rattle.trace_numbers.specs.declared.ReadRow.the-variants.{Kept, No}
 use Rattle.trace.specs.Rows.{rowOf}
 use Rattle.rows.specs.Rows.{six, numbers, rowsIn}
 use Rattle.trace.specs.Questions.{fieldQuestions, rowQuestions, messageInOrder, Outcome, refused, accepted, judgeRows, checkedOf, Holds}
@@ -50,10 +51,10 @@ begin R P text limit start xs₀ = record { done = []; whole = refl; many = refl
 
 module _ {R P : ℕ} {text : List ℕ} {limit start : ℕ} {xs₀ : List ℕ} {at n : ℕ} {xs : List ℕ} (g : Going R P text limit start xs₀ at n xs) where
   -- what reading finds next, judged
-  step : (f : Found) → readAt text at limit ≡ f → judgeFrom R P text limit start ≡ judge R P (g .done) (onFound text f (λ p. recordsAt text limit p))
+  step : (f : Finding) → readAt text at limit ≡ f → judgeFrom R P text limit start ≡ judge R P (g .done) (onFound text f (λ p. recordsAt text limit p))
   step f e =
       g .whole ∙ ap (judge R P (g .done)) (records-next text limit at)
-      ∙ ap (λ (x : Found). judge R P (g .done) (onFound text x (λ p. recordsAt text limit p))) e
+      ∙ ap (λ (x : Finding). judge R P (g .done) (onFound text x (λ p. recordsAt text limit p))) e
 
   -- the place of the next row
   place : n + 1 ≡ length (g .done) + 1
@@ -79,7 +80,7 @@ module _ {R P : ℕ} {text : List ℕ} {limit start : ℕ} {xs₀ : List ℕ} {a
 -- ---- One record
 
 -- a record's row or its first No, by the answers to 6 and 7
-unfoldable judged : ℕ → List Row → Bool → Bool → List (List ℕ) → Judged
+unfoldable judged : ℕ → List Row → Bool → Bool → List (List ℕ) → ReadRow
 judged P done x y fields =
     judgedBy
     (firstNo
@@ -175,7 +176,7 @@ module _ {R P : ℕ} {text : List ℕ} {limit start : ℕ} {xs₀ : List ℕ} {a
 
 -- the same from what the calls answered: r is the reading at the place, j what was judged of its first six fields
 module _ {R P : ℕ} {text : List ℕ} {limit start : ℕ} {xs₀ : List ℕ} {at n : ℕ} {xs : List ℕ} (g : Going R P text limit start xs₀ at n xs)
-    {r : Reading} (e : r ≡ readingOf (readAt text at limit)) (a : r .answer ≡ Record) where
+    {r : Reading} (e : r ≡ readingOf (readAt text at limit)) (a : r .status ≡ Record) where
   told : Told (readAt text at limit) r
   told = tells (readAt text at limit) r e a
 
@@ -186,7 +187,7 @@ module _ {R P : ℕ} {text : List ℕ} {limit start : ℕ} {xs₀ : List ℕ} {a
       let p = found-places text at limit (t .spans) (t .end) (t .next) (t .is-found) in
       (omega (arith, p .2, t .place), omega (arith, p .3, t .place))
 
-  module _ {j : Judged} (je : j ≡ judgedRow R P n (rowsIn n xs) (r .count) (fieldsOf text (r .spans))) where
+  module _ {j : ReadRow} (je : j ≡ judgedRow R P n (rowsIn n xs) (r .count) (fieldsOf text (r .spans))) where
     whole-record : j ≡ judgedBy (firstNo (rowQuestions R P (g .done) (fieldsOf text (told .spans)))) (fieldsOf text (told .spans))
     whole-record =
         je ∙ (λ i. judgedRow R P n (back g i) (r .count) (fieldsOf text (told .kept i)))

@@ -9,8 +9,9 @@ use lib.Seq.{take-at, drop-at, take-all}
 use borrow.Rule.Slice.PartMut.{putMid}
 use lib.Dec.{leb, eqb}
 use borrow.Author.Tests.{eq-eqb, ne-eqb, eqb-true, eqb-false, le-leb, lt-leb}
-use Rattle.csv.specs.Reading.{contentOf, sameBytes, readAt, records, recordsFrom, onFound, Found, nothing, malformed, past-limit, found, firstSix, Records}
-use Rattle.csv.specs.declared.Span.{Span}
+use Rattle.csv_content.specs.Content.{contentOf, sameBytes}
+use Rattle.csv.specs.Reading.{readAt, records, recordsFrom, onFound, Finding, nothing, malformed, past-limit, found, firstSix, Records}
+use Rattle.csv_field.specs.declared.Span.{Span}
 use Rattle.csv.proofs.Limit.{records-next}
 use Rattle.csv.proofs.Answers.{all-six}
 use Rattle.rows.specs.declared.Row.{Row}
@@ -31,13 +32,13 @@ module _ (R P : ℕ) (text : List ℕ) (limit header : ℕ) where
   no-header e = rw (eq-eqb header 0 e)
 
   -- with one, by what reading finds first
-  first : (f : Found) → (header ≡ 0 → ⊥) → readAt text 0 limit ≡ f →
+  first : (f : Finding) → (header ≡ 0 → ⊥) → readAt text 0 limit ≡ f →
       readTrace header R P (records text limit)
       ≡ judgeHeader R P (onFound text f (λ p. recordsFrom (suc (length text)) text limit p) .rows) (onFound text f (λ p. recordsFrom (suc (length text)) text limit p) .ending)
   unfolding readTrace records
   first f n e =
       let judge : Records → Outcome = λ r. judgeHeader R P (r .rows) (r .ending) in
-      rw (ne-eqb header 0 n) (ap judge (records-next text limit 0) ∙ ap (λ (x : Found). judge (onFound text x (λ p. recordsFrom (suc (length text)) text limit p))) e)
+      rw (ne-eqb header 0 n) (ap judge (records-next text limit 0) ∙ ap (λ (x : Finding). judge (onFound text x (λ p. recordsFrom (suc (length text)) text limit p))) e)
 
   pub header-missing : (header ≡ 0 → ⊥) → readAt text 0 limit ≡ nothing → readTrace header R P (records text limit) ≡ refused 5 0
   unfolding onFound judgeHeader

@@ -14,7 +14,8 @@ use Rattle.trace.specs.declared.Checked.the-variants.{Accepted, Refused}
 use Rattle.trace.specs.Rows.{headerNames, sameFields, rowOf}
 use Rattle.rows.specs.Kinds.{SEND, RECV}
 use Rattle.rows.specs.Rows.{numbers}
-pub use Rattle.trace_fields.specs.Questions.{kindKnown, asUsed, numberIf, OFFSETS, endInRange}
+pub use Rattle.trace_numbers.specs.Numbers.{numberIf, OFFSETS}
+pub use Rattle.trace_fields.specs.Questions.{kindKnown, asUsed, endInRange}
 unfoldable pub use Rattle.trace_fields.specs.Questions.{filledAsUsed, numbersInRange, fieldQuestions}
 use Rattle.rows.specs.Questions.{Question, firstNo, longEnough}
 

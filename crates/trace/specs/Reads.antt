@@ -7,15 +7,16 @@ use lib.ListN.{length}
 use lib.Dec.{eqb}
 use Rattle.csv.specs.Reading.{recordsFrom, Records}
 use Rattle.rows.specs.declared.Row.{Row}
-use Rattle.trace_fields.specs.declared.Judged.{Judged}
-pub use Rattle.trace_fields.specs.Reads.{fieldsOf, numberWhere, judgedBy}
+use Rattle.trace_numbers.specs.declared.ReadRow.{ReadRow}
+pub use Rattle.trace_numbers.specs.Numbers.{fieldsOf, numberWhere}
+pub use Rattle.trace_fields.specs.Reads.{judgedBy}
 unfoldable pub use Rattle.trace_fields.specs.Reads.{fillsAs, judgedFields}
 use Rattle.trace.specs.Rows.{rowOf}
 use Rattle.trace.specs.Questions.{fieldQuestions, inRowLimit, messageInOrder, carries, isHeader, Outcome, judgeRows}
 use Rattle.rows.specs.Questions.{Question, firstNo}
 
 -- the questions 6 to 12 of a record of `count` fields, of which the first six are given, behind n rows
-unfoldable pub judgedRow : ℕ → ℕ → ℕ → List Row → ℕ → List (List ℕ) → Judged
+unfoldable pub judgedRow : ℕ → ℕ → ℕ → List Row → ℕ → List (List ℕ) → ReadRow
 judgedRow rowLimit processLimit n earlier count fields =
     judgedBy
     (firstNo

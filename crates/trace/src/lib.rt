@@ -8,8 +8,8 @@ ghost use Rattle.csv.specs.Reading.{records};
 ghost use Rattle.trace.specs.Questions.{callQuestions, readTrace, checkTrace, checkedOf, Holds, Leaves};
 ghost use Rattle.rows.specs.Questions.{firstNo};
 ghost use Rattle.trace.specs.Reads.{fieldsOf, headed};
-use csv::Answer;
-use csv::Span;
+use csv::Status;
+use csv_field::Span;
 use rows::refusal;
 ghost use Rattle.rows.specs.Limits.{ROWS};
 
@@ -115,12 +115,12 @@ fn read_trace(
         return reading::read_rows(text, 0, row_limit, process_limit, byte_limit, rows);
     }
     let r = csv::read_record(text, 0, byte_limit);
-    let answer = r.answer;
-    match answer {
-        Answer::End => Checked::Refused(refusal::HEADER, 0),
-        Answer::Malformed => Checked::Refused(refusal::MALFORMED, 0),
-        Answer::Limit => Checked::Refused(refusal::HEADER, 0),
-        Answer::Record => {
+    let status = r.status;
+    match status {
+        Status::End => Checked::Refused(refusal::HEADER, 0),
+        Status::Malformed => Checked::Refused(refusal::MALFORMED, 0),
+        Status::Limit => Checked::Refused(refusal::HEADER, 0),
+        Status::Record => {
             let spans = r.spans;
             if !is_header(text, r.count, spans) {
                 return Checked::Refused(refusal::HEADER, 0);
@@ -137,20 +137,20 @@ fn is_header(text: &[u8], count: usize, spans: [Span; 6]) -> bool
     if count != rows::FIELDS {
         return false;
     }
-    if !csv::content::is_word(text, spans[rows::PROCESS_AT], b"process") {
+    if !csv_content::is_word(text, spans[rows::PROCESS_AT], b"process") {
         return false;
     }
-    if !csv::content::is_word(text, spans[rows::KIND_AT], b"kind") {
+    if !csv_content::is_word(text, spans[rows::KIND_AT], b"kind") {
         return false;
     }
-    if !csv::content::is_word(text, spans[rows::FILE_AT], b"file") {
+    if !csv_content::is_word(text, spans[rows::FILE_AT], b"file") {
         return false;
     }
-    if !csv::content::is_word(text, spans[rows::OFFSET_AT], b"offset") {
+    if !csv_content::is_word(text, spans[rows::OFFSET_AT], b"offset") {
         return false;
     }
-    if !csv::content::is_word(text, spans[rows::LENGTH_AT], b"length") {
+    if !csv_content::is_word(text, spans[rows::LENGTH_AT], b"length") {
         return false;
     }
-    csv::content::is_word(text, spans[rows::MESSAGE_AT], b"message")
+    csv_content::is_word(text, spans[rows::MESSAGE_AT], b"message")
 }

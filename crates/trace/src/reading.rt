@@ -7,11 +7,11 @@ ghost use Rattle.rows.specs.Rows.{six, rowHere, rowsIn};
 ghost use Rattle.trace.specs.Questions.{any, messageInOrder, checkedOf, Holds};
 ghost use Rattle.trace.specs.Reads.{fieldsOf, matches, judgedRow, judgeFrom};
 use crate::Checked;
-use csv::Answer;
-use csv::Span;
+use csv::Status;
+use csv_field::Span;
 use rows::Row;
 use rows::refusal;
-use trace_fields::Judged;
+use trace_numbers::ReadRow;
 ghost use Rattle.rows.specs.Limits.{ROWS};
 
 // The row at a place has this kind and message and, where another process's is asked for, not this process.
@@ -75,23 +75,23 @@ fn judge_row(
     n: usize,
     row_limit: u32,
     process_limit: u32,
-) -> Judged
+) -> ReadRow
     requires { ⌜ n * 6 ≤ length (now rows) ⌝ }
     ensures { λ r. ⌜ r ≡ judgedRow «row_limit» «process_limit» n (rowsIn n (now (rows .entry))) count (fieldsOf (now (text .entry)) spans) ⌝ }
 {
     if row_limit as usize <= n {
-        return Judged::No(refusal::ROW_LIMIT);
+        return ReadRow::No(refusal::ROW_LIMIT);
     }
     if count != rows::FIELDS {
-        return Judged::No(refusal::SIX_FIELDS);
+        return ReadRow::No(refusal::SIX_FIELDS);
     }
     match trace_fields::judge_fields(text, spans, process_limit) {
-        Judged::No(k) => Judged::No(k),
-        Judged::Kept(row) => {
+        ReadRow::No(k) => ReadRow::No(k),
+        ReadRow::Kept(row) => {
             if !in_order(rows, n, row) {
-                return Judged::No(refusal::MESSAGE_ORDER);
+                return ReadRow::No(refusal::MESSAGE_ORDER);
             }
-            Judged::Kept(row)
+            ReadRow::Kept(row)
         }
     }
 }
@@ -114,24 +114,24 @@ pub(crate) fn read_rows(
     loop {
         let r = csv::read_record(text, at, byte_limit);
         let place = n as u32 + 1;
-        let answer = r.answer;
-        match answer {
-            Answer::End => {
+        let status = r.status;
+        match status {
+            Status::End => {
                 return Checked::Accepted(n as u32);
             }
-            Answer::Malformed => {
+            Status::Malformed => {
                 return Checked::Refused(refusal::MALFORMED, place);
             }
-            Answer::Limit => {
+            Status::Limit => {
                 return Checked::Refused(refusal::ROW_LIMIT, place);
             }
-            Answer::Record => {
+            Status::Record => {
                 let spans = r.spans;
                 match judge_row(text, r.count, spans, rows, n, row_limit, process_limit) {
-                    Judged::No(k) => {
+                    ReadRow::No(k) => {
                         return Checked::Refused(k, place);
                     }
-                    Judged::Kept(row) => {
+                    ReadRow::Kept(row) => {
                         rows::put_row(rows, n, row);
                         n += 1;
                         at = r.next;

@@ -6,71 +6,77 @@ use mathlib.Core.Bool.{Bool, true, false, not}
 use mathlib.Core.List.{List, [], _∷_, _++_}
 use lib.ListN.{length, getD, take, drop, replicate, getD-replicate, length-replicate, List·getD-append, List·getD-eq-default}
 use lib.Seq.{getD-append-add}
-use Rattle.csv.specs.Reading.{sameBytes, isNil}
-use Rattle.trace_fields.specs.declared.Used.{Used}
-use Rattle.trace_fields.specs.Rows.{kindWords, wordOf, kindOf, usedBy, usedTable, ofRange, ofFile, ofMessage, ofNothing}
+use Rattle.csv_content.specs.Content.{sameBytes, isNil}
+use Rattle.trace_numbers.specs.declared.Used.{Used}
+use Rattle.trace_fields.specs.Rows.{kindWords, wordOf, kindOf, usedBy, usedTable, usesRange, usesFile, usesMessage, usesNothing}
 use Rattle.trace_fields.specs.Questions.{asUsed}
 
--- a content that is none of the first n words, and the words that are left
+-- a content that is none of the first n words, and the words after those
 pub record Past (n : ℕ) (ws : List (List ℕ)) : Type 0 where
   pub content : List ℕ
   pub passed : kindOf content ≡ wordOf ws content + n
 
--- no word is passed yet
+-- before the first word
 abbrev pub start : List ℕ → Past 0 kindWords
 start content = record { content = content; passed = omega arith }
 
 module _ {n : ℕ} {w : List ℕ} {ws : List (List ℕ)} (p : Past n (w ∷ ws)) {r : Bool} (e : r ≡ sameBytes (p .content) w) where
-  -- the next word is not the content, or is it
+  -- the next word is not the content
   pub next-passed : r ≡ false → kindOf (p .content) ≡ wordOf ws (p .content) + (n + 1)
   unfolding wordOf
   next-passed f = omega (arith, rw (sym e ∙ f) at (p .passed))
 
+  -- the content is none of the first n + 1 words
   abbrev pub next : r ≡ false → Past (n + 1) ws
   next f = record { content = p .content; passed = next-passed f }
 
+  -- the next word is the content, whose kind it numbers
   pub here : r ≡ true → n ≡ kindOf (p .content)
   unfolding wordOf
   here f = omega (arith, rw (sym e ∙ f) at (p .passed))
 
--- no word is left
+-- the content is none of the words
 pub none : {n : ℕ} (p : Past n []) → n ≡ kindOf (p .content)
 unfolding wordOf
 none p = omega (arith, p .passed)
 
--- a stretch of the same in a table
+-- a table has one value at n places side by side
 stretch : (front : List Used) (n : ℕ) (u : Used) (back : List Used) (k : ℕ) → length front ≤ k → k < length front + n →
-    u ≡ getD (front ++ (replicate n u ++ back)) k ofNothing
+    u ≡ getD (front ++ (replicate n u ++ back)) k usesNothing
 stretch front n u back k l h =
     let j = k - length front in
     let e : length front + j ≡ k = omega arith in
     let i : j < n = omega arith in
     let b : j < length (replicate n u) = omega (arith, length-replicate n u) in
-    sym (ap (λ (m : ℕ). getD (front ++ (replicate n u ++ back)) m ofNothing) (sym e) ∙ getD-append-add front (replicate n u ++ back) j ofNothing
-    ∙ List·getD-append (replicate n u) back ofNothing j b ∙ getD-replicate n j u ofNothing i)
+    sym (ap (λ (m : ℕ). getD (front ++ (replicate n u ++ back)) m usesNothing) (sym e) ∙ getD-append-add front (replicate n u ++ back) j usesNothing
+    ∙ List·getD-append (replicate n u) back usesNothing j b ∙ getD-replicate n j u usesNothing i)
 
 module _ (k : ℕ) where
-  -- the fields that a kind uses, by its number
-  pub used-range : k < 2 → ofRange ≡ usedBy k
+  -- read and write use the file and the range
+  pub used-range : k < 2 → usesRange ≡ usedBy k
   unfolding usedBy
-  used-range h = stretch [] 2 ofRange (drop 2 usedTable) k (omega arith) h
+  used-range h = stretch [] 2 usesRange (drop 2 usedTable) k (omega arith) h
 
-  pub used-file : 2 ≤ k → k < 6 → ofFile ≡ usedBy k
+  -- commit, open, close and sync use the file alone
+  pub used-file : 2 ≤ k → k < 6 → usesFile ≡ usedBy k
   unfolding usedBy
-  used-file l h = stretch (take 2 usedTable) 4 ofFile (drop 6 usedTable) k l h
+  used-file l h = stretch (take 2 usedTable) 4 usesFile (drop 6 usedTable) k l h
 
-  pub used-message : 6 ≤ k → k < 8 → ofMessage ≡ usedBy k
+  -- send and recv use the message
+  pub used-message : 6 ≤ k → k < 8 → usesMessage ≡ usedBy k
   unfolding usedBy
-  used-message l h = stretch (take 6 usedTable) 2 ofMessage [] k l h
+  used-message l h = stretch (take 6 usedTable) 2 usesMessage [] k l h
 
-  pub used-nothing : 8 ≤ k → ofNothing ≡ usedBy k
+  -- any other number uses nothing
+  pub used-nothing : 8 ≤ k → usesNothing ≡ usedBy k
   unfolding usedBy
-  used-nothing l = sym (List·getD-eq-default usedTable ofNothing l)
+  used-nothing l = sym (List·getD-eq-default usedTable usesNothing l)
 
 module _ {used r : Bool} (content : List ℕ) where
-  -- a used field is to be filled, any other empty
+  -- a used field has to be filled
   pub filled-used : used ≡ true → r ≡ isNil content → not r ≡ asUsed used content
   filled-used e f = rw e (ap not f)
 
+  -- any other field has to be empty
   pub empty-unused : used ≡ false → r ≡ isNil content → r ≡ asUsed used content
   empty-unused e f = rw e f

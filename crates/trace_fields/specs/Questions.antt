@@ -1,13 +1,13 @@
--- A question and its answer, and the questions 8 to 11, which are put to the fields of one record, each one definition, in document 01's
--- order; the first No decides.
+-- The questions 8 to 11, which are put to the fields of one record, each one definition, in document 01's order; the first No decides.
 use Prim.Native.Nat.{ℕ, _+_}
-use mathlib.Core.Bool.{Bool, true, false, cond, not, _&&_}
+use mathlib.Core.Bool.{Bool, true, false, not, _&&_}
 use mathlib.Core.List.{List, [], _∷_}
 use lib.Dec.{leb, ltb}
-use Rattle.csv.specs.Reading.{isNil}
+use Rattle.csv_content.specs.Content.{isNil}
 use Rattle.rows.specs.Limits.{FILES, MESSAGES, OFFSET-MAX}
 use Rattle.rows.specs.declared.Row.{Row}
-use Rattle.trace_fields.specs.Rows.{kindOf, usedBy, isNumber, field, rowOf}
+use Rattle.trace_numbers.specs.Numbers.{isNumber, field, numberIf, OFFSETS}
+use Rattle.trace_fields.specs.Rows.{kindOf, usedBy, rowOf}
 use Rattle.rows.specs.Kinds.{KINDS}
 use Rattle.rows.specs.Questions.{Question}
 
@@ -27,15 +27,6 @@ filledAsUsed fields =
     asUsed true (field fields 0)
     && (asUsed (u .file) (field fields 2)
     && (asUsed (u .range) (field fields 3) && (asUsed (u .range) (field fields 4) && asUsed (u .message) (field fields 5))))
-
--- a field that is not used has no number to judge
-abbrev pub numberIf : Bool → ℕ → List ℕ → Bool
-numberIf true below content = isNumber below content
-numberIf false below content = true
-
--- the bound of an offset and of a length, one more than the largest
-abbrev pub OFFSETS : ℕ
-OFFSETS = OFFSET-MAX + 1
 
 -- 10. Is each number plain and within its range?
 unfoldable pub numbersInRange : ℕ → List (List ℕ) → Bool

@@ -1,14 +1,12 @@
--- Rows of a trace: kinds and their words, the fields that a kind uses, numbers, and the row that a record stands for.
-use Prim.Native.Nat.{ℕ, zero, suc, _+_, _*_, _-_}
-use mathlib.Core.Bool.{Bool, true, false, cond, not, _&&_, _||_}
-use mathlib.Core.List.{List, [], _∷_, _++_}
-use lib.ListN.{getD, drop}
-use lib.Dec.{ltb, eqb}
-use Rattle.csv.specs.Reading.{sameBytes, isNil, within}
+-- Rows of a trace: kinds and their words, the fields that a kind uses, and the row that a record stands for.
+use Prim.Native.Nat.{ℕ, _+_}
+use mathlib.Core.Bool.{Bool, true, false, cond, _&&_}
+use mathlib.Core.List.{List, [], _∷_}
+use lib.ListN.{getD}
+use Rattle.csv_content.specs.Content.{sameBytes}
 use Rattle.rows.specs.declared.Row.{Row}
-use Rattle.trace_fields.specs.declared.Number.{Number}
-use Rattle.trace_fields.specs.declared.Number.the-variants.{Plain, Bad}
-use Rattle.trace_fields.specs.declared.Used.{Used}
+use Rattle.trace_numbers.specs.declared.Used.{Used}
+use Rattle.trace_numbers.specs.Numbers.{value, field}
 
 -- ---- Kinds
 
@@ -25,7 +23,7 @@ kindWords =
     ∷ (114 ∷ 101 ∷ 99 ∷ 118 ∷ [])  -- recv
     ∷ []
 
--- the place of the first word that is the content; as many as there are words where none is
+-- the place of the first word that is the content, and the number of words where none is
 unfoldable pub wordOf : List (List ℕ) → List ℕ → ℕ
 wordOf [] content = 0
 wordOf (w ∷ ws) content = cond (sameBytes content w) 0 (wordOf ws content + 1)
@@ -54,71 +52,40 @@ sameFields (f ∷ fs) (w ∷ ws) = sameBytes f w && sameFields fs ws
 
 -- ---- The fields that a kind uses besides process and kind
 
-abbrev pub ofRange : Used
-ofRange = record { file = true; range = true; message = false }
+-- the file and its range
+abbrev pub usesRange : Used
+usesRange = record { file = true; range = true; message = false }
 
-abbrev pub ofFile : Used
-ofFile = record { file = true; range = false; message = false }
+-- the file alone
+abbrev pub usesFile : Used
+usesFile = record { file = true; range = false; message = false }
 
-abbrev pub ofMessage : Used
-ofMessage = record { file = false; range = false; message = true }
+-- the message
+abbrev pub usesMessage : Used
+usesMessage = record { file = false; range = false; message = true }
 
-abbrev pub ofNothing : Used
-ofNothing = record { file = false; range = false; message = false }
+-- no field
+abbrev pub usesNothing : Used
+usesNothing = record { file = false; range = false; message = false }
 
--- by the kind's number
+-- the used fields by the kind's number
 abbrev pub usedTable : List Used
 usedTable =
-    ofRange  -- read
-    ∷ ofRange  -- write
-    ∷ ofFile  -- commit
-    ∷ ofFile  -- open
-    ∷ ofFile  -- close
-    ∷ ofFile  -- sync
-    ∷ ofMessage  -- send
-    ∷ ofMessage  -- recv
+    usesRange  -- read
+    ∷ usesRange  -- write
+    ∷ usesFile  -- commit
+    ∷ usesFile  -- open
+    ∷ usesFile  -- close
+    ∷ usesFile  -- sync
+    ∷ usesMessage  -- send
+    ∷ usesMessage  -- recv
     ∷ []
 
+-- the fields that a kind uses; a number that is no kind's uses none
 unfoldable pub usedBy : ℕ → Used
-usedBy kind = getD usedTable kind ofNothing
-
--- ---- Numbers
-
--- decimal digits alone
-unfoldable pub allDigits : List ℕ → Bool
-allDigits [] = true
-allDigits (b ∷ t) = within 0x30 0x39 b && allDigits t
-
--- at least one byte, and no leading zero; 0 itself is "0"
-unfoldable pub startsPlain : List ℕ → Bool
-startsPlain [] = false
-startsPlain (b ∷ t) = not (eqb b 0x30) || isNil t
-
--- a plain number
-abbrev pub isPlain : List ℕ → Bool
-isPlain content = startsPlain content && allDigits content
-
--- the value of digits behind a value; that of no digits is 0
-unfoldable pub valueFrom : ℕ → List ℕ → ℕ
-valueFrom v [] = v
-valueFrom v (b ∷ t) = valueFrom (v * 10 + (b - 0x30)) t
-
-abbrev pub value : List ℕ → ℕ
-value content = valueFrom 0 content
-
--- a plain number below a bound
-abbrev pub isNumber : ℕ → List ℕ → Bool
-isNumber below content = isPlain content && ltb (value content) below
-
--- the number that a content is, and Bad where it is none
-unfoldable pub numberBelow : ℕ → List ℕ → Number
-numberBelow below content = cond (isNumber below content) (Plain (value content)) Bad
+usedBy kind = getD usedTable kind usesNothing
 
 -- ---- Rows
-
--- a field of a record by its place, empty where the record has none there
-abbrev pub field : List (List ℕ) → ℕ → List ℕ
-field fields k = getD fields k []
 
 -- The row of a record that passes the questions. A field that the kind does not use is empty, and its number 0.
 unfoldable pub rowOf : List (List ℕ) → Row

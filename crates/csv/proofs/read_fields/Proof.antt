@@ -8,14 +8,16 @@ use mathlib.Core.Logic.{⊎-elim, inl, inr}
 use mathlib.Core.Path.{_≡_, _∙_}
 use Rattle.csv.proofs.Going.{Going, start, stored, comma-in, line-in, next, last-line, last-text, bad, over}
 use lib.ListN.{length}
-use Prim.Native.Nat.{_+_, _-_, _≤_}
+use Prim.Native.Nat.{_+_, _-_}
 use Rattle.csv.proofs.read_fields.Statement.{statement}
 use Rattle.csv.proofs.read_fields.Tie as tie
 use Rattle.csv.proofs.read_fields.Reads as reads
 use Rattle.csv.proofs.read_fields.Lts as lts
 use Rattle.csv.proofs.refusal.Reads as refusal-reads
-use Rattle.csv.proofs.scan.field_at.Reads as field-at-reads
+use Rattle.csv.proofs.whole_record.Reads as whole-record-reads
+use Rattle.csv_field.proofs.field_at.Reads as field-at-reads
 
+-- The record at the start has the fields read so far, whose spans are kept up to the sixth, and the fields from i on.
 abbrev Inv-loop : tie.InvT-loop
 Inv-loop s cut at spans₀ count₀ i₀ spans count i = Going s cut at spans count i
 
@@ -37,7 +39,7 @@ array-set-from-spans : tie.Need-array-set-from-spans Inv-loop μ-loop
 array-set-from-spans c = omega (arith, c .if1 .taken)
 
 -- the spans after the branch: those of the fields read, the new one with them
-kept : (c : lts.Joined1 (field-at-reads.Asked, field-at-reads.Learnt, refusal-reads.Asked, refusal-reads.Learnt) reads.Pre reads.Post Inv-loop μ-loop) →
+kept : (c : lts.Joined1 (field-at-reads.Asked, field-at-reads.Learnt, whole-record-reads.Asked, whole-record-reads.Learnt, refusal-reads.Asked, refusal-reads.Learnt) reads.Pre reads.Post Inv-loop μ-loop) →
     c .if1 .spans ≡ firstSix (c .before .before .before .loop .inv .done ++ (c .before .before .field-at .result .span ∷ []))
 kept c =
     let l = c .before .before .before .loop in
@@ -69,23 +71,31 @@ loop-again c =
 enum-told-2 : tie.Need-enum-told-2 Inv-loop μ-loop
 enum-told-2 c = search needs
 
-add-t18 : tie.Need-add-t18 Inv-loop μ-loop
-add-t18 c =
+add-whole-record : tie.Need-add-whole-record Inv-loop μ-loop
+add-whole-record c =
     let l = c .before .before .before .before .before .loop in
     omega (arith, line-in (l .inv) (c .before .before .before .before .field-at .ensures) (c .enum-told2 .given .1))
 
+whole-record-requires : tie.Need-whole-record-requires Inv-loop μ-loop
+whole-record-requires c κs = search needs
+
 returns : tie.Need-returns Inv-loop μ-loop
 returns c =
-    let l = c .before .before .before .before .before .loop in
-    last-line (l .inv) (c .before .before .before .before .field-at .ensures) (kept (c .before .before)) (c .enum-told2 .given .1)
+    let l = c .before .before .before .before .before .before .loop in
+    c .whole-record .ensures ∙ last-line (l .inv) (c .before .before .before .before .before .field-at .ensures) (kept (c .before .before .before))
+    (c .before .enum-told2 .given .1)
 
 enum-told-3 : tie.Need-enum-told-3 Inv-loop μ-loop
 enum-told-3 c = search needs
 
+whole-record-requires-2 : tie.Need-whole-record-requires-2 Inv-loop μ-loop
+whole-record-requires-2 c κs = search needs
+
 returns-2 : tie.Need-returns-2 Inv-loop μ-loop
 returns-2 c =
-    let l = c .before .before .before .before .before .loop in
-    last-text (l .inv) (c .before .before .before .before .field-at .ensures) (kept (c .before .before)) (c .enum-told3 .given .1)
+    let l = c .before .before .before .before .before .before .loop in
+    c .whole-record2 .ensures ∙ last-text (l .inv) (c .before .before .before .before .before .field-at .ensures) (kept (c .before .before .before))
+    (c .before .enum-told3 .given .1)
 
 enum-told-4 : tie.Need-enum-told-4 Inv-loop μ-loop
 enum-told-4 c = search needs
@@ -125,9 +135,11 @@ read-fields-spec =
     loop-less
     loop-again
     enum-told-2
-    add-t18
+    add-whole-record
+    whole-record-requires
     returns
     enum-told-3
+    whole-record-requires-2
     returns-2
     enum-told-4
     refusal-requires

@@ -11,7 +11,7 @@ use Rattle.trace.proofs.is_header.Statement.{statement}
 use Rattle.trace.proofs.is_header.Tie as tie
 use Rattle.trace.proofs.is_header.Reads as reads
 use Rattle.trace.proofs.is_header.Lts as lts
-use Rattle.csv.proofs.content.is_word.Reads as is-word-reads
+use Rattle.csv_content.proofs.is_word.Reads as is-word-reads
 
 -- the first k names are there
 abbrev Here : lts.Start (is-word-reads.Asked, is-word-reads.Learnt) reads.Pre reads.Post → ℕ → Type 0

@@ -5,7 +5,7 @@ use Rattle.trace.proofs.Going.{refusal}
 use Rattle.trace.specs.Reads.{fieldsOf, headed, judgeFrom}
 use Rattle.trace.specs.Questions.{checkedOf}
 use Rattle.csv.proofs.Answers.{tells}
-use Rattle.csv.specs.declared.Span.{Span}
+use Rattle.csv_field.specs.declared.Span.{Span}
 use Rattle.csv.specs.Reading.{readAt}
 use denote.Ref.{now}
 use borrow.Author.Tests.{not-true, not-false}

@@ -1,6 +1,6 @@
 -- `trace_fields::as_used` meets its contract.
 use borrow.Author.Needs.{needs}
-use Rattle.csv.specs.Reading.{contentOf}
+use Rattle.csv_content.specs.Content.{contentOf}
 use Rattle.trace_fields.proofs.Words.{filled-used, empty-unused}
 use denote.Ref.{now}
 use Rattle.trace_fields.proofs.as_used.Statement.{statement}

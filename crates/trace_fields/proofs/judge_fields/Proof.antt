@@ -1,9 +1,9 @@
 -- `trace_fields::judge_fields` meets its contract.
 use borrow.Author.Needs.{needs}
-use Rattle.trace_fields.proofs.Judging.{Known, Filled, Numbered, no-kind, no-filled, no-end, kept, no-process, no-file, no-offset, no-length, no-message}
+use Rattle.trace_fields.proofs.Judging.{Known, Filled, no-kind, no-filled, no-number, no-end, kept}
 use Rattle.rows.proofs.Bools.{refused, passed}
 use denote.Ref.{now}
-use mathlib.Core.Path.{sym, _∙_}
+use native.Mathlib.Omega.{arith}
 use Rattle.trace_fields.proofs.judge_fields.Statement.{statement}
 use Rattle.trace_fields.proofs.judge_fields.Tie as tie
 
@@ -22,44 +22,9 @@ known c =
       used-is = c .used-by .ensures;
     }
 
--- and where its fields are filled as used
+-- the record where its fields are filled as used
 abbrev filled : tie.Else2 → Filled
 filled c = record { of = known (c .before .before); filled = passed (c .before .filled-as-used .ensures) (c .if2 .left) }
-
--- the same from the places behind the numbers
-abbrev filled1 : tie.After-known-told → Filled
-filled1 c = filled (c .before .before .before .before .before)
-
-abbrev filled2 : tie.After-known-told2 → Filled
-filled2 c = filled1 (c .before .before .before .before .before)
-
-abbrev filled3 : tie.After-known-told3 → Filled
-filled3 c = filled2 (c .before .before .before .before .before)
-
-abbrev filled4 : tie.After-known-told4 → Filled
-filled4 c = filled3 (c .before .before .before .before .before)
-
--- and where its numbers were read
-abbrev numbered : tie.After-known-told5 → Numbered
-numbered c =
-    let m = c .before in
-    let l = m .before .before .before .before .before in
-    let o = l .before .before .before .before .before in
-    let f = o .before .before .before .before .before in
-    let p = f .before .before .before .before .before in
-    record {
-      of = filled4 (m .before .before .before .before);
-      process = p .process .given .0 .0;
-      file = f .file .given .0 .0;
-      offset = o .offset .given .0 .0;
-      length = l .length .given .0 .0;
-      message = m .message .given .0 .0;
-      process-read = sym (p .before .before .number-in .ensures) ∙ p .process .given .1;
-      file-read = sym (f .before .before .number-in2 .ensures) ∙ f .file .given .1;
-      offset-read = sym (o .before .before .number-in3 .ensures) ∙ o .offset .given .1;
-      length-read = sym (l .before .before .number-in4 .ensures) ∙ l .length .given .1;
-      message-read = sym (m .before .before .number-in5 .ensures) ∙ m .message .given .1;
-    }
 
 array-copy-out-kind-of : tie.Need-array-copy-out-kind-of
 array-copy-out-kind-of c = search needs
@@ -81,89 +46,32 @@ filled-as-used-requires c κs = search needs
 returns-2 : tie.Need-returns-2
 returns-2 c = no-filled (known (c .before .before)) (refused (c .before .filled-as-used .ensures) (c .if2 .taken))
 
-array-copy-out-number-in : tie.Need-array-copy-out-number-in
-array-copy-out-number-in c = search needs
+read-numbers-requires : tie.Need-read-numbers-requires
+read-numbers-requires c κs = search needs
 
-number-in-requires : tie.Need-number-in-requires
-number-in-requires c κs = search needs
+enum-known-k : tie.Need-enum-known-k
+enum-known-k c = search needs
 
-enum-known-process : tie.Need-enum-known-process
-enum-known-process c = search needs
-
-enum-told : tie.Need-enum-told
-enum-told c = search needs
-
-returns-3 : tie.Need-returns-3
-returns-3 c = no-process (filled (c .before .before .before .before)) (c .before .before .number-in .ensures) (c .enum-told .given .1)
-
-array-copy-out-number-in-2 : tie.Need-array-copy-out-number-in-2
-array-copy-out-number-in-2 c = search needs
-
-number-in-requires-2 : tie.Need-number-in-requires-2
-number-in-requires-2 c κs = search needs
-
-enum-known-file : tie.Need-enum-known-file
-enum-known-file c = search needs
-
-enum-told-2 : tie.Need-enum-told-2
-enum-told-2 c = search needs
-
-returns-4 : tie.Need-returns-4
-returns-4 c = no-file (filled1 (c .before .before .before .before)) (c .before .before .number-in2 .ensures) (c .enum-told2 .given .1)
-
-array-copy-out-number-in-3 : tie.Need-array-copy-out-number-in-3
-array-copy-out-number-in-3 c = search needs
-
-number-in-requires-3 : tie.Need-number-in-requires-3
-number-in-requires-3 c κs = search needs
-
-enum-known-offset : tie.Need-enum-known-offset
-enum-known-offset c = search needs
-
-enum-told-3 : tie.Need-enum-told-3
-enum-told-3 c = search needs
-
-returns-5 : tie.Need-returns-5
-returns-5 c = no-offset (filled2 (c .before .before .before .before)) (c .before .before .number-in3 .ensures) (c .enum-told3 .given .1)
-
-array-copy-out-number-in-4 : tie.Need-array-copy-out-number-in-4
-array-copy-out-number-in-4 c = search needs
-
-number-in-requires-4 : tie.Need-number-in-requires-4
-number-in-requires-4 c κs = search needs
-
-enum-known-length : tie.Need-enum-known-length
-enum-known-length c = search needs
-
-enum-told-4 : tie.Need-enum-told-4
-enum-told-4 c = search needs
-
-returns-6 : tie.Need-returns-6
-returns-6 c = no-length (filled3 (c .before .before .before .before)) (c .before .before .number-in4 .ensures) (c .enum-told4 .given .1)
-
-array-copy-out-number-in-5 : tie.Need-array-copy-out-number-in-5
-array-copy-out-number-in-5 c = search needs
-
-number-in-requires-5 : tie.Need-number-in-requires-5
-number-in-requires-5 c κs = search needs
-
-enum-known-message : tie.Need-enum-known-message
-enum-known-message c = search needs
-
-enum-told-5 : tie.Need-enum-told-5
-enum-told-5 c = search needs
-
-returns-7 : tie.Need-returns-7
-returns-7 c = no-message (filled4 (c .before .before .before .before)) (c .before .before .number-in5 .ensures) (c .enum-told5 .given .1)
+enum-known-row : tie.Need-enum-known-row
+enum-known-row c = search needs
 
 sub-if3 : tie.Need-sub-if3
 sub-if3 c = search needs
 
-returns-8 : tie.Need-returns-8
-returns-8 c = no-end (numbered (c .before)) (c .if3 .taken)
+returns-3 : tie.Need-returns-3
+returns-3 c =
+    let r = c .before .before .before .before in
+    no-end (filled (r .before .before .before)) (r .before .before .read-numbers .ensures) (r .row .given .1) (c .if3 .taken)
 
-returns-9 : tie.Need-returns-9
-returns-9 c = kept (numbered (c .before)) (c .if3 .left)
+returns-4 : tie.Need-returns-4
+returns-4 c =
+    let k = c .before in
+    no-number (filled (k .before .before .before)) (k .before .before .read-numbers .ensures) (k .k .given .1)
+
+returns-5 : tie.Need-returns-5
+returns-5 c =
+    let r = c .before .before .before .before in
+    kept (filled (r .before .before .before)) (r .before .before .read-numbers .ensures) (r .row .given .1) (omega arith) (c .if3 .left)
 
 pub judge-fields-spec : {M : Type 1} → statement M
 judge-fields-spec =
@@ -175,31 +83,10 @@ judge-fields-spec =
     used-by-requires
     filled-as-used-requires
     returns-2
-    array-copy-out-number-in
-    number-in-requires
-    enum-known-process
-    enum-told
-    returns-3
-    array-copy-out-number-in-2
-    number-in-requires-2
-    enum-known-file
-    enum-told-2
-    returns-4
-    array-copy-out-number-in-3
-    number-in-requires-3
-    enum-known-offset
-    enum-told-3
-    returns-5
-    array-copy-out-number-in-4
-    number-in-requires-4
-    enum-known-length
-    enum-told-4
-    returns-6
-    array-copy-out-number-in-5
-    number-in-requires-5
-    enum-known-message
-    enum-told-5
-    returns-7
+    read-numbers-requires
+    enum-known-k
+    enum-known-row
     sub-if3
-    returns-8
-    returns-9)
+    returns-3
+    returns-4
+    returns-5)

@@ -1,6 +1,6 @@
 -- `trace_fields::kind_of` meets its contract.
 use borrow.Author.Needs.{needs}
-use Rattle.csv.specs.Reading.{contentOf}
+use Rattle.csv_content.specs.Content.{contentOf}
 use Rattle.trace_fields.specs.Rows.{kindWords}
 use Rattle.trace_fields.proofs.Words.{Past, start, next, here, none}
 use lib.ListN.{drop}
@@ -8,7 +8,7 @@ use denote.Ref.{now}
 use Rattle.trace_fields.proofs.kind_of.Statement.{statement}
 use Rattle.trace_fields.proofs.kind_of.Tie as tie
 
--- where the first words are not the content
+-- the content is none of the first words
 abbrev past1 : tie.Else1 → Past 1 (drop 1 kindWords)
 past1 c =
     let a = c .before .before .before .before .args in

@@ -1,0 +1,3 @@
+pub mod Undoubling
+pub mod Fields
+pub mod Contents

@@ -1,0 +1,2 @@
+pub mod FieldGrammar
+pub mod FieldReading
