@@ -32,12 +32,12 @@ use Rattle.machine_meaning.specs.States.{Header}
 use Rattle.machine_meaning.specs.Steps as steps
 use Rattle.machine_meaning.specs.Steps.{Step, madeTo}
 use Rattle.machine_state.specs.declared.Machine.{Machine}
-use Rattle.machine.specs.declared.Made as machine
-use Rattle.machine.specs.declared.Made.the-variants as made
-use Rattle.machine.specs.declared.Replayed.{Replayed}
+use Rattle.machine_state.specs.declared.Made as machine
+use Rattle.machine_state.specs.declared.Made.the-variants as made
+use Rattle.machine_state.specs.declared.Replayed.{Replayed}
 use Rattle.machine_state.specs.Answers.{headerOf, answerOf as answeredOf, Steps}
-use Rattle.machine.specs.Makes.{madeOf}
-use Rattle.machine.specs.Replays.{Replay, Replays}
+use Rattle.machine_state.specs.Makes.{madeOf}
+use Rattle.machine_state.specs.Replays.{Replay, Replays}
 use Rattle.kiqsaryn.specs.Packing.{packed, Gives, packedJudged, unpackedJudged, JudgeGives, Fills, packedFound, unpackedFound, Judges, Makes, packedStep, StepGives, ReplayGives}
 
 pub packs : {o : Outcome} {a b : Checked} {rows rows′ counts counts′ : List ℕ} → Leaves o a rows rows′ counts counts′ → a ≡ b →
@@ -168,7 +168,7 @@ packedAnswer Done = 0
 packedAnswer (Listed count) = count
 packedAnswer (Refused number) = number * 4294967296
 
-step-told : (a : steps.Answer) → packedAnswer (answeredOf a) ≡ packedStep a
+step-told : (a : steps.StepAnswer) → packedAnswer (answeredOf a) ≡ packedStep a
 step-told (steps.refusing number) = refl
 step-told steps.done = refl
 step-told (steps.listed count) = refl

@@ -19,7 +19,7 @@ use Rattle.checker.specs.Judging.{judgedOf, countsKept}
 use Rattle.machine_meaning.specs.States.{Header}
 use Rattle.machine_meaning.specs.Steps as steps
 use Rattle.machine_meaning.specs.Steps.{Step, madeTo}
-use Rattle.machine.specs.Replays.{Replay}
+use Rattle.machine_state.specs.Replays.{Replay}
 
 -- the row count, or the refusal's number times 2^32 plus its place
 abbrev pub packed : Checked → ℕ
@@ -91,7 +91,7 @@ pub record Makes (questions : List Question) (size answer : ℕ) (maps maps′ :
   pub maps-left : maps′ ≡ madeTo (firstNo questions) size maps
 
 -- the count of pieces, 0 for a row that is no read, or a refusal's number times 2^32
-abbrev pub packedStep : steps.Answer → ℕ
+abbrev pub packedStep : steps.StepAnswer → ℕ
 packedStep (steps.refusing number) = number * 4294967296
 packedStep steps.done = 0
 packedStep (steps.listed count) = count

@@ -7,7 +7,7 @@ ghost use Rattle.happens_before.specs.Filling.{fillQuestions};
 ghost use Rattle.races.specs.Answers.{judgeQuestions};
 ghost use Rattle.checker.specs.Report.{reportLength, reportIn};
 ghost use Rattle.machine_meaning.specs.Steps.{makingQuestions, plainMakingQuestions, stepOf, plainStepOf};
-ghost use Rattle.machine.specs.Replays.{replayOf, plainReplayOf};
+ghost use Rattle.machine_state.specs.Replays.{replayOf, plainReplayOf};
 ghost use Rattle.kiqsaryn.specs.Packing.{Gives, JudgeGives, Fills, Judges, headed, rowed, Makes, StepGives, ReplayGives};
 use checker::Judged;
 use extents::Answer;

@@ -23,7 +23,7 @@ use Rattle.extents_meaning.proofs.Sides.{with-same}
 use Rattle.machine_meaning.specs.Layers.{Layers, afterRow, piecesRead}
 use Rattle.machine_meaning.specs.States.{Header, mapsLength, processLimit, lawfulState, layersIn, layersTo, layersFit, plainFits}
 use Rattle.rows.specs.Counting.{allBelow}
-use Rattle.machine_meaning.specs.Steps.{Answer, done, listed, rowAsked, roomAsked, answered, decided, stepOf}
+use Rattle.machine_meaning.specs.Steps.{StepAnswer, done, listed, rowAsked, roomAsked, answered, decided, stepOf}
 use Rattle.machine_meaning.proofs.Slices.{Alike, alike-fit, alike-to}
 use Rattle.machine_meaning.proofs.Lawful.{here-fit, to-same}
 use Rattle.machine_meaning.proofs.Stepping.{AllYes}

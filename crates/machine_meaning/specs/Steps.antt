@@ -54,13 +54,13 @@ roomAsked fit pieces answerLength =
 -- ---- What a step answers and leaves
 
 -- a refusal's number, nothing to list, or a read's count of pieces
-pub data Answer : Type 0 where
-  refusing : (number : ℕ) → Answer
-  done : Answer
-  listed : (count : ℕ) → Answer
+pub data StepAnswer : Type 0 where
+  refusing : (number : ℕ) → StepAnswer
+  done : StepAnswer
+  listed : (count : ℕ) → StepAnswer
 
 pub record Step : Type 0 where
-  pub answer : Answer
+  pub answer : StepAnswer
   pub maps : List ℕ
   pub out : List ℕ
 

@@ -1,1 +1,2 @@
 pub mod Plainly
+pub mod Keeping

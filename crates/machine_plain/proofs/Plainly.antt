@@ -18,7 +18,7 @@ use Rattle.extents_meaning.specs.Maps.{mapFor, threes, spaceIn, bytesOf, lawful
 use Rattle.rows.proofs.Bools.{and-out}
 use Rattle.machine_meaning.specs.Layers.{afterPlain, piecesRead}
 use Rattle.machine_meaning.specs.States.{Header, processLimit, lawfulPlain, plainIn, plainTo, plainFits}
-use Rattle.machine_meaning.specs.Steps.{Answer, done, listed, plainMakingQuestions, rowAsked, roomAsked, plainStepOf}
+use Rattle.machine_meaning.specs.Steps.{StepAnswer, done, listed, plainMakingQuestions, rowAsked, roomAsked, plainStepOf}
 use Rattle.machine_meaning.proofs.Lawful.{here-fit, here-again}
 use Rattle.machine_meaning.proofs.Stepping.{AllYes}
 use Rattle.extents.specs.declared.Answer as extents
@@ -229,7 +229,7 @@ module _ (h : Header) (xs : List ℕ) (law : lawfulPlain h xs ≡ true) where
             let rest = drop (4 * h .space) xs in
             let back = sym write-after in
             carried _ k xs out (room ∙ (no-seventeen no-read ∙ write-refusal))
-            (answer ∙ ap (λ (a : Answer). orRefused k (answerOf a)) (no-answer no-read))
+            (answer ∙ ap (λ (a : StepAnswer). orRefused k (answerOf a)) (no-answer no-read))
             (ap (λ (zs : List ℕ). zs ++ rest) left ∙ kept-append k (mapFor (spaceIn map) anew) map rest
             ∙ (λ i. orKept k (mapFor (map-space i) (back i) ++ rest) (take-append-drop (4 * h .space) xs i)))
             (no-list no-read k) (λ _. refl)

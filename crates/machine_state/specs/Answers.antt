@@ -11,7 +11,7 @@ use Rattle.extents.specs.declared.Answer.the-variants.{Done, Listed, Refused}
 use Rattle.rows.specs.declared.Row.{Row}
 use Rattle.machine_meaning.specs.Layers.{ofFile}
 use Rattle.machine_meaning.specs.States.{Header, lawfulState}
-use Rattle.machine_meaning.specs.Steps.{Answer, refusing, done, listed, Step, rowAsked}
+use Rattle.machine_meaning.specs.Steps.{StepAnswer, refusing, done, listed, Step, rowAsked}
 use Rattle.machine_state.specs.declared.Machine.{Machine}
 
 -- the header of a machine
@@ -34,7 +34,7 @@ rangeAsked h r number = fileAsked h r number ++ (record { number = 11; yes = leb
 -- ---- Answers
 
 -- what a step answers
-abbrev pub answerOf : Answer → extents.Answer
+abbrev pub answerOf : StepAnswer → extents.Answer
 answerOf (refusing number) = Refused number
 answerOf done = Done
 answerOf (listed count) = Listed count

@@ -152,3 +152,16 @@ pub fn count_in(answer: Answer) -> u32
         Answer::Done => 0,
     }
 }
+
+// What making answers: the maps are made, or the number of the question that was answered No.
+pub enum Made {
+    Made,
+    Refused(u32),
+}
+
+// How far a replay came: the rows gone through, the pieces of its reads, and 0, or the number of the question that the next row answers No.
+pub struct Replayed {
+    pub rows: u32,
+    pub pieces: usize,
+    pub refusal: u32,
+}

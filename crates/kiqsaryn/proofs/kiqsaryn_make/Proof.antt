@@ -4,7 +4,7 @@ use Rattle.kiqsaryn.proofs.kiqsaryn_make.Tie as tie
 use Rattle.kiqsaryn.proofs.kiqsaryn_make.Reads as reads
 use Rattle.kiqsaryn.proofs.kiqsaryn_make.Lts as lts
 use Rattle.machine_state.proofs.Machine.fresh.Reads as fresh-reads
-use Rattle.machine.proofs.make.Reads as make-reads
+use Rattle.machine_layered.proofs.make.Reads as make-reads
 use lib.ListN.{length}
 use denote.Ref.{now}
 use Rattle.machine_meaning.specs.States.{Header, mapsLength}

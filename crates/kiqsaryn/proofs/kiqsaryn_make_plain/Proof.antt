@@ -4,7 +4,7 @@ use Rattle.kiqsaryn.proofs.kiqsaryn_make_plain.Tie as tie
 use Rattle.kiqsaryn.proofs.kiqsaryn_make_plain.Reads as reads
 use Rattle.kiqsaryn.proofs.kiqsaryn_make_plain.Lts as lts
 use Rattle.machine_state.proofs.Machine.fresh.Reads as fresh-reads
-use Rattle.machine.proofs.make_plain.Reads as make-plain-reads
+use Rattle.machine_plain.proofs.make.Reads as make-reads
 use Prim.Native.Nat.{_*_}
 use lib.ListN.{length}
 use denote.Ref.{now}
@@ -15,8 +15,8 @@ use Rattle.kiqsaryn.proofs.Packs.{packs-made}
 fresh-requires : tie.Need-fresh-requires
 fresh-requires c κs = search needs
 
-make-plain-requires : tie.Need-make-plain-requires
-make-plain-requires c κs = search needs
+make-requires : tie.Need-make-requires
+make-requires c κs = search needs
 
 enum-told : tie.Need-enum-told
 enum-told c = search needs
@@ -28,20 +28,20 @@ same-length : tie.Need-same-length
 same-length c = search needs
 
 returns : tie.Need-returns
-returns c = packs-made (λ (h : Header). plainMakingQuestions h (length (now (c .before .before .before .before .before .before .before .before .args .map)))) (λ (h : Header). 4 * h .space) (c .before .before .before .before .before .before .fresh .ensures) (now (c .before .before .before .before .before .before .before .before .args .map)) (c .before .before .before .before .make-plain .ensures .0) (c .before .before .before .before .make-plain .ensures .1) (c .enum-told .given .1)
+returns c = packs-made (λ (h : Header). plainMakingQuestions h (length (now (c .before .before .before .before .before .before .before .before .args .map)))) (λ (h : Header). 4 * h .space) (c .before .before .before .before .before .before .fresh .ensures) (now (c .before .before .before .before .before .before .before .before .args .map)) (c .before .before .before .before .make .ensures .0) (c .before .before .before .before .make .ensures .1) (c .enum-told .given .1)
 
 same-length-2 : tie.Need-same-length-2
 same-length-2 c = search needs
 
 returns-2 : tie.Need-returns-2
-returns-2 c = packs-made (λ (h : Header). plainMakingQuestions h (length (now (c .before .before .before .before .before .before .before .before .before .args .map)))) (λ (h : Header). 4 * h .space) (c .before .before .before .before .before .before .before .fresh .ensures) (now (c .before .before .before .before .before .before .before .before .before .args .map)) (c .before .before .before .before .before .make-plain .ensures .0) (c .before .before .before .before .before .make-plain .ensures .1) (c .before .number .given .1)
+returns-2 c = packs-made (λ (h : Header). plainMakingQuestions h (length (now (c .before .before .before .before .before .before .before .before .before .args .map)))) (λ (h : Header). 4 * h .space) (c .before .before .before .before .before .before .before .fresh .ensures) (now (c .before .before .before .before .before .before .before .before .before .args .map)) (c .before .before .before .before .before .make .ensures .0) (c .before .before .before .before .before .make .ensures .1) (c .before .number .given .1)
 
 pub kiqsaryn-make-plain-spec : {M : Type 1} → statement M
 kiqsaryn-make-plain-spec =
     tie.close
     (tie.spec
     fresh-requires
-    make-plain-requires
+    make-requires
     enum-told
     enum-known-number
     same-length

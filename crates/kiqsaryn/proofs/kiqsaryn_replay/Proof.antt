@@ -4,10 +4,10 @@ use Rattle.kiqsaryn.proofs.kiqsaryn_replay.Tie as tie
 use Rattle.kiqsaryn.proofs.kiqsaryn_replay.Reads as reads
 use Rattle.kiqsaryn.proofs.kiqsaryn_replay.Lts as lts
 use Rattle.machine_state.proofs.Machine.fresh.Reads as fresh-reads
-use Rattle.machine.proofs.replay.Reads as replay-reads
+use Rattle.machine_layered.proofs.replay.Reads as replay-reads
 use denote.Ref.{now}
 use Rattle.machine_meaning.specs.States.{Header}
-use Rattle.machine.specs.Replays.{replayOf}
+use Rattle.machine_state.specs.Replays.{replayOf}
 use Rattle.kiqsaryn.proofs.Packs.{packs-replay}
 
 fresh-requires : tie.Need-fresh-requires

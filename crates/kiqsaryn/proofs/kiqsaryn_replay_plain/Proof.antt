@@ -4,17 +4,17 @@ use Rattle.kiqsaryn.proofs.kiqsaryn_replay_plain.Tie as tie
 use Rattle.kiqsaryn.proofs.kiqsaryn_replay_plain.Reads as reads
 use Rattle.kiqsaryn.proofs.kiqsaryn_replay_plain.Lts as lts
 use Rattle.machine_state.proofs.Machine.fresh.Reads as fresh-reads
-use Rattle.machine.proofs.replay_plain.Reads as replay-plain-reads
+use Rattle.machine_plain.proofs.replay.Reads as replay-reads
 use denote.Ref.{now}
 use Rattle.machine_meaning.specs.States.{Header}
-use Rattle.machine.specs.Replays.{plainReplayOf}
+use Rattle.machine_state.specs.Replays.{plainReplayOf}
 use Rattle.kiqsaryn.proofs.Packs.{packs-replay}
 
 fresh-requires : tie.Need-fresh-requires
 fresh-requires c κs = search needs
 
-replay-plain-requires : tie.Need-replay-plain-requires
-replay-plain-requires c κs = search needs
+replay-requires : tie.Need-replay-requires
+replay-requires c κs = search needs
 
 cast-result : tie.Need-cast-result
 cast-result c = search needs
@@ -38,14 +38,14 @@ same-length-3 : tie.Need-same-length-3
 same-length-3 c = search needs
 
 returns : tie.Need-returns
-returns c = packs-replay (λ (h : Header). plainReplayOf h (now (c .before .before .before .before .before .before .before .before .before .before .before .before .before .before .before .before .before .args .rows)) (c .before .before .before .before .before .before .before .before .before .before .before .before .before .before .before .before .before .args .first) (c .before .before .before .before .before .before .before .before .before .before .before .before .before .before .before .before .before .args .n) (now (c .before .before .before .before .before .before .before .before .before .before .before .before .before .before .before .before .before .args .map)) (now (c .before .before .before .before .before .before .before .before .before .before .before .before .before .before .before .before .before .args .counts)) (now (c .before .before .before .before .before .before .before .before .before .before .before .before .before .before .before .before .before .args .out))) (c .before .before .before .before .before .before .before .before .before .before .before .before .fresh .ensures) (c .before .before .before .before .before .before .before .before .replay-plain .ensures)
+returns c = packs-replay (λ (h : Header). plainReplayOf h (now (c .before .before .before .before .before .before .before .before .before .before .before .before .before .before .before .before .before .args .rows)) (c .before .before .before .before .before .before .before .before .before .before .before .before .before .before .before .before .before .args .first) (c .before .before .before .before .before .before .before .before .before .before .before .before .before .before .before .before .before .args .n) (now (c .before .before .before .before .before .before .before .before .before .before .before .before .before .before .before .before .before .args .map)) (now (c .before .before .before .before .before .before .before .before .before .before .before .before .before .before .before .before .before .args .counts)) (now (c .before .before .before .before .before .before .before .before .before .before .before .before .before .before .before .before .before .args .out))) (c .before .before .before .before .before .before .before .before .before .before .before .before .fresh .ensures) (c .before .before .before .before .before .before .before .before .replay .ensures)
 
 pub kiqsaryn-replay-plain-spec : {M : Type 1} → statement M
 kiqsaryn-replay-plain-spec =
     tie.close
     (tie.spec
     fresh-requires
-    replay-plain-requires
+    replay-requires
     cast-result
     mul-result
     cast-result-2

@@ -4,7 +4,7 @@ use Rattle.kiqsaryn.proofs.kiqsaryn_step.Tie as tie
 use Rattle.kiqsaryn.proofs.kiqsaryn_step.Reads as reads
 use Rattle.kiqsaryn.proofs.kiqsaryn_step.Lts as lts
 use Rattle.machine_state.proofs.Machine.fresh.Reads as fresh-reads
-use Rattle.machine.proofs.step.Reads as step-reads
+use Rattle.machine_layered.proofs.step.Reads as step-reads
 use denote.Ref.{now}
 use Rattle.machine_meaning.specs.States.{Header}
 use Rattle.machine_meaning.specs.Steps.{stepOf}

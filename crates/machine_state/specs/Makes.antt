@@ -2,8 +2,8 @@
 use Prim.Native.Nat.{ℕ}
 use mathlib.Core.Bool.{cond}
 use lib.Dec.{eqb}
-use Rattle.machine.specs.declared.Made.{Made}
-use Rattle.machine.specs.declared.Made.the-variants as made
+use Rattle.machine_state.specs.declared.Made.{Made}
+use Rattle.machine_state.specs.declared.Made.the-variants as made
 
 -- the first No, or that it is made
 abbrev pub madeOf : ℕ → Made

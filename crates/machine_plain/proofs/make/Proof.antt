@@ -1,4 +1,4 @@
--- `machine::make_plain` meets its contract.
+-- `machine_plain::make` meets its contract.
 use borrow.Author.Needs.{needs}
 use native.Mathlib.Omega.{arith}
 use Prim.Native.Nat.{_*_, _≤_}
@@ -9,9 +9,9 @@ use lib.Seq.{length-take-le}
 use Rattle.rows.proofs.Zeros.{first-cleared}
 use borrow.Author.Tests.{not-true, not-false}
 use Rattle.machine_state.specs.Answers.{headerOf}
-use Rattle.machine.proofs.Making.{plain-short, plain-limit, plain-file, plain-made}
-use Rattle.machine.proofs.make_plain.Statement.{statement}
-use Rattle.machine.proofs.make_plain.Tie as tie
+use Rattle.machine_state.proofs.Making.{making-plain, short-slice, past-limits, past-files, all-zeros}
+use Rattle.machine_plain.proofs.make.Statement.{statement}
+use Rattle.machine_plain.proofs.make.Tie as tie
 
 cast-space : tie.Need-cast-space
 cast-space c = search needs
@@ -20,7 +20,7 @@ returns : tie.Need-returns
 returns c =
     let p3 = c .before .before .before in
     let a = p3 .args in
-    plain-short (headerOf (a .plain)) (now (a .map)) (c .if1 .taken)
+    short-slice (making-plain (headerOf (a .plain)) (now (a .map))) (omega (arith, c .if1 .taken))
 
 is-process-limit-requires : tie.Need-is-process-limit-requires
 is-process-limit-requires c κs = tt
@@ -31,7 +31,7 @@ returns-2 c =
     let p5 = p2 .before .before .before in
     let a = p5 .args in
     let q = c .before .is-process-limit in
-    plain-limit (headerOf (a .plain)) (now (a .map)) (p2 .if1 .left) (sym (q .ensures) ∙ not-true (q .result) (c .if2 .taken))
+    past-limits (making-plain (headerOf (a .plain)) (now (a .map))) (omega (arith, p2 .if1 .left)) (sym (q .ensures) ∙ not-true (q .result) (c .if2 .taken))
 
 returns-3 : tie.Need-returns-3
 returns-3 c =
@@ -40,7 +40,7 @@ returns-3 c =
     let p6 = p3 .before .before .before in
     let a = p6 .args in
     let q = p2 .is-process-limit in
-    plain-file (headerOf (a .plain)) (now (a .map)) (p3 .if1 .left) (sym (q .ensures) ∙ not-false (q .result) (c .before .if2 .left)) (c .if3 .taken)
+    past-files (making-plain (headerOf (a .plain)) (now (a .map))) (omega (arith, p3 .if1 .left)) (sym (q .ensures) ∙ not-false (q .result) (c .before .if2 .left)) (c .if3 .taken)
 
 mul-end : tie.Need-mul-end
 mul-end c = search needs
@@ -76,11 +76,11 @@ returns-4 c =
     let q = p6 .is-process-limit in
     let room : h .space * 4 ≤ length (now (a .map)) = omega (arith, p7 .if1 .left) in
     let all : h .space * 4 ≡ 4 * h .space = omega arith in
-    plain-made h (now (a .map)) (p7 .if1 .left) (sym (q .ensures) ∙ not-false (q .result) (p5 .if2 .left)) (p4 .if3 .left) all
+    all-zeros (making-plain h (now (a .map))) (omega (arith, room)) (sym (q .ensures) ∙ not-false (q .result) (p5 .if2 .left)) (p4 .if3 .left) all
     (first-cleared _ (now (a .map)) room (p2 .clear .ensures))
 
-pub make-plain-spec : {M : Type 1} → statement M
-make-plain-spec =
+pub make-spec : {M : Type 1} → statement M
+make-spec =
     tie.close
     (tie.spec
     cast-space

@@ -1,18 +1,18 @@
--- `machine::replay_plain` meets its contract.
+-- `machine_plain::replay` meets its contract.
 use borrow.Author.Needs.{needs}
 use native.Mathlib.Omega.{arith}
 use Prim.Native.Nat.{_-_}
 use mathlib.Core.Path.{refl, sym, _∙_}
 use borrow.Author.Tests.{not-true, not-false}
 use Rattle.machine_state.specs.Answers.{headerOf}
-use Rattle.machine.proofs.Keeping.{plain-sound}
-use Rattle.machine.proofs.Replaying.{Going, start, turn, turn-size, turn-room, refused-turn, finish, short, unlawful}
-use Rattle.machine.proofs.replay_plain.Statement.{statement}
-use Rattle.machine.proofs.replay_plain.Tie as tie
+use Rattle.machine_plain.proofs.Keeping.{plain-preserves}
+use Rattle.machine_state.proofs.Replaying.{Going, start, turn, turn-size, turn-room, refused-turn, finish, short, unlawful}
+use Rattle.machine_plain.proofs.replay.Statement.{statement}
+use Rattle.machine_plain.proofs.replay.Tie as tie
 
 abbrev Inv-loop : tie.InvT-loop
 Inv-loop plain map₀ rows first n counts₀ out₀ k₀ pieces₀ map counts out k pieces =
-    Going (plain-sound (headerOf plain)) (plain .file) rows first n map₀ counts₀ out₀ map counts out k pieces
+    Going (plain-preserves (headerOf plain)) (plain .file) rows first n map₀ counts₀ out₀ map counts out k pieces
 
 abbrev μ-loop : tie.MeasureT-loop
 μ-loop plain map₀ rows first n counts₀ out₀ k₀ pieces₀ map counts out k pieces = n - k
@@ -162,8 +162,8 @@ same-length-7 c = c .before .loop .inv .out-size
 returns-4 : tie.Need-returns-4 Inv-loop μ-loop
 returns-4 c = finish (c .before .loop .inv) (c .loop-test .left)
 
-pub replay-plain-spec : {M : Type 1} → statement M
-replay-plain-spec =
+pub replay-spec : {M : Type 1} → statement M
+replay-spec =
     tie.close
     (tie.spec
     Inv-loop

@@ -12,21 +12,21 @@ use Rattle.rows.specs.declared.Row.{Row}
 use Rattle.rows.specs.Questions.{firstNo}
 use Rattle.rows.specs.Rows.{rowIn}
 use Rattle.rows.proofs.Bools.{and-out}
-use Rattle.machine_meaning.specs.Steps.{Answer, refusing, done, listed, Step, answered}
+use Rattle.machine_meaning.specs.Steps.{StepAnswer, refusing, done, listed, Step, answered}
 use Rattle.extents.specs.declared.Answer as extents
 use Rattle.extents.specs.declared.Answer.the-variants.{Done}
 use Rattle.machine_state.specs.Answers.{answerOf, refusalOf, countOf, Steps, putTo}
-use Rattle.machine.proofs.Keeping.{Keeps, Sound, put-sound}
-use Rattle.machine.specs.Replays.{Replay, refusalIn, countIn, tried, passed, stopped, onward, after, replayQuestions, started, replayBy, Replays}
+use Rattle.machine_state.proofs.Keeping.{Keeps, Preserves, put-preserves}
+use Rattle.machine_state.specs.Replays.{Replay, refusalIn, countIn, tried, passed, stopped, onward, after, replayQuestions, started, replayBy, Replays}
 
 -- the code's refusal is the definition's
-refusal-told : (a : Answer) → refusalOf (answerOf a) ≡ refusalIn a
+refusal-told : (a : StepAnswer) → refusalOf (answerOf a) ≡ refusalIn a
 refusal-told (refusing number) = refl
 refusal-told done = refl
 refusal-told (listed count) = refl
 
 -- and so is its count of pieces
-count-told : (a : Answer) → countOf (answerOf a) ≡ countIn a
+count-told : (a : StepAnswer) → countOf (answerOf a) ≡ countIn a
 count-told (refusing number) = refl
 count-told done = refl
 count-told (listed count) = refl
@@ -99,7 +99,7 @@ abbrev so-far : List ℕ → List ℕ → List ℕ → ℕ → ℕ → Replay
 so-far maps counts out k pieces = record { refusal = 0; rows = k; pieces = pieces; maps = maps; counts = counts; out = out }
 
 -- what is left gives what the whole gives
-pub record Going {law : List ℕ → Bool} {step : List ℕ → Row → ℕ → List ℕ → Step} (sound : Sound law step) (file : ℕ) (rows : List ℕ)
+pub record Going {law : List ℕ → Bool} {step : List ℕ → Row → ℕ → List ℕ → Step} (keeps : Preserves law step) (file : ℕ) (rows : List ℕ)
     (first n : ℕ) (maps₀ counts₀ out₀ maps counts out : List ℕ) (k pieces : ℕ) : Type 0 where
   pub whole : replayBy step (law maps₀) file rows first n maps₀ counts₀ out₀ ≡ after step file rows (n - k) (so-far maps counts out k pieces)
   pub lawful : law maps ≡ true
@@ -110,11 +110,11 @@ pub record Going {law : List ℕ → Bool} {step : List ℕ → Row → ℕ → 
   pub counts-size : length counts ≡ length counts₀
   pub out-size : length out ≡ length out₀
 
-module _ {law : List ℕ → Bool} {step : List ℕ → Row → ℕ → List ℕ → Step} {sound : Sound law step} {file : ℕ} {rows : List ℕ}
+module _ {law : List ℕ → Bool} {step : List ℕ → Row → ℕ → List ℕ → Step} {keeps : Preserves law step} {file : ℕ} {rows : List ℕ}
     {first n : ℕ} {maps₀ counts₀ out₀ : List ℕ} where
   -- before the first row
   pub start : leb (6 * n) (length rows) && leb n (length counts₀) ≡ true → law maps₀ ≡ true →
-      Going sound file rows first n maps₀ counts₀ out₀ maps₀ counts₀ out₀ first 0
+      Going keeps file rows first n maps₀ counts₀ out₀ maps₀ counts₀ out₀ first 0
   start fit l =
       let b = and-out (leb (6 * n) (length rows)) (leb n (length counts₀)) fit in
       record {
@@ -128,7 +128,7 @@ module _ {law : List ℕ → Bool} {step : List ℕ → Row → ℕ → List ℕ
         out-size = refl;
       }
 
-  module _ {maps counts out : List ℕ} {k pieces : ℕ} (g : Going sound file rows first n maps₀ counts₀ out₀ maps counts out k pieces) (less : k < n)
+  module _ {maps counts out : List ℕ} {k pieces : ℕ} (g : Going keeps file rows first n maps₀ counts₀ out₀ maps counts out k pieces) (less : k < n)
       {row : Row} (here : row ≡ rowIn rows k) {at : ℕ} {a : extents.Answer} {ys zs : List ℕ}
       (put : Steps (putTo step file maps row (k + 1) (take (length out - at) (drop at out))) a ys zs) (e : at ≡ pieces * 3) where
     -- how far it is before the row
@@ -159,7 +159,7 @@ module _ {law : List ℕ → Bool} {step : List ℕ → Row → ℕ → List ℕ
 
     -- it keeps what every step keeps
     kept : Keeps law maps rest t
-    kept = put-sound sound file .each maps (rowIn rows k) (suc k) rest
+    kept = put-preserves keeps file .each maps (rowIn rows k) (suc k) rest
 
     -- what the code answers and leaves is told by it
     told : Steps t a ys zs
@@ -200,7 +200,7 @@ module _ {law : List ℕ → Bool} {step : List ℕ → Row → ℕ → List ℕ
 
     -- a turn
     pub turn : refusalOf a ≡ 0 → {c : ℕ} → c ≡ countOf a → length ys ≡ length maps →
-        Going sound file rows first n maps₀ counts₀ out₀ ys (set counts k c) (take at out ++ (zs ++ drop (length out - at) (drop at out)))
+        Going keeps file rows first n maps₀ counts₀ out₀ ys (set counts k c) (take at out ++ (zs ++ drop (length out - at) (drop at out)))
         (k + 1) (pieces + c)
     turn none {c} q same =
         let is = q ∙ count-is in
@@ -256,7 +256,7 @@ module _ {law : List ℕ → Bool} {step : List ℕ → Row → ℕ → List ℕ
         })
 
   -- the end behind the last row
-  pub finish : {maps counts out : List ℕ} {k pieces : ℕ} → Going sound file rows first n maps₀ counts₀ out₀ maps counts out k pieces → n ≤ k →
+  pub finish : {maps counts out : List ℕ} {k pieces : ℕ} → Going keeps file rows first n maps₀ counts₀ out₀ maps counts out k pieces → n ≤ k →
       Replays (replayBy step (law maps₀) file rows first n maps₀ counts₀ out₀) (record { rows = k; pieces = pieces; refusal = 0 }) maps counts out
   unfolding after
   finish {maps} {counts} {out} {k} {pieces} g past =

@@ -1,4 +1,4 @@
--- `machine::make` meets its contract.
+-- `machine_layered::make` meets its contract.
 use borrow.Author.Needs.{needs}
 use native.Mathlib.Omega.{arith}
 use Prim.Native.Nat.{_+_, _*_, _≤_}
@@ -10,10 +10,10 @@ use Rattle.rows.proofs.Zeros.{first-cleared}
 use borrow.Author.Tests.{not-true, not-false}
 use Rattle.machine_state.specs.Answers.{headerOf}
 use Rattle.machine_meaning.specs.States.{mapsLength}
-use Rattle.machine.proofs.Making.{make-short, make-model, make-limit, make-file, make-made}
+use Rattle.machine_state.proofs.Making.{making-layered, short-slice, past-limits, past-files, all-zeros, model-past, processes-past, within-limits}
 use native.Mathlib.Nat.{mul-le-mul}
-use Rattle.machine.proofs.make.Statement.{statement}
-use Rattle.machine.proofs.make.Tie as tie
+use Rattle.machine_layered.proofs.make.Statement.{statement}
+use Rattle.machine_layered.proofs.make.Tie as tie
 
 cast-runs : tie.Need-cast-runs
 cast-runs c = search needs
@@ -35,25 +35,26 @@ returns : tie.Need-returns
 returns c =
     let p3 = c .before .before .before in
     let a = p3 .args in
-    make-short (headerOf (a .machine)) (now (a .maps)) (c .if1 .taken)
+    short-slice (making-layered (headerOf (a .machine)) (now (a .maps))) (omega (arith, c .if1 .taken))
 
 returns-2 : tie.Need-returns-2
 returns-2 c =
     let p4 = c .before .before .before .before in
     let a = p4 .args in
-    make-model (headerOf (a .machine)) (now (a .maps)) (c .before .if1 .left) (c .if2 .taken)
+    past-limits (making-layered (headerOf (a .machine)) (now (a .maps))) (omega (arith, c .before .if1 .left))
+    (model-past (headerOf (a .machine)) (c .if2 .taken))
 
 is-process-limit-requires : tie.Need-is-process-limit-requires
 is-process-limit-requires c κs = tt
 
 returns-3 : tie.Need-returns-3
 returns-3 c =
-    let p2 = c .before .before in
-    let p3 = p2 .before in
+    let p3 = c .before .before .before in
     let p6 = p3 .before .before .before in
     let a = p6 .args in
     let q = c .before .is-process-limit in
-    make-limit (headerOf (a .machine)) (now (a .maps)) (p3 .if1 .left) (p2 .if2 .left) (sym (q .ensures) ∙ not-true (q .result) (c .if3 .taken))
+    past-limits (making-layered (headerOf (a .machine)) (now (a .maps))) (omega (arith, p3 .if1 .left))
+    (processes-past (headerOf (a .machine)) (sym (q .ensures) ∙ not-true (q .result) (c .if3 .taken)))
 
 returns-4 : tie.Need-returns-4
 returns-4 c =
@@ -63,8 +64,8 @@ returns-4 c =
     let p7 = p4 .before .before .before in
     let a = p7 .args in
     let q = p2 .is-process-limit in
-    make-file (headerOf (a .machine)) (now (a .maps)) (p4 .if1 .left) (p3 .if2 .left)
-    (sym (q .ensures) ∙ not-false (q .result) (c .before .if3 .left)) (c .if4 .taken)
+    past-files (making-layered (headerOf (a .machine)) (now (a .maps))) (omega (arith, p4 .if1 .left))
+    (within-limits (headerOf (a .machine)) (p3 .if2 .left) (sym (q .ensures) ∙ not-false (q .result) (c .before .if3 .left))) (c .if4 .taken)
 
 mul-end : tie.Need-mul-end
 mul-end c =
@@ -103,7 +104,8 @@ returns-5 c =
     let q = p6 .is-process-limit in
     let room : h .space * (h .processes + 1) * 4 ≤ length (now (a .maps)) = omega (arith, p8 .if1 .left) in
     let all : h .space * (h .processes + 1) * 4 ≡ mapsLength h = omega arith in
-    make-made h (now (a .maps)) (p8 .if1 .left) (p7 .if2 .left) (sym (q .ensures) ∙ not-false (q .result) (p5 .if3 .left)) (p4 .if4 .left) all
+    all-zeros (making-layered h (now (a .maps))) (omega (arith, room))
+    (within-limits h (p7 .if2 .left) (sym (q .ensures) ∙ not-false (q .result) (p5 .if3 .left))) (p4 .if4 .left) all
     (first-cleared _ (now (a .maps)) room (p2 .clear .ensures))
 
 pub make-spec : {M : Type 1} → statement M

@@ -9,9 +9,9 @@ use Rattle.rows.specs.declared.Row.{Row}
 use Rattle.rows.specs.Questions.{Question, firstNo}
 use Rattle.rows.specs.Rows.{rowIn}
 use Rattle.machine_meaning.specs.States.{Header, lawfulState, lawfulPlain}
-use Rattle.machine_meaning.specs.Steps.{Answer, refusing, done, listed, Step, stepOf, plainStepOf}
+use Rattle.machine_meaning.specs.Steps.{StepAnswer, refusing, done, listed, Step, stepOf, plainStepOf}
 use Rattle.machine_state.specs.Answers.{putTo}
-use Rattle.machine.specs.declared.Replayed.{Replayed}
+use Rattle.machine_state.specs.declared.Replayed.{Replayed}
 
 -- How far a replay is: 0, or the refusal of the row that is next; the rows gone through; the pieces of its reads; and the slices it leaves.
 pub record Replay : Type 0 where
@@ -22,12 +22,12 @@ pub record Replay : Type 0 where
   pub counts : List ℕ
   pub out : List ℕ
 
-abbrev pub refusalIn : Answer → ℕ
+abbrev pub refusalIn : StepAnswer → ℕ
 refusalIn (refusing number) = number
 refusalIn done = 0
 refusalIn (listed count) = 0
 
-abbrev pub countIn : Answer → ℕ
+abbrev pub countIn : StepAnswer → ℕ
 countIn (refusing number) = 0
 countIn done = 0
 countIn (listed count) = count

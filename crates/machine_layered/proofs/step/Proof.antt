@@ -1,15 +1,15 @@
--- `machine::step_plain` meets its contract.
+-- `machine_layered::step` meets its contract.
 use borrow.Author.Needs.{needs}
 use mathlib.Core.Path.{sym, _∙_}
 use denote.Ref.{now}
 use borrow.Author.Tests.{not-true, not-false}
 use Rattle.machine_state.specs.Answers.{headerOf}
-use Rattle.machine_plain.proofs.Plainly.{plain-unlawful}
-use Rattle.machine.proofs.step_plain.Statement.{statement}
-use Rattle.machine.proofs.step_plain.Tie as tie
+use Rattle.machine_layered.proofs.Laying.{unlawful-step}
+use Rattle.machine_layered.proofs.step.Statement.{statement}
+use Rattle.machine_layered.proofs.step.Tie as tie
 
-is-plain-requires : tie.Need-is-plain-requires
-is-plain-requires c κs = tt
+is-state-requires : tie.Need-is-state-requires
+is-state-requires c κs = tt
 
 same-length : tie.Need-same-length
 same-length c = search needs
@@ -18,14 +18,15 @@ returns : tie.Need-returns
 returns c =
     let p5 = c .before .before .before .before .before in
     let a = p5 .args in
-    let q = c .before .is-plain in
-    plain-unlawful (headerOf (a .plain)) (now (a .map)) (a .row) (a .number) (now (a .out)) (sym (q .ensures) ∙ not-true (q .result) (c .if1 .taken))
+    let q = c .before .is-state in
+    unlawful-step (headerOf (a .machine)) (now (a .maps)) (a .row) (a .number) (now (a .out))
+    (sym (q .ensures) ∙ not-true (q .result) (c .if1 .taken))
 
 advance-requires : tie.Need-advance-requires
 advance-requires c κs =
     let p2 = c .before .before in
     let p3 = p2 .before in
-    let q = p3 .is-plain in
+    let q = p3 .is-state in
     sym (q .ensures) ∙ not-false (q .result) (p2 .if1 .left)
 
 same-length-2 : tie.Need-same-length-2
@@ -39,11 +40,11 @@ returns-2 c =
     let p4 = c .before .before .before .before in
     p4 .advance .ensures
 
-pub step-plain-spec : {M : Type 1} → statement M
-step-plain-spec =
+pub step-spec : {M : Type 1} → statement M
+step-spec =
     tie.close
     (tie.spec
-    is-plain-requires
+    is-state-requires
     same-length
     returns
     advance-requires

@@ -1,18 +1,18 @@
--- `machine::replay` meets its contract.
+-- `machine_layered::replay` meets its contract.
 use borrow.Author.Needs.{needs}
 use native.Mathlib.Omega.{arith}
 use Prim.Native.Nat.{_-_}
 use mathlib.Core.Path.{refl, sym, _∙_}
 use borrow.Author.Tests.{not-true, not-false}
 use Rattle.machine_state.specs.Answers.{headerOf}
-use Rattle.machine.proofs.Keeping.{step-sound}
-use Rattle.machine.proofs.Replaying.{Going, start, turn, turn-size, turn-room, refused-turn, finish, short, unlawful}
-use Rattle.machine.proofs.replay.Statement.{statement}
-use Rattle.machine.proofs.replay.Tie as tie
+use Rattle.machine_layered.proofs.Keeping.{step-preserves}
+use Rattle.machine_state.proofs.Replaying.{Going, start, turn, turn-size, turn-room, refused-turn, finish, short, unlawful}
+use Rattle.machine_layered.proofs.replay.Statement.{statement}
+use Rattle.machine_layered.proofs.replay.Tie as tie
 
 abbrev Inv-loop : tie.InvT-loop
 Inv-loop machine maps₀ rows first n counts₀ out₀ k₀ pieces₀ maps counts out k pieces =
-    Going (step-sound (headerOf machine)) (machine .file) rows first n maps₀ counts₀ out₀ maps counts out k pieces
+    Going (step-preserves (headerOf machine)) (machine .file) rows first n maps₀ counts₀ out₀ maps counts out k pieces
 
 abbrev μ-loop : tie.MeasureT-loop
 μ-loop machine maps₀ rows first n counts₀ out₀ k₀ pieces₀ maps counts out k pieces = n - k

@@ -1,3 +1,0 @@
-pub mod Making
-pub mod Keeping
-pub mod Replaying
