@@ -1,11 +1,11 @@
--- `models::mark` meets its contract.
+-- `models::table_entry` meets its contract.
 use mathlib.Core.Path.{sym}
-use Rattle.models.proofs.Marks.{no-model, no-kind, table-right}
+use Rattle.models.proofs.Entries.{no-model, no-kind, table-right}
 use borrow.Author.Needs.{needs}
-use Rattle.models.proofs.mark.Statement.{statement}
-use Rattle.models.proofs.mark.Tie as tie
-use Rattle.models.proofs.mark.Reads as reads
-use Rattle.models.proofs.mark.Lts as lts
+use Rattle.models.proofs.table_entry.Statement.{statement}
+use Rattle.models.proofs.table_entry.Tie as tie
+use Rattle.models.proofs.table_entry.Reads as reads
+use Rattle.models.proofs.table_entry.Lts as lts
 
 returns : tie.Need-returns
 returns c = sym (no-model _ _ (c .if1 .taken))
@@ -25,5 +25,5 @@ array-read-result c = search needs
 returns-3 : tie.Need-returns-3
 returns-3 c = table-right _ _ (c .before .if1 .left) (c .if2 .left)
 
-pub mark-spec : {M : Type 1} → statement M
-mark-spec = tie.close (tie.spec returns returns-2 mul-at add-at array-read-result returns-3)
+pub table-entry-spec : {M : Type 1} → statement M
+table-entry-spec = tie.close (tie.spec returns returns-2 mul-at add-at array-read-result returns-3)
