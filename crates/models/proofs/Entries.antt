@@ -9,7 +9,7 @@ use lib.Dec.{eqb, leb}
 use borrow.Author.Tests.{ne-eqb, eqb-true}
 use Rattle.rows.specs.Limits.{MODELS}
 use Rattle.rows.specs.Kinds.{KINDS}
-use Rattle.models.specs.Table.{publishes, refreshes, tableEntry, NONE, PUBLISH, REFRESH, BOTH}
+use Rattle.models.specs.Table.{publishes, refreshes, tableEntry, ENTRY-NONE, ENTRY-PUBLISH, ENTRY-REFRESH, ENTRY-BOTH}
 
 -- A test passes at every number of a list with its place, counted from i.
 unfoldable every : (ℕ → ℕ → Bool) → ℕ → List ℕ → Bool
@@ -56,42 +56,42 @@ table-right model kind m k =
     eqb-true (getD table i 0) (tableEntry ((0 + i) / KINDS) ((0 + i) % KINDS)) (every-at right table 0 refl i l) ∙ (λ j. tableEntry (d j) (r j))
 
 -- A number that is no model publishes nothing and refreshes nothing.
-pub no-model : (model kind : ℕ) → MODELS ≤ model → tableEntry model kind ≡ NONE
+pub no-model : (model kind : ℕ) → MODELS ≤ model → tableEntry model kind ≡ ENTRY-NONE
 unfolding publishes refreshes
 no-model model kind h =
     simp (ne-eqb model 0 (λ e. omega arith), ne-eqb model 1 (λ e. omega arith), ne-eqb model 2 (λ e. omega arith), ne-eqb model 3 (λ e. omega arith))
 
 -- A number that is no kind publishes nothing and refreshes nothing.
-pub no-kind : (model kind : ℕ) → KINDS ≤ kind → tableEntry model kind ≡ NONE
+pub no-kind : (model kind : ℕ) → KINDS ≤ kind → tableEntry model kind ≡ ENTRY-NONE
 unfolding publishes refreshes
 no-kind model kind h =
     simp
     (ne-eqb kind 0 (λ e. omega arith), ne-eqb kind 1 (λ e. omega arith), ne-eqb kind 2 (λ e. omega arith), ne-eqb kind 3 (λ e. omega arith), ne-eqb kind 4 (λ e. omega arith), ne-eqb kind 5 (λ e. omega arith), and-false)
 
--- Of an entry that is PUBLISH, the row publishes.
-pub publish-entry : (model kind entry : ℕ) → entry ≡ tableEntry model kind → entry ≡ PUBLISH → true ≡ publishes model kind
+-- A row whose entry is ENTRY-PUBLISH publishes.
+pub publish-entry : (model kind entry : ℕ) → entry ≡ tableEntry model kind → entry ≡ ENTRY-PUBLISH → true ≡ publishes model kind
 publish-entry model kind entry e q = go (publishes model kind) (refreshes model kind) (sym e ∙ q)
   where
-    go : (a b : Bool) → cond a PUBLISH NONE + cond b REFRESH NONE ≡ PUBLISH → true ≡ a
+    go : (a b : Bool) → cond a ENTRY-PUBLISH ENTRY-NONE + cond b ENTRY-REFRESH ENTRY-NONE ≡ ENTRY-PUBLISH → true ≡ a
     go true b f = refl
     go false true f = absurd (omega arith)
     go false false f = absurd (omega arith)
 
--- Of any other entry, the row publishes if the entry is BOTH.
-pub both-entry : (model kind entry : ℕ) → entry ≡ tableEntry model kind → (entry ≡ PUBLISH → ⊥) → eqb entry BOTH ≡ publishes model kind
-both-entry model kind entry e n = ap (λ (x : ℕ). eqb x BOTH) e ∙ go (publishes model kind) (refreshes model kind) (λ q. n (e ∙ q))
+-- A row with any other entry publishes exactly where the entry is ENTRY-BOTH.
+pub both-entry : (model kind entry : ℕ) → entry ≡ tableEntry model kind → (entry ≡ ENTRY-PUBLISH → ⊥) → eqb entry ENTRY-BOTH ≡ publishes model kind
+both-entry model kind entry e n = ap (λ (x : ℕ). eqb x ENTRY-BOTH) e ∙ go (publishes model kind) (refreshes model kind) (λ q. n (e ∙ q))
   where
-    go : (a b : Bool) → (cond a PUBLISH NONE + cond b REFRESH NONE ≡ PUBLISH → ⊥) → eqb (cond a PUBLISH NONE + cond b REFRESH NONE) BOTH ≡ a
+    go : (a b : Bool) → (cond a ENTRY-PUBLISH ENTRY-NONE + cond b ENTRY-REFRESH ENTRY-NONE ≡ ENTRY-PUBLISH → ⊥) → eqb (cond a ENTRY-PUBLISH ENTRY-NONE + cond b ENTRY-REFRESH ENTRY-NONE) ENTRY-BOTH ≡ a
     go true true f = refl
     go true false f = absurd (f refl)
     go false true f = refl
     go false false f = refl
 
--- A row refreshes where its entry is REFRESH or more.
-pub refresh-entry : (model kind entry : ℕ) → entry ≡ tableEntry model kind → leb REFRESH entry ≡ refreshes model kind
-refresh-entry model kind entry e = ap (leb REFRESH) e ∙ go (publishes model kind) (refreshes model kind)
+-- A row refreshes where its entry is ENTRY-REFRESH or more.
+pub refresh-entry : (model kind entry : ℕ) → entry ≡ tableEntry model kind → leb ENTRY-REFRESH entry ≡ refreshes model kind
+refresh-entry model kind entry e = ap (leb ENTRY-REFRESH) e ∙ go (publishes model kind) (refreshes model kind)
   where
-    go : (a b : Bool) → leb REFRESH (cond a PUBLISH NONE + cond b REFRESH NONE) ≡ b
+    go : (a b : Bool) → leb ENTRY-REFRESH (cond a ENTRY-PUBLISH ENTRY-NONE + cond b ENTRY-REFRESH ENTRY-NONE) ≡ b
     go true true = refl
     go true false = refl
     go false true = refl

@@ -26,21 +26,21 @@ refreshes model kind =
 -- ---- The entries of the table
 
 -- A row does neither.
-abbrev pub NONE : ℕ
-NONE = 0
+abbrev pub ENTRY-NONE : ℕ
+ENTRY-NONE = 0
 
 -- A row publishes.
-abbrev pub PUBLISH : ℕ
-PUBLISH = 1
+abbrev pub ENTRY-PUBLISH : ℕ
+ENTRY-PUBLISH = 1
 
 -- A row refreshes.
-abbrev pub REFRESH : ℕ
-REFRESH = 2
+abbrev pub ENTRY-REFRESH : ℕ
+ENTRY-REFRESH = 2
 
 -- A row publishes and refreshes.
-abbrev pub BOTH : ℕ
-BOTH = 3
+abbrev pub ENTRY-BOTH : ℕ
+ENTRY-BOTH = 3
 
--- The table's entry for a row of this kind under this model: PUBLISH if the row publishes, plus REFRESH if it refreshes.
+-- The table's entry for a row of this kind under this model: ENTRY-PUBLISH if the row publishes, plus ENTRY-REFRESH if it refreshes.
 abbrev pub tableEntry : ℕ → ℕ → ℕ
-tableEntry model kind = cond (publishes model kind) PUBLISH NONE + cond (refreshes model kind) REFRESH NONE
+tableEntry model kind = cond (publishes model kind) ENTRY-PUBLISH ENTRY-NONE + cond (refreshes model kind) ENTRY-REFRESH ENTRY-NONE
