@@ -20,21 +20,21 @@ use Rattle.machine_meaning.specs.Layers.{piecesRead}
 use Rattle.machine_meaning.specs.Steps.{refusing, done, listed, answered}
 use Rattle.consistency.specs.Files.{Same}
 
--- an answer is no refusal
+-- An answer is no refusal.
 no-refusal : (x : Bool) (count number : ℕ) → cond x (listed count) done ≡ refusing number → ⊥
 no-refusal true count number e = let z : _≡_ {A = ℕ} 0 1 = cc in absurd (omega arith)
 no-refusal false count number e = let z : _≡_ {A = ℕ} 0 1 = cc in absurd (omega arith)
 
--- equal counts
+-- Equal counts.
 same-count : {n m : ℕ} → listed n ≡ listed m → n ≡ m
 same-count e = cc
 
 module _ (r : Row) (f g : Bytes) (xs ys out : List ℕ) where
-  -- a read finds the same row numbers in both
+  -- A read finds the same row numbers in both files.
   abbrev Found : Type 0
   Found = eqb (r .kind) READ ≡ true → (b : ℕ) → inRange (r .offset) (r .length) b ≡ true → numberIn (f b) ≡ numberIn (g b)
 
-  -- then they have the same pieces
+  -- Files in which a read finds the same row numbers have the same pieces.
   found-pieces : Found → piecesRead r f ≡ piecesRead r g
   found-pieces h = go (eqb (r .kind) READ) refl
     where
@@ -42,7 +42,7 @@ module _ (r : Row) (f g : Bytes) (xs ys out : List ℕ) where
       go true e = pieces-same f g (r .offset) (r .length) (λ b l k. h e b (range-in (r .offset) (r .length) b l k))
       go false e = refl
 
-  -- and only then
+  -- Where both answers are the same, the read finds the same row numbers.
   pieces-found : Same (answered r (piecesRead r f) xs out) (answered r (piecesRead r g) ys out) → Found
   pieces-found same e b h =
       let s = r .offset in
@@ -52,7 +52,7 @@ module _ (r : Row) (f g : Bytes) (xs ys out : List ℕ) where
       let told = pieces-told f g s n out (same-count count) (rw e at (same .pieces)) in
       pieces-tell f g s n told b (leb-true _ _ (in-range .0)) (ltb-true _ _ (in-range .1))
 
-  -- so these are the same answers
+  -- Both answers are the same exactly where the read finds the same row numbers.
   pub same-iff : Same (answered r (piecesRead r f) xs out) (answered r (piecesRead r g) ys out) ↔ Found
   same-iff = (pieces-found, λ h. same (found-pieces h))
     where

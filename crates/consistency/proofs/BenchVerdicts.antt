@@ -74,14 +74,14 @@ l-other-write = 49 ∷ 44 ∷ 119 ∷ 114 ∷ 105 ∷ 116 ∷ 101 ∷ 44 ∷ 49 
 l-write-none : List ℕ
 l-write-none = 48 ∷ 44 ∷ 119 ∷ 114 ∷ 105 ∷ 116 ∷ 101 ∷ 44 ∷ 49 ∷ 44 ∷ 48 ∷ 44 ∷ 48 ∷ 44 ∷ []
 
--- lines as a text
+-- Lines as a text.
 inText : List (List ℕ) → List ℕ
 inText [] = []
 inText (l ∷ ls) = l ++ (13 ∷ (10 ∷ inText ls))
 
 -- ---- The traces
 
--- a trace: its header word and its text
+-- A trace: its header word and its text.
 pub record Bench : Type 0 where
   pub header : ℕ
   pub text : List ℕ
@@ -135,16 +135,16 @@ traces = a ∷ b ∷ c ∷ d ∷ e ∷ f ∷ g ∷ h ∷ i ∷ j ∷ l ∷ []
 
 -- ---- Their verdicts
 
--- the verdicts of an outcome under POSIX, commit, session and MPI-IO
+-- The verdicts of an outcome under POSIX, commit, session and MPI-IO.
 pub verdicts : Outcome → List Verdict
 verdicts (refused number place) = []
 verdicts (accepted rows) = verdictOf rows 0 ∷ (verdictOf rows 1 ∷ (verdictOf rows 2 ∷ (verdictOf rows 3 ∷ [])))
 
--- read with room for 128 rows of 8 processes
+-- Read with room for 128 rows of 8 processes.
 pub judged : Bench → List Verdict
 judged t = verdicts (checkTrace (t .text) (t .header) 0 128 8 8192 768 1024)
 
--- the verdicts of A to J and L
+-- The verdicts of A to J and L.
 abbrev pub expected : List (List Verdict)
 expected =
     (free ∷ free ∷ free ∷ free ∷ [])  -- A

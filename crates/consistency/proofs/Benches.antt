@@ -27,13 +27,13 @@ use Rattle.machine_meaning.specs.States.{Header}
 use Rattle.machine_meaning.proofs.Points.{fresh-pointed, plain-pointed}
 use Rattle.machine_meaning.proofs.Slices.{to-shared, plain-first, layers-held, plain-held}
 use Rattle.consistency.specs.Orders.{placesBelow, traceOrder}
-use Rattle.consistency.specs.Files.{Numbered, rowsFor, runFrom, plainRunFrom, writesIn, headerFor, Lent, freshMachine, freshPlain}
+use Rattle.consistency.specs.Files.{NumberedRow, rowsFor, runFrom, plainRunFrom, writesIn, headerFor, Lent, freshMachine, freshPlain}
 use Rattle.consistency.proofs.Meaning.{layersRun, plainRun}
 use Rattle.consistency.proofs.Orderings.{trace-order}
 use Rattle.consistency.proofs.Encoding.{Made, AllFit, Enough, made-fresh, plain-made-fresh, run-pointed, plain-run-pointed, run-to, plain-run-to}
 use Rattle.consistency.proofs.Theorems.{pointsOf, points-length, points-enough, order-fits, sound-trace}
 
--- a row by its six numbers
+-- A row by its six numbers.
 abbrev pub row : ℕ → ℕ → ℕ → ℕ → ℕ → ℕ → Row
 row process kind file offset length message = record { process = process; kind = kind; file = file; offset = offset; length = length; message = message }
 
@@ -53,7 +53,7 @@ kText =
 abbrev pub kHeader : Header
 kHeader = headerFor COMMIT-MODEL 2 (2 * writesIn kRows) 1
 
--- after the rows in trace order published is (0,10,1) and plain is (0,5,1),(5,5,2)
+-- After the rows in trace order published is (0,10,1) and plain is (0,5,1),(5,5,2).
 pub record K : Type 0 where
   pub taken : checkTrace kText 0 COMMIT-MODEL 4 2 8192 24 8 ≡ accepted kRows
   pub judged : verdictOf kRows COMMIT-MODEL ≡ racing 1 2
@@ -66,33 +66,33 @@ pub record K : Type 0 where
 
 -- ---- From the text to the verdict
 
--- the text is read as these rows
+-- The text is read as these rows.
 k-taken : checkTrace kText 0 COMMIT-MODEL 4 2 8192 24 8 ≡ accepted kRows
 unfolding records recordsFrom onFound readAt fieldsFrom onStop prepend fieldAt afterCR stopOf textLength isText contentOf sameBytes wordOf usedBy allDigits
     startsPlain valueFrom rowOf firstNo callQuestions filledAsUsed numbersInRange messageInOrder fieldQuestions rowQuestions judgeRows readTrace
     checkTrace
 k-taken = refl
 
--- rows 1 and 2 race
+-- Rows 1 and 2 race.
 k-judged : verdictOf kRows COMMIT-MODEL ≡ racing 1 2
 unfolding anyBelow edge hbWithin shareByte conflict chainCommit chain synchronized race leastFrom verdictOf
 k-judged = refl
 
 -- ---- No row is refused
 
--- what both files get
-abbrev kRun : List Numbered
+-- What both files get.
+abbrev kRun : List NumberedRow
 kRun = rowsFor kRows 1 (traceOrder kRows)
 
--- the header passes the questions of making
+-- The header passes the questions of making.
 k-made : Made kHeader
 k-made = record { is-model = omega arith; some-process = omega arith; few-processes = omega arith; is-file = omega arith }
 
--- the maps have space
+-- The maps have space.
 k-enough : Enough kHeader kRows (pointsOf kRows)
 k-enough = points-enough kHeader kRows (omega arith)
 
--- the rows pass those before 16
+-- The rows pass those before 16.
 k-fits : AllFit kHeader (pointsOf kRows) kRun
 k-fits =
     let s = sound-trace kText 0 COMMIT-MODEL 4 2 8192 24 8 kRows k-taken in
@@ -102,7 +102,7 @@ k-fits =
 -- ---- So the maps are those of the bytes after the rows
 
 module _ (xs ys out : List ℕ) (lent : Lent kHeader kRows xs ys out) where
-  -- the published map is that of the published bytes
+  -- The published map is that of the published bytes.
   k-map : mapAt (kHeader .space) 0 (runFrom kHeader out kRun (freshMachine kHeader xs))
       ≡ mapFor (kHeader .space) (layersRun COMMIT-MODEL kRun fresh .shared)
   k-map =
@@ -110,7 +110,7 @@ module _ (xs ys out : List ℕ) (lent : Lent kHeader kRows xs ys out) where
       ∙ ap (mapAt (kHeader .space) 0) (run-to k-made k-enough lent kRun k-fits fresh-pointed)
       ∙ to-shared kHeader (layers-held kHeader (points-length kRows) (run-pointed kHeader kRun k-fits fresh-pointed)) xs
 
-  -- the plain map is that of the plain bytes
+  -- The plain map is that of the plain bytes.
   k-plain-map : mapAt (kHeader .space) 0 (plainRunFrom kHeader out kRun (freshPlain kHeader ys)) ≡ mapFor (kHeader .space) (plainRun kRun nothing)
   k-plain-map =
       ap (λ (zs : List ℕ). mapAt (kHeader .space) 0 (plainRunFrom kHeader out kRun zs)) (plain-made-fresh k-made lent)
@@ -119,15 +119,15 @@ module _ (xs ys out : List ℕ) (lent : Lent kHeader kRows xs ys out) where
 
 -- ---- And their runs are those that mean these bytes
 
--- the map of bytes is that of the lawful runs that mean them
+-- The map of bytes is that of the lawful runs that mean them.
 map-means : (space : ℕ) (f : Bytes) (rs : List Run) → Lawful rs → ((b : ℕ) → cellAt rs b ≡ f b) → mapFor space f ≡ mapOf space rs
 map-means space f rs l h = ap (mapOf space) (sym (runs-unique f rs l (λ b _. h b)))
 
--- the published runs, (0,10,1)
+-- The published runs, (0,10,1).
 abbrev kPublished : List Run
 kPublished = runOf 0 10 (cellOf 1 0) ∷ []
 
--- they are lawful
+-- The published runs are lawful.
 published-lawful : Lawful kPublished
 published-lawful =
     record {
@@ -138,7 +138,7 @@ published-lawful =
       numbered = (omega arith, omega arith, tt);
     }
 
--- each published byte has what they say
+-- Each published byte has what the published runs say.
 published-bytes : (b : ℕ) → cellAt kPublished b ≡ layersRun COMMIT-MODEL kRun fresh .shared b
 unfolding cellAt layersRun placesBelow rowsFor afterRow publishes refreshes
 published-bytes b = go (decLt b 10)
@@ -147,11 +147,11 @@ published-bytes b = go (decLt b 10)
     go (yes l) = rw (range-in 0 10 b (omega arith) l)
     go (no l) = rw (range-behind 0 10 b (omega arith), range-behind 5 5 b (omega arith))
 
--- the plain runs, (0,5,1),(5,5,2)
+-- The plain runs, (0,5,1),(5,5,2).
 abbrev kPlain : List Run
 kPlain = runOf 0 5 (cellOf 1 0) ∷ (runOf 5 5 (cellOf 2 0) ∷ [])
 
--- they are lawful
+-- The plain runs are lawful.
 plain-lawful : Lawful kPlain
 plain-lawful =
     record {
@@ -162,7 +162,7 @@ plain-lawful =
       numbered = (omega arith, omega arith, (omega arith, omega arith, tt));
     }
 
--- each plain byte has what they say
+-- Each plain byte has what they say.
 plain-bytes : (b : ℕ) → cellAt kPlain b ≡ plainRun kRun nothing b
 unfolding cellAt plainRun placesBelow rowsFor afterPlain
 plain-bytes b = go (decLt b 5) (decLt b 10)
@@ -172,7 +172,7 @@ plain-bytes b = go (decLt b 5) (decLt b 10)
     go (no l) (yes m) = rw (range-behind 0 5 b (omega arith), range-in 5 5 b (omega arith) (omega arith))
     go (no l) (no m) = rw (range-behind 0 5 b (omega arith), range-behind 5 5 b (omega arith), range-behind 0 10 b (omega arith))
 
--- the bench trace K
+-- The bench trace K.
 pub bench-K : K
 bench-K =
     record {

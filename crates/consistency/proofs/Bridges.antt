@@ -30,34 +30,34 @@ use Rattle.consistency.proofs.Selections.{keep, select, select-in, sele
 use Rattle.consistency.proofs.Meaning.{covers, covers-kind, read-only, byteTrace}
 use Rattle.consistency.proofs.Orderings.{in-reverse, turned-in, turned-once}
 use Rattle.consistency.proofs.Chains.{range-iff, covers-iff, chain-iff}
--- the orders: an allowed order is one for every byte, so is each first part of it, and what is allowed for a byte is allowed
+-- The orders: an allowed order is one for every byte, so is each first part of it, and what is allowed for a byte is allowed.
 pub use Rattle.consistency.proofs.Orderings.{allowed-ok, first-allowed, ok-allowed}
 
 -- ---- Conflicts
 
--- a row reads or writes the byte
+-- A row reads or writes the byte.
 abbrev Touches : ℕ → ℕ → Row → Type 0
 Touches file b r = (covers READ file b r ≡ true) ⊎ (covers WRITE file b r ≡ true)
 
--- then it is a data row of the file that has the byte in its range
+-- A row that touches the byte is a data row of the file that has the byte in its range.
 touches-out : (file b : ℕ) (r : Row) → Touches file b r →
     ((r .kind ≡ READ) ⊎ (r .kind ≡ WRITE)) × (r .file ≡ file) × (inRange (r .offset) (r .length) b ≡ true)
 touches-out file b r (inl e) = let c = covers-iff READ file b r (omega arith) .0 e in (inl (c .0), c .1, c .2)
 touches-out file b r (inr e) = let c = covers-iff WRITE file b r (omega arith) .0 e in (inr (c .0), c .1, c .2)
 
--- two rows touch the byte, and one of them writes it
+-- Two rows touch the byte, and one of them writes it.
 abbrev Clash : ℕ → ℕ → Row → Row → Type 0
 Clash file b r s =
     ((covers WRITE file b r ≡ true) × ((covers WRITE file b s ≡ true) ⊎ (covers READ file b s ≡ true)))
     ⊎ ((covers READ file b r ≡ true) × (covers WRITE file b s ≡ true))
 
--- then both touch it, and one is a write
+-- Of rows that clash both touch the byte, and one is a write.
 clash-touches : (file b : ℕ) (r s : Row) → Clash file b r s → Touches file b r × Touches file b s × ((r .kind ≡ WRITE) ⊎ (s .kind ≡ WRITE))
 clash-touches file b r s (inl (w, inl v)) = (inr w, inr v, inl (covers-kind WRITE file b r w .0))
 clash-touches file b r s (inl (w, inr v)) = (inr w, inl v, inl (covers-kind WRITE file b r w .0))
 clash-touches file b r s (inr (v, w)) = (inl v, inr w, inr (covers-kind WRITE file b s w .0))
 
--- rows that clash at a byte are in conflict, if of different processes
+-- Rows of two processes that clash at a byte are in conflict.
 clash-conflict : (file b : ℕ) (r s : Row) → Clash file b r s → (r .process ≡ s .process → ⊥) → RowsConflict r s
 clash-conflict file b r s c d =
     let t = clash-touches file b r s c in
@@ -74,7 +74,7 @@ clash-conflict file b r s c d =
       one-writes = t .2;
     }
 
--- rows in conflict clash at the byte that they share
+-- Rows in conflict clash at the byte that they share.
 conflict-clash : (r s : Row) (c : RowsConflict r s) → Clash (r .file) (c .byte) r s
 conflict-clash r s c = go (c .first-data) (c .second-data) (c .one-writes)
   where
@@ -95,7 +95,7 @@ conflict-clash r s c = go (c .first-data) (c .second-data) (c .one-writes)
 -- ---- Races
 
 module _ (rows : List Row) (model file b x y : ℕ) where
-  -- a read is synchronized where its byte says so
+  -- A read is synchronized where its byte says so.
   read-synchronized : covers READ file b (rowAt rows x) ≡ true →
       (synchronized rows model x y ≡ true) ↔ Synchronized (byteTrace rows model file b) x y
   unfolding synchronized
@@ -108,7 +108,7 @@ module _ (rows : List Row) (model file b x y : ℕ) where
       back (inl (w, _)) = absurd (false≢true (sym (read-only file b (rowAt rows x) e) ∙ w))
       back (inr (_, before)) = same ∙ hb-iff (edge-forward rows) x y .1 before
 
-  -- a write is too, if its chains are
+  -- A write is too, if its chains are.
   write-synchronized : covers WRITE file b (rowAt rows x) ≡ true → (chain rows model x y ≡ true) ↔ Chain (byteTrace rows model file b) x y →
       (synchronized rows model x y ≡ true) ↔ Synchronized (byteTrace rows model file b) x y
   unfolding synchronized
@@ -121,7 +121,7 @@ module _ (rows : List Row) (model file b x y : ℕ) where
       back (inl (_, c)) = same ∙ chained .1 c
       back (inr (r, _)) = absurd (false≢true (sym (read-only file b (rowAt rows x) r) ∙ e))
 
-  -- rows that clash at a byte are synchronized where it says so
+  -- Rows that clash at a byte are synchronized where it says so.
   synchronized-iff : model < MODELS → Conflict (byteTrace rows model file b) x y →
       (synchronized rows model x y ≡ true) ↔ Synchronized (byteTrace rows model file b) x y
   synchronized-iff h (l, k, _, c) = let t = clash-touches file b (rowAt rows x) (rowAt rows y) c in go (t .0) (t .1)
@@ -134,7 +134,7 @@ module _ (rows : List Row) (model file b x y : ℕ) where
       go (inl e) t = read-synchronized e
       go (inr e) t = write-synchronized e (chain-iff rows model file b x y (in-file x (inr e)) (in-file y t) h (omega arith) k)
 
--- a race is a conflict, the earlier row first, that is not synchronized
+-- A race is a conflict, the earlier row first, that is not synchronized.
 race-iff : (rows : List Row) (model x y : ℕ) →
     (race rows model x y ≡ true)
     ↔ ((x < y) × (y < length rows) × (conflict (rowAt rows x) (rowAt rows y) ≡ true) × (synchronized rows model x y ≡ false))
@@ -149,7 +149,7 @@ race-iff rows model x y = (there, λ (l, h, c, s). rw (lt-ltb x y l, lt-ltb y (l
         let c = and-out (conflict (rowAt rows x) (rowAt rows y)) _ (a .1) in
         (o .0, o .1, c .0, not-true (synchronized rows model x y) (c .1))
 
--- a trace that is free is free at every byte of every file
+-- A trace that is free is free at every byte of every file.
 pub free-at : (rows : List Row) (model : ℕ) → model < MODELS → verdictOf rows model ≡ free → (file b : ℕ) → Free (byteTrace rows model file b)
 free-at rows model h e file b x y c = go (synchronized rows model x y) refl
   where
@@ -159,14 +159,14 @@ free-at rows model h e file b x y c = go (synchronized rows model x y) refl
         let d = conflict-iff _ _ .1 (clash-conflict file b (rowAt rows x) (rowAt rows y) (c .3) (c .2)) in
         absurd (free-iff rows model .0 e x y (race-iff rows model x y .1 (c .0, c .1, d, s)))
 
--- a race is one at some byte of both ranges, in the rows' file
+-- A race is one at some byte of both ranges, in the rows' file.
 pub record RaceAt (rows : List Row) (model x y b : ℕ) : Type 0 where
   pub in-earlier : inRange (rowAt rows x .offset) (rowAt rows x .length) b ≡ true
   pub in-later : inRange (rowAt rows y .offset) (rowAt rows y .length) b ≡ true
   pub conflicts : Conflict (byteTrace rows model (rowAt rows x .file) b) x y
   pub unsynchronized : Synchronized (byteTrace rows model (rowAt rows x .file) b) x y → ⊥
 
--- an unsynchronized conflict is a race at the byte that the rows share
+-- An unsynchronized conflict is a race at the byte that the rows share.
 conflict-race : (rows : List Row) (model x y : ℕ) → model < MODELS → x < y → y < length rows → synchronized rows model x y ≡ false →
     (c : RowsConflict (rowAt rows x) (rowAt rows y)) → RaceAt rows model x y (c .byte)
 conflict-race rows model x y h l k n c =
@@ -180,7 +180,7 @@ conflict-race rows model x y h l k n c =
     at : Conflict (byteTrace rows model (rowAt rows x .file) (c .byte)) x y
     at = (l, k, c .two-processes, conflict-clash (rowAt rows x) (rowAt rows y) c)
 
--- every race is one at some byte
+-- Every race is one at some byte.
 pub race-at : (rows : List Row) (model x y : ℕ) → model < MODELS → race rows model x y ≡ true → (b : ℕ) × RaceAt rows model x y b
 race-at rows model x y h e =
     let r = race-iff rows model x y .0 e in
@@ -189,17 +189,17 @@ race-at rows model x y h e =
 
 -- ---- The commit model
 
--- what publishes is a commit
+-- What publishes is a commit.
 publishes-commit : (kind : ℕ) → publishes COMMIT-MODEL kind ≡ true → kind ≡ COMMIT
 unfolding publishes
 publishes-commit kind e = eqb-true kind COMMIT (sym (or-false _) ∙ e)
 
--- what refreshes is a read
+-- What refreshes is a read.
 refreshes-read : (kind : ℕ) → refreshes COMMIT-MODEL kind ≡ true → kind ≡ READ
 unfolding refreshes
 refreshes-read kind e = eqb-true kind READ (sym (or-false _) ∙ e)
 
--- what commit says of the rows
+-- What commit says of the rows.
 pub commits : (rows : List Row) (file b : ℕ) → Commits (byteTrace rows COMMIT-MODEL file b)
 unfolding publishes refreshes
 commits rows file b =
@@ -212,7 +212,7 @@ commits rows file b =
 
 -- ---- Final commits
 
--- the numbers that pass are selected once
+-- The numbers that pass are selected once.
 select-once : (test : ℕ → Bool) (n : ℕ) → Once (select test n)
 unfolding select
 select-once test zero = tt
@@ -222,29 +222,29 @@ select-once test (suc n) = go (test n) (select-once test n)
     go true o = (λ m. let r = select-out test n n m in omega arith, o)
     go false o = o
 
--- ends by the processes of a list, all under row number 1
+-- Ends by the processes of a list, all under row number 1.
 endsBy : List ℕ → List End
 endsBy [] = []
 endsBy (p ∷ ps) = record { process = p; number = 1 } ∷ endsBy ps
 
--- their processes
+-- The processes of such ends are those of the list.
 ends-processes : (ps : List ℕ) → processesOf (endsBy ps) ≡ ps
 unfolding endsBy processesOf
 ends-processes [] = refl
 ends-processes (p ∷ ps) = rw (ends-processes ps)
 
--- their numbers
+-- The row numbers of such ends are in their range.
 ends-numbered : (ps : List ℕ) → NumbersIn (endsBy ps)
 unfolding endsBy
 ends-numbered [] = tt
 ends-numbered (p ∷ ps) = (omega arith, omega arith, ends-numbered ps)
 
--- they are one by each process, if the list has each process once
+-- Such ends are one by each process, if the list has each process once.
 ends-by-all : (processes : ℕ) (ps : List ℕ) → ((q : ℕ) → (q < processes) ↔ In q ps) → Once ps → ByAll processes (endsBy ps)
 ends-by-all processes ps every once =
     record { every = λ q. rw (ends-processes ps) (every q); once = rw (ends-processes ps) once; numbered = ends-numbered ps }
 
--- all processes in a sequence with one of them last
+-- All processes in a sequence with one of them last.
 pub all-last : (processes p : ℕ) → p < processes →
     (qs : List ℕ) × (ends : List End) × ByAll processes ends × (processesOf ends ≡ qs ++ (p ∷ [])) × (In p qs → ⊥)
 all-last processes p h = (

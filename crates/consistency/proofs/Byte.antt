@@ -8,11 +8,11 @@ pub record Byte : Type 0 where
   pub view : ℕ → ℕ
   pub unpublished : ℕ → Bool
 
--- a function with another value at one process
+-- A function with another value at one process.
 unfoldable pub put : {A : Type 0} → ℕ → A → (ℕ → A) → ℕ → A
 put p a f q = cond (eqb q p) a (f q)
 
--- a fresh byte has 0 everywhere
+-- A fresh byte has 0 everywhere.
 unfoldable pub freshByte : Byte
 freshByte = record { published = 0; view = λ p. 0; unpublished = λ p. false }
 

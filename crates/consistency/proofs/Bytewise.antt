@@ -15,13 +15,13 @@ use Rattle.rows.specs.Rows.{rowAt}
 use Rattle.rows.proofs.Bools.{and-out}
 use Rattle.extents_meaning.specs.Cells.{Bytes, cellOf, numberIn, unpublished, cleared, inRange, overwrite, asPublished, refreshed}
 use Rattle.machine_meaning.specs.Layers.{Layers, fresh, nothing, written, publishing, refreshing, afterRow, afterPlain, ofFile}
-use Rattle.consistency.specs.Files.{Numbered, rowsFor, End, endRows, processesOf}
+use Rattle.consistency.specs.Files.{NumberedRow, rowsFor, End, endRows, processesOf}
 use Rattle.consistency.proofs.Byte.{Byte, freshByte, writeByte, publishByte, refreshByte, stepByte}
 use Rattle.consistency.proofs.Views.{cell-number, cell-mark, cleared-number, cleared-mark, cond-shows, view-put, view-same}
 use Rattle.consistency.proofs.Core.{Trace, run, plain, publishAll}
 use Rattle.consistency.proofs.Meaning.{layersRun, plainRun, ReadSame, ReadsSame, byteTrace, covers}
 
--- one byte of a layered file says what a layered byte says
+-- One byte of a layered file says what a layered byte says.
 pub record At (s : Layers) (b : ℕ) (c : Byte) : Type 0 where
   pub shared : numberIn (s .shared b) ≡ c .published
   pub view : (p : ℕ) → numberIn (s .view p b) ≡ c .view p
@@ -31,7 +31,7 @@ pub record At (s : Layers) (b : ℕ) (c : Byte) : Type 0 where
 -- ---- What a row may do
 
 module _ {s : Layers} {b : ℕ} {c : Byte} (a : At s b c) where
-  -- a write writes the bytes of its range
+  -- A write writes the bytes of its range.
   write-at : (r : Row) (number : ℕ) → At (written r number s) b (cond (inRange (r .offset) (r .length) b) (writeByte (r .process) number c) c)
   unfolding writeByte
   write-at r number = go (inRange (r .offset) (r .length) b) refl
@@ -58,7 +58,7 @@ module _ {s : Layers} {b : ℕ} {c : Byte} (a : At s b c) where
             no-mark = a .no-mark;
           }
 
-  -- publishing publishes each byte
+  -- Publishing publishes each byte.
   publish-at : (p : ℕ) → At (publishing p s) b (publishByte p c)
   unfolding publishByte
   publish-at p =
@@ -79,7 +79,7 @@ module _ {s : Layers} {b : ℕ} {c : Byte} (a : At s b c) where
       no-mark true = cleared-mark v
       no-mark false = a .no-mark
 
-  -- refreshing refreshes each byte
+  -- Refreshing refreshes each byte.
   refresh-at : (p : ℕ) → At (refreshing p s) b (refreshByte p c)
   unfolding refreshByte
   refresh-at p =
@@ -100,18 +100,18 @@ module _ {s : Layers} {b : ℕ} {c : Byte} (a : At s b c) where
       mark true e = a .marks p
       mark false e = a .no-mark ∙ sym e ∙ a .marks p
 
-  -- so it is for a write that a test decides
+  -- A write that a test decides writes the bytes of its range.
   may-write-at : (r : Row) (number : ℕ) (x : Bool) →
       At (cond x (written r number s) s) b (cond (x && inRange (r .offset) (r .length) b) (writeByte (r .process) number c) c)
   may-write-at r number true = write-at r number
   may-write-at r number false = a
 
-  -- for a publishing that a test decides
+  -- Publishing that a test decides publishes each byte.
   may-publish-at : (p : ℕ) (x : Bool) → At (cond x (publishing p s) s) b (cond x (publishByte p c) c)
   may-publish-at p true = publish-at p
   may-publish-at p false = a
 
-  -- for a refreshing that a test decides
+  -- Refreshing that a test decides refreshes each byte.
   may-refresh-at : (p : ℕ) (x : Bool) → At (cond x (refreshing p s) s) b (cond x (refreshByte p c) c)
   may-refresh-at p true = refresh-at p
   may-refresh-at p false = a
@@ -119,19 +119,19 @@ module _ {s : Layers} {b : ℕ} {c : Byte} (a : At s b c) where
 -- ---- A row that the files get if a test passes
 
 module _ (model : ℕ) (r : Row) (number : ℕ) where
-  -- the layered file then
+  -- The layered file then.
   abbrev layersNext : Bool → Layers → Layers
   layersNext x s = cond x (afterRow model r number s) s
 
-  -- the plain file then
+  -- The plain file then.
   abbrev plainNext : Bool → Bytes → Bytes
   plainNext x f = cond x (afterPlain r number f) f
 
-  -- the list of rows with it before the others
-  abbrev kept : Bool → List Numbered → List Numbered
+  -- The list of rows with this row before the others.
+  abbrev kept : Bool → List NumberedRow → List NumberedRow
   kept x l = cond x (record { row = r; number = number } ∷ l) l
 
-  -- each byte gets what the row does to it
+  -- Each byte gets what the row does to it.
   step-at : (x : Bool) {s : Layers} {b : ℕ} {c : Byte} → At s b c →
       At (layersNext x s) b
       (stepByte (eqb (r .kind) WRITE && (x && inRange (r .offset) (r .length) b)) (x && publishes model (r .kind)) (x && refreshes model (r .kind))
@@ -143,7 +143,7 @@ module _ (model : ℕ) (r : Row) (number : ℕ) where
       may-refresh-at u (r .process) (refreshes model (r .kind))
   step-at false a = rw and-false a
 
-  -- each plain byte gets its number if it writes the byte
+  -- Each plain byte gets the row's number if the row writes the byte.
   plain-step-at : (x : Bool) (b n : ℕ) (f : Bytes) → numberIn (f b) ≡ n →
       numberIn (plainNext x f b) ≡ cond (eqb (r .kind) WRITE && (x && inRange (r .offset) (r .length) b)) number n
   unfolding afterPlain
@@ -156,20 +156,20 @@ module _ (model : ℕ) (r : Row) (number : ℕ) where
       go true = cond-shows numberIn (inRange (r .offset) (r .length) b) (cellOf number 0) (f b) (omega arith) e
       go false = e
 
-  -- a layered run with it is the run of the others after it
-  layers-kept : (x : Bool) (l : List Numbered) (s : Layers) → layersRun model (kept x l) s ≡ layersRun model l (layersNext x s)
+  -- A layered run with this row first is the run of the others after it.
+  layers-kept : (x : Bool) (l : List NumberedRow) (s : Layers) → layersRun model (kept x l) s ≡ layersRun model l (layersNext x s)
   unfolding layersRun
   layers-kept true l s = refl
   layers-kept false l s = refl
 
-  -- so is a plain run
-  plain-kept : (x : Bool) (l : List Numbered) (f : Bytes) → plainRun (kept x l) f ≡ plainRun l (plainNext x f)
+  -- A plain run with this row first is the run of the others after it.
+  plain-kept : (x : Bool) (l : List NumberedRow) (f : Bytes) → plainRun (kept x l) f ≡ plainRun l (plainNext x f)
   unfolding plainRun
   plain-kept true l f = refl
   plain-kept false l f = refl
 
-  -- reads of a run with it find the same just where it does, if it reads, and those of the others do after it
-  reads-kept : (x : Bool) (l : List Numbered) (s : Layers) (f : Bytes) →
+  -- Reads of a run with this row first find the same just where this row does, if it reads, and the others do after it.
+  reads-kept : (x : Bool) (l : List NumberedRow) (s : Layers) (f : Bytes) →
       ReadsSame model (kept x l) s f
       ↔ ((x ≡ true → ReadSame r (layersNext x s) (plainNext x f)) × ReadsSame model l (layersNext x s) (plainNext x f))
   reads-kept true l s f = (λ w. (λ e. w .0, w .1), λ w. (w .0 refl, w .1))
@@ -178,35 +178,35 @@ module _ (model : ℕ) (r : Row) (number : ℕ) where
 -- ---- Rows in an order
 
 module _ (rows : List Row) (model file : ℕ) where
-  -- the rows as one byte sees them
+  -- The rows as one byte sees them.
   abbrev rowsAt : ℕ → Trace
   rowsAt b = byteTrace rows model file b
 
-  -- the layered file after one more row
+  -- The layered file after one more row.
   abbrev layersThen : ℕ → Layers → Layers
   layersThen k s = layersNext model (rowAt rows k) (suc k) (ofFile file (rowAt rows k)) s
 
-  -- the plain file after one more row
+  -- The plain file after one more row.
   abbrev plainThen : ℕ → Bytes → Bytes
   plainThen k f = plainNext model (rowAt rows k) (suc k) (ofFile file (rowAt rows k)) f
 
-  -- both files are at each byte as its run of these rows leaves it, the latest row first
+  -- Both files are at each byte as its run of these rows leaves it, the latest row first.
   abbrev Reached : List ℕ → Layers → Bytes → Type 0
   Reached h s f = (b : ℕ) → At s b (run (rowsAt b) h) × (numberIn (f b) ≡ plain (rowsAt b) h)
 
-  -- fresh files are
+  -- Fresh files are reached by no row.
   reached-fresh : Reached [] fresh nothing
   unfolding run plain freshByte
   reached-fresh b = (record { shared = refl; view = λ p. refl; marks = λ p. refl; no-mark = refl }, refl)
 
-  -- and after one more row
+  -- Files that are reached are reached after one more row.
   reached-next : (h : List ℕ) (s : Layers) (f : Bytes) → Reached h s f → (k : ℕ) → Reached (k ∷ h) (layersThen k s) (plainThen k f)
   unfolding run plain
   reached-next h s f at k b =
       let r = rowAt rows k in
       (step-at model r (suc k) (ofFile file r) (at b .0), plain-step-at model r (suc k) (ofFile file r) b (plain (rowsAt b) h) f (at b .1))
 
-  -- and after all rows of an order
+  -- Files that are reached are reached after all rows of an order.
   reached-all : (order h : List ℕ) (s : Layers) (f : Bytes) → Reached h s f →
       Reached (reverseAux order h) (layersRun model (rowsFor rows file order) s) (plainRun (rowsFor rows file order) f)
   unfolding layersRun plainRun rowsFor
@@ -218,28 +218,28 @@ module _ (rows : List Row) (model file : ℕ) where
         rw (plain-kept model r (suc k) (ofFile file r) (rowsFor rows file order) f) (w .1),
       )
 
-  -- after an order's rows each byte is as its own run leaves it
+  -- After an order's rows each byte is as its own run leaves it.
   pub layers-at : (b : ℕ) (order : List ℕ) → At (layersRun model (rowsFor rows file order) fresh) b (run (byteTrace rows model file b) (reverse order))
   layers-at b order = reached-all order [] fresh nothing reached-fresh b .0
 
   pub plain-at : (b : ℕ) (order : List ℕ) → numberIn (plainRun (rowsFor rows file order) nothing b) ≡ plain (byteTrace rows model file b) (reverse order)
   plain-at b order = reached-all order [] fresh nothing reached-fresh b .1
 
-  -- a read after these rows finds the plain byte at each byte that it covers
+  -- A read after these rows finds the plain byte at each byte that it covers.
   abbrev Found : List ℕ → ℕ → Type 0
   Found h y = (b : ℕ) → rowsAt b .reads y ≡ true → run (rowsAt b) (y ∷ h) .view (rowAt rows y .process) ≡ plain (rowsAt b) h
 
   module _ (h : List ℕ) (s : Layers) (f : Bytes) (at : Reached h s f) (k : ℕ) where
-    -- what the next row sees in its view
+    -- What the next row sees in its view.
     next-view : (b : ℕ) → numberIn (layersThen k s .view (rowAt rows k .process) b) ≡ run (rowsAt b) (k ∷ h) .view (rowAt rows k .process)
     next-view b = reached-next h s f at k b .0 .view (rowAt rows k .process)
 
-    -- a read leaves the plain byte
+    -- A read leaves the plain byte.
     next-plain : (b : ℕ) → rowsAt b .reads k ≡ true → numberIn (plainThen k f b) ≡ plain (rowsAt b) h
     unfolding plain
     next-plain b c = reached-next h s f at k b .1 ∙ rw (rowsAt b .one-kind k c)
 
-    -- reads find the same just where the next row finds the plain byte at each byte and those of the others find the same after it
+    -- Reads find the same just where the next row finds the plain byte at each byte and the others find the same after it.
     reads-next : (order : List ℕ) →
         ReadsSame model (rowsFor rows file (k ∷ order)) s f ↔ (Found h k × ReadsSame model (rowsFor rows file order) (layersThen k s) (plainThen k f))
     unfolding rowsFor
@@ -262,7 +262,7 @@ module _ (rows : List Row) (model file : ℕ) where
         back : Found h k → ofFile file r ≡ true → ReadSame r (layersThen k s) (plainThen k f)
         back found o q b i = let c : covers READ file b r ≡ true = rw (q, o) i in next-view b ∙ found b c ∙ sym (next-plain b c)
 
-  -- reads find the same where each byte's reads find the plain byte, from any files that are reached
+  -- From any files that are reached, reads find the same where each byte's reads find the plain byte.
   reads-from : (order h : List ℕ) (s : Layers) (f : Bytes) → Reached h s f →
       ((first : List ℕ) (y : ℕ) (rest : List ℕ) → order ≡ first ++ (y ∷ rest) → Found (reverseAux first h) y) →
       ReadsSame model (rowsFor rows file order) s f
@@ -274,21 +274,21 @@ module _ (rows : List Row) (model file : ℕ) where
         reads-from order (k ∷ h) _ _ (reached-next h s f at k) (λ first y rest e. found (k ∷ first) y rest (ap (k ∷_) e)),
       )
 
-  -- and where reads find the same, a last read finds the plain byte
+  -- Where reads find the same, a last read finds the plain byte.
   reads-last : (first h : List ℕ) (s : Layers) (f : Bytes) → Reached h s f → (y : ℕ) →
       ReadsSame model (rowsFor rows file (first ++ (y ∷ []))) s f → Found (reverseAux first h) y
   reads-last [] h s f at y same = reads-next h s f at y [] .0 same .0
   reads-last (k ∷ first) h s f at y same =
       reads-last first (k ∷ h) _ _ (reached-next h s f at k) y (reads-next h s f at k (first ++ (y ∷ [])) .0 same .1)
 
-  -- reads find the plain file's numbers where each byte's reads do: over every order that is the first part of this one
+  -- Reads find the plain file's numbers where each byte's reads do, over every order that is the first part of this one.
   pub reads-in : (order : List ℕ) →
       ((first : List ℕ) (y : ℕ) (rest : List ℕ) → order ≡ first ++ (y ∷ rest) → (b : ℕ) → byteTrace rows model file b .reads y ≡ true →
       run (byteTrace rows model file b) (y ∷ reverse first) .view (rowAt rows y .process) ≡ plain (byteTrace rows model file b) (reverse first)) →
       ReadsSame model (rowsFor rows file order) fresh nothing
   reads-in order found = reads-from order [] fresh nothing reached-fresh found
 
-  -- and where reads find them, so does a last read at each byte
+  -- Where reads find the plain file's numbers, so does a last read at each byte.
   pub reads-out : (first : List ℕ) (y : ℕ) → ReadsSame model (rowsFor rows file (first ++ (y ∷ []))) fresh nothing →
       (b : ℕ) → byteTrace rows model file b .reads y ≡ true →
       run (byteTrace rows model file b) (y ∷ reverse first) .view (rowAt rows y .process) ≡ plain (byteTrace rows model file b) (reverse first)
@@ -296,7 +296,7 @@ module _ (rows : List Row) (model file : ℕ) where
 
 -- ---- The rows at the end of a run
 
--- commits put no number into the plain file, and no read is among them
+-- Rows that do not write put no number into the plain file.
 pub ends-plain : (kind file : ℕ) (ends : List End) → (kind ≡ WRITE → ⊥) → (f : ℕ → ℕ) → plainRun (endRows kind file ends) f ≡ f
 unfolding plainRun endRows afterPlain
 ends-plain kind file [] n f = refl
@@ -307,13 +307,13 @@ unfolding endRows
 ends-read kind model file [] n s f = tt
 ends-read kind model file (e ∷ ends) n s f = (λ q. absurd (n (eqb-true kind READ q)), ends-read kind model file ends n _ _)
 
--- a row that publishes and does nothing else publishes each byte
+-- A row that publishes and does nothing else publishes each byte.
 row-at : (model : ℕ) (r : Row) (number : ℕ) → (r .kind ≡ WRITE → ⊥) → publishes model (r .kind) ≡ true → refreshes model (r .kind) ≡ false →
     {s : Layers} {b : ℕ} {c : Byte} → At s b c → At (afterRow model r number s) b (publishByte (r .process) c)
 unfolding afterRow
 row-at model r number n u f a = rw (ne-eqb (r .kind) WRITE n, u, f) (publish-at a (r .process))
 
--- rows of such a kind publish, one process after the other
+-- Rows of such a kind publish, one process after the other.
 pub ends-at : (kind model file : ℕ) → (kind ≡ WRITE → ⊥) → publishes model kind ≡ true → refreshes model kind ≡ false →
     (ends : List End) (s : Layers) (b : ℕ) (c : Byte) → At s b c → At (layersRun model (endRows kind file ends) s) b (publishAll (processesOf ends) c)
 unfolding layersRun endRows publishAll processesOf
@@ -321,7 +321,7 @@ ends-at kind model file n u f [] s b c a = a
 ends-at kind model file n u f (e ∷ ends) s b c a =
     ends-at kind model file n u f ends _ b (publishByte (e .process) c) (row-at model _ (e .number) n u f a)
 
--- so commits do under commit
+-- Under commit, commits publish, one process after the other.
 pub commits-at : (file : ℕ) (ends : List End) (s : Layers) (b : ℕ) (c : Byte) → At s b c →
     At (layersRun COMMIT-MODEL (endRows COMMIT file ends) s) b (publishAll (processesOf ends) c)
 unfolding publishes refreshes
@@ -329,23 +329,26 @@ commits-at file = ends-at COMMIT COMMIT-MODEL file (λ q. absurd (omega (arith, 
 
 -- ---- Runs in two parts
 
-pub layers-append : (model : ℕ) (l m : List Numbered) (s : Layers) → layersRun model (l ++ m) s ≡ layersRun model m (layersRun model l s)
+-- A layered run of two parts is the second part's run after the first part's.
+pub layers-append : (model : ℕ) (l m : List NumberedRow) (s : Layers) → layersRun model (l ++ m) s ≡ layersRun model m (layersRun model l s)
 unfolding layersRun
 layers-append model [] m s = refl
 layers-append model (x ∷ l) m s = layers-append model l m (afterRow model (x .row) (x .number) s)
 
-pub plain-append : (l m : List Numbered) (f : ℕ → ℕ) → plainRun (l ++ m) f ≡ plainRun m (plainRun l f)
+-- A plain run of two parts is the second part's run after the first part's.
+pub plain-append : (l m : List NumberedRow) (f : ℕ → ℕ) → plainRun (l ++ m) f ≡ plainRun m (plainRun l f)
 unfolding plainRun
 plain-append [] m f = refl
 plain-append (x ∷ l) m f = plain-append l m (afterPlain (x .row) (x .number) f)
 
--- reads of both parts are reads of the whole, and the other way round
-pub reads-append : (model : ℕ) (l m : List Numbered) (s : Layers) (f : ℕ → ℕ) →
+-- Reads that find the same in both parts find the same in the whole.
+pub reads-append : (model : ℕ) (l m : List NumberedRow) (s : Layers) (f : ℕ → ℕ) →
     ReadsSame model l s f → ReadsSame model m (layersRun model l s) (plainRun l f) → ReadsSame model (l ++ m) s f
 unfolding layersRun plainRun
 reads-append model [] m s f one two = two
 reads-append model (x ∷ l) m s f one two = (one .0, reads-append model l m _ _ (one .1) two)
 
-pub reads-first : (model : ℕ) (l m : List Numbered) (s : Layers) (f : ℕ → ℕ) → ReadsSame model (l ++ m) s f → ReadsSame model l s f
+-- Reads that find the same in the whole find the same in the first part.
+pub reads-first : (model : ℕ) (l m : List NumberedRow) (s : Layers) (f : ℕ → ℕ) → ReadsSame model (l ++ m) s f → ReadsSame model l s f
 reads-first model [] m s f all = tt
 reads-first model (x ∷ l) m s f all = (all .0, reads-first model l m _ _ (all .1))

@@ -19,36 +19,36 @@ use Rattle.rows.proofs.Bools.{and-out}
 use Rattle.extents_meaning.specs.Cells.{inRange}
 use Rattle.machine_meaning.specs.Layers.{ofFile}
 use Rattle.races_meaning.specs.Races.{sameFile, chain}
-use Rattle.races_meaning.specs.Marks.{publishedBy, refreshedBy, tableChain}
+use Rattle.races_meaning.specs.TableChain.{publishedBy, refreshedBy, tableChain}
 use Rattle.races_meaning.proofs.Chains.{HB-in, two-iff, table-chain}
 use Rattle.consistency.proofs.Core.{Published, Refreshed, Chain}
 use Rattle.consistency.proofs.Meaning.{covers, covers-kind, byteTrace}
 
 -- ---- Rows
 
--- a range by its numbers
+-- A byte lies in a range exactly where the numbers say so.
 pub range-iff : (start length b : ℕ) → (inRange start length b ≡ true) ↔ ((start ≤ b) × (b < start + length))
 range-iff start length b = (there, λ (l, h). rw (le-leb start b l) (lt-ltb b (start + length) h))
   where
     there : inRange start length b ≡ true → (start ≤ b) × (b < start + length)
     there e = let a = and-out (leb start b) _ e in (leb-true _ _ (a .0), ltb-true _ _ (a .1))
 
--- a row of the file, which is no send or recv
+-- A row of the file, which is no send or recv.
 abbrev OfFile : ℕ → Row → Type 0
 OfFile file r = (r .kind < SEND) × (r .file ≡ file)
 
--- the test of it
+-- The test `ofFile` passes exactly for rows of the file.
 of-file-iff : (file : ℕ) (r : Row) → (ofFile file r ≡ true) ↔ OfFile file r
 of-file-iff file r = (there, λ (l, q). rw (lt-ltb (r .kind) SEND l) (eq-eqb (r .file) file q))
   where
     there : ofFile file r ≡ true → OfFile file r
     there e = let a = and-out (ltb (r .kind) SEND) _ e in (ltb-true _ _ (a .0), eqb-true _ _ (a .1))
 
--- a row of this kind and file that has the byte in its range
+-- A row of this kind and file that has the byte in its range.
 abbrev Covers : ℕ → ℕ → ℕ → Row → Type 0
 Covers kind file b r = (r .kind ≡ kind) × (r .file ≡ file) × (inRange (r .offset) (r .length) b ≡ true)
 
--- the test of it
+-- The test `covers` passes exactly for rows of the kind and file that cover the byte.
 pub covers-iff : (kind file b : ℕ) (r : Row) → kind < SEND → (covers kind file b r ≡ true) ↔ Covers kind file b r
 covers-iff kind file b r l = (there, back)
   where
@@ -60,23 +60,23 @@ covers-iff kind file b r l = (there, back)
     back : Covers kind file b r → covers kind file b r ≡ true
     back (k, f, i) = rw (eq-eqb (r .kind) kind k, of-file-iff file r .1 (omega arith, f)) i
 
--- ---- Marks
+-- ---- Kinds that publish and refresh
 
--- no kind from send on publishes
+-- No kind from send on publishes.
 send-unpublished : (model kind : ℕ) → SEND ≤ kind → publishes model kind ≡ false
 unfolding publishes
 send-unpublished model kind l =
     let other : (k : ℕ) → k < SEND → eqb kind k ≡ false = λ k m. ne-eqb kind k (omega arith) in
     simp (other WRITE (omega arith), other COMMIT (omega arith), other CLOSE (omega arith), other SYNC (omega arith), and-false)
 
--- and none refreshes
+-- No kind from send on refreshes.
 send-unrefreshed : (model kind : ℕ) → SEND ≤ kind → refreshes model kind ≡ false
 unfolding refreshes
 send-unrefreshed model kind l =
     let other : (k : ℕ) → k < SEND → eqb kind k ≡ false = λ k m. ne-eqb kind k (omega arith) in
     simp (other READ (omega arith), other OPEN (omega arith), other SYNC (omega arith), and-false)
 
--- a kind with a mark comes before send
+-- A kind that publishes or refreshes comes before send.
 marked-kind : (mark : ℕ → Bool) → ((kind : ℕ) → SEND ≤ kind → mark kind ≡ false) → (kind : ℕ) → mark kind ≡ true → kind < SEND
 marked-kind mark out kind e = go (decLt kind SEND)
   where
@@ -91,7 +91,7 @@ module _ (mark : ℕ → Bool) (file : ℕ) (r s : Row) where
   Done self k x i j =
       ((self ≡ true) × (k ≡ x)) ⊎ ((self ≡ false) × (i < j) × (ofFile file s && mark (s .kind) ≡ true) × (s .process ≡ r .process))
 
-  -- the test of it
+  -- The test of a row that publishes or refreshes passes exactly where the row does.
   done-iff : ((kind : ℕ) → SEND ≤ kind → mark kind ≡ false) → r .file ≡ file → (self : Bool) (k x i j : ℕ) →
       (cond self (eqb k x) (ltb i j && (mark (s .kind) && (sameFile r s && sameProcess r s))) ≡ true) ↔ Done self k x i j
   done-iff out q true k x i j = (λ e. inl (refl, eqb-true k x e), back)
@@ -119,19 +119,19 @@ module _ (mark : ℕ → Bool) (file : ℕ) (r s : Row) where
 -- ---- Chains
 
 module _ (rows : List Row) (model file b x y : ℕ) (in-x : rowAt rows x .file ≡ file) (in-y : rowAt rows y .file ≡ file) where
-  -- a row publishes the write x
+  -- A row publishes the write x.
   published-iff : (c : ℕ) → (publishedBy rows model x c ≡ true) ↔ Published (byteTrace rows model file b) x c
   unfolding publishedBy
   published-iff c =
       done-iff (publishes model) file (rowAt rows x) (rowAt rows c) (send-unpublished model) in-x (publishes model WRITE) c x x c
 
-  -- a row refreshes for y
+  -- A row refreshes for y.
   refreshed-iff : (o : ℕ) → (refreshedBy rows model y o ≡ true) ↔ Refreshed (byteTrace rows model file b) y o
   unfolding refreshedBy
   refreshed-iff o =
       done-iff (refreshes model) file (rowAt rows y) (rowAt rows o) (send-unrefreshed model) in-y (refreshes model READ) o y o y
 
-  -- the model's chain is the one that a byte of the rows' file sees
+  -- The model's chain is the one that a byte of the rows' file sees.
   pub chain-iff : model < MODELS → x < length rows → y < length rows → (chain rows model x y ≡ true) ↔ Chain (byteTrace rows model file b) x y
   unfolding tableChain
   chain-iff h k l = (there, back)

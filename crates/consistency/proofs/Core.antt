@@ -29,7 +29,7 @@ pub record Trace : Type 0 where
   pub write-publishes : atWrite ≡ true → (k : ℕ) → writes k ≡ true → publishes k ≡ true
   pub read-refreshes : atRead ≡ true → (k : ℕ) → reads k ≡ true → refreshes k ≡ true
 
--- one more publishing by each process of a list, the first one first
+-- One more publishing by each process of a list, the first one first.
 unfoldable pub publishAll : List ℕ → Byte → Byte
 publishAll [] s = s
 publishAll (p ∷ ps) s = publishAll ps (publishByte p s)
@@ -37,7 +37,7 @@ publishAll (p ∷ ps) s = publishAll ps (publishByte p s)
 module _ (t : Trace) where
   -- ---- Runs
 
-  -- the layered byte after the rows of an order, and the plain byte
+  -- The layered byte after the rows of an order, and the plain byte.
   unfoldable pub run : List ℕ → Byte
   run [] = freshByte
   run (y ∷ h) = stepByte (t .writes y) (t .publishes y) (t .refreshes y) (t .process y) (suc y) (run h)
@@ -46,14 +46,14 @@ module _ (t : Trace) where
   plain [] = 0
   plain (y ∷ h) = cond (t .writes y) (suc y) (plain h)
 
-  -- an allowed order of a closed set: each row once, and every direct predecessor of a row before it
+  -- An allowed order of a closed set: each row once, and every direct predecessor of a row before it.
   pub data Ok : List ℕ → Type 0 where
     none : Ok []
     next : {y : ℕ} {h : List ℕ} → y < t .rows → (In y h → ⊥) → ((k : ℕ) → t .edge k y ≡ true → In k h) → Ok h → Ok (y ∷ h)
 
   -- ---- Races
 
-  -- row c publishes the write x; row o refreshes for y
+  -- Row c publishes the write x; row o refreshes for y.
   abbrev pub Published : ℕ → ℕ → Type 0
   Published x c = ((t .atWrite ≡ true) × (c ≡ x)) ⊎ ((t .atWrite ≡ false) × (x < c) × (t .publishes c ≡ true) × (t .process c ≡ t .process x))
 
@@ -63,7 +63,7 @@ module _ (t : Trace) where
   abbrev pub Chain : ℕ → ℕ → Type 0
   Chain x y = (c : ℕ) × (o : ℕ) × Published x c × Refreshed y o × HB (t .edge) c o
 
-  -- two rows of different processes that touch the byte, the first one earlier in the trace, and one of them writes
+  -- Two rows of different processes that touch the byte, the first one earlier in the trace, and one of them writes.
   abbrev pub Conflict : ℕ → ℕ → Type 0
   Conflict x y =
       (x < y) × (y < t .rows) × (t .process x ≡ t .process y → ⊥)
@@ -72,20 +72,20 @@ module _ (t : Trace) where
   abbrev pub Synchronized : ℕ → ℕ → Type 0
   Synchronized x y = ((t .writes x ≡ true) × Chain x y) ⊎ ((t .reads x ≡ true) × HB (t .edge) x y)
 
-  -- no conflicting pair is left unsynchronized
+  -- No conflicting pair is left unsynchronized.
   abbrev pub Free : Type 0
   Free = (x y : ℕ) → Conflict x y → Synchronized x y
 
   -- ---- A race under commit: some order shows it
 
-  -- what commit says of the rows: no write publishes, reads refresh
+  -- What commit says of the rows: no write publishes, reads refresh.
   pub record Commits : Type 0 where
     pub no-write : t .atWrite ≡ false
     pub every-read : t .atRead ≡ true
     pub publish-alone : (k : ℕ) → t .publishes k ≡ true → (t .writes k ≡ false) × (t .reads k ≡ false)
     pub refresh-alone : (k : ℕ) → t .refreshes k ≡ true → (t .writes k ≡ false) × (t .publishes k ≡ false)
 
-  -- an order after which a last read is not the plain byte, or one after which the published byte is not, where a process publishes last
+  -- An order after which a last read is not the plain byte, or one after which the published byte is not, where a process publishes last.
   pub data Shown (h : List ℕ) : Type 0 where
     by-read : (y : ℕ) (l : List ℕ) → h ≡ y ∷ l → t .reads y ≡ true → (run h .view (t .process y) ≡ plain l → ⊥) → Shown h
     at-end : (p : ℕ) (k : ℕ) → In k h → t .process k ≡ p →

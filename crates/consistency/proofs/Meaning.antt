@@ -15,27 +15,28 @@ use Rattle.rows.proofs.Bools.{and-out}
 use Rattle.happens_before.proofs.Clocks.{edge-forward, edge-in, program-order}
 use Rattle.extents_meaning.specs.Cells.{Bytes, numberIn, inRange}
 use Rattle.machine_meaning.specs.Layers.{Layers, afterRow, afterPlain, ofFile}
-use Rattle.consistency.specs.Files.{Numbered}
+use Rattle.consistency.specs.Files.{NumberedRow}
 use Rattle.consistency.proofs.Core.{Trace}
 
 -- ---- Runs by the bytes alone
 
--- the layered file and the plain file after rows, the first one first
-unfoldable pub layersRun : ℕ → List Numbered → Layers → Layers
+-- The layered file after rows, the first one first.
+unfoldable pub layersRun : ℕ → List NumberedRow → Layers → Layers
 layersRun model [] s = s
 layersRun model (x ∷ l) s = layersRun model l (afterRow model (x .row) (x .number) s)
 
-unfoldable pub plainRun : List Numbered → Bytes → Bytes
+-- The plain file after rows, the first one first.
+unfoldable pub plainRun : List NumberedRow → Bytes → Bytes
 plainRun [] f = f
 plainRun (x ∷ l) f = plainRun l (afterPlain (x .row) (x .number) f)
 
--- a read finds the same row number in both at every byte of its range
+-- A read finds the same row number in both files at every byte of its range.
 abbrev pub ReadSame : Row → Layers → Bytes → Type 0
 ReadSame r s f =
     eqb (r .kind) READ ≡ true → (b : ℕ) → inRange (r .offset) (r .length) b ≡ true → numberIn (s .view (r .process) b) ≡ numberIn (f b)
 
--- and so does every read of a run
-abbrev pub ReadsSame : ℕ → List Numbered → Layers → Bytes → Type 0
+-- Every read of a run finds the same row numbers in both files.
+abbrev pub ReadsSame : ℕ → List NumberedRow → Layers → Bytes → Type 0
 ReadsSame model [] s f = Unit {0}
 ReadsSame model (x ∷ l) s f =
     ReadSame (x .row) (afterRow model (x .row) (x .number) s) (afterPlain (x .row) (x .number) f)
@@ -43,26 +44,26 @@ ReadsSame model (x ∷ l) s f =
 
 -- ---- One byte of one file
 
--- a row of this kind that covers the byte of the file
+-- A row of this kind covers the byte of the file.
 abbrev pub covers : ℕ → ℕ → ℕ → Row → Bool
 covers kind file b r = eqb (r .kind) kind && (ofFile file r && inRange (r .offset) (r .length) b)
 
--- what covers is of the kind and of the file
+-- A row that covers is of the kind and of the file.
 pub covers-kind : (kind file b : ℕ) (r : Row) → covers kind file b r ≡ true → (r .kind ≡ kind) × (ofFile file r ≡ true)
 covers-kind kind file b r e =
     let a = and-out (eqb (r .kind) kind) _ e in
     (eqb-true _ _ (a .0), and-out (ofFile file r) _ (a .1) .0)
 
--- a read is no write
+-- A read is no write.
 pub read-only : (file b : ℕ) (r : Row) → covers READ file b r ≡ true → covers WRITE file b r ≡ false
 read-only file b r e = rw (covers-kind READ file b r e .0)
 
--- a row of the file has the mark of its kind
+-- A row of the file passes a test of its kind.
 pub marked : (mark : ℕ → Bool) (file : ℕ) (r : Row) {kind : ℕ} → r .kind ≡ kind → ofFile file r ≡ true → mark kind ≡ true →
     ofFile file r && mark (r .kind) ≡ true
 marked mark file r q o e = rw o (ap mark q ∙ e)
 
--- the rows of a trace as one byte of one file sees them under a model
+-- The rows of a trace as one byte of one file sees them under a model.
 abbrev pub byteTrace : List Row → ℕ → ℕ → ℕ → Trace
 byteTrace rows model file b =
     record {

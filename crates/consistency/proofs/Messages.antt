@@ -21,11 +21,11 @@ use Rattle.happens_before.proofs.Clocks.{message-order}
 
 -- ---- What question 12 says
 
--- the row sends this message
+-- The row sends this message.
 abbrev pub Sends : Row → ℕ → Type 0
 Sends r message = (r .kind ≡ SEND) × (r .message ≡ message)
 
--- the row receives this message
+-- The row receives this message.
 abbrev pub Receives : Row → ℕ → Type 0
 Receives r message = (r .kind ≡ RECV) × (r .message ≡ message)
 
@@ -38,7 +38,7 @@ pub record InOrder (rows : List Row) (n : ℕ) (r : Row) : Type 0 where
 
 -- ---- The rows that pass a test
 
--- where some row passes, one of them
+-- Where some row passes, one of them.
 some-out : (test : Row → Bool) (rows : List Row) → any test rows ≡ true → (k : ℕ) × (k < length rows) × (test (rowAt rows k) ≡ true)
 unfolding any
 some-out test [] e = absurd (false≢true e)
@@ -49,21 +49,21 @@ some-out test (r ∷ rs) e = go (or-out (test r) (any test rs) e) (some-out test
     go (inl q) rest = (0, omega arith, q)
     go (inr q) rest = let t = rest q in (suc (t .0), omega (arith, t .1), t .2)
 
--- where one passes, some row does
+-- Where one passes, some row does.
 some-in : (test : Row → Bool) (rows : List Row) (k : ℕ) → k < length rows → test (rowAt rows k) ≡ true → any test rows ≡ true
 unfolding any
 some-in test [] k h e = absurd (omega arith)
 some-in test (r ∷ rs) zero h e = rw e
 some-in test (r ∷ rs) (suc k) h e = or-right (test r) (any test rs) (some-in test rs k (omega arith) e)
 
--- a row of a kind with a message
+-- A row of a kind with a message.
 carries-iff : (kind message : ℕ) (r : Row) → (carries kind message r ≡ true) ↔ ((r .kind ≡ kind) × (r .message ≡ message))
 carries-iff kind message r = (
   λ e. let a = and-out (eqb (r .kind) kind) (eqb (r .message) message) e in (eqb-true _ _ (a .0), eqb-true _ _ (a .1)),
   λ (k, m). rw (eq-eqb (r .kind) kind k, eq-eqb (r .message) message m),
 )
 
--- no row of a kind has the message
+-- No row of a kind has the message.
 none-iff : (kind message : ℕ) (rows : List Row) →
     (not (any (carries kind message) rows) ≡ true) ↔ ((k : ℕ) → k < length rows → (rowAt rows k .kind ≡ kind) × (rowAt rows k .message ≡ message) → ⊥)
 none-iff kind message rows = (
@@ -72,7 +72,7 @@ none-iff kind message rows = (
       (λ e. let s = some-out (carries kind message) rows e in f (s .0) (s .1) (carries-iff kind message (rowAt rows (s .0)) .0 (s .2)))),
 )
 
--- another process's row sends the message
+-- Another process's row sends the message.
 other-iff : (process message : ℕ) (rows : List Row) →
     (sentByOther process message rows ≡ true)
     ↔ ((k : ℕ) × (k < length rows) × Sends (rowAt rows k) message × (rowAt rows k .process ≡ process → ⊥))
@@ -118,7 +118,7 @@ message-iff earlier r = (to, λ o. from o (eqb (r .kind) SEND) refl (eqb (r .kin
 
 -- ---- Accepted traces
 
--- rows behind the first n change nothing of what stands before a row
+-- Rows behind the first n change nothing of what stands before a row.
 more-rows : (rows more : List Row) {n : ℕ} {r : Row} → n ≤ length rows → InOrder rows n r → InOrder (rows ++ more) n r
 more-rows rows more {n} {r} h o =
     record {
@@ -132,7 +132,7 @@ more-rows rows more {n} {r} h o =
     same : (k : ℕ) → k < n → rowAt (rows ++ more) k ≡ rowAt rows k
     same k l = List·getD-append rows more noRow k (omega arith)
 
--- every row of an accepted trace is in order behind the rows before it
+-- Every row of an accepted trace is in order behind the rows before it.
 pub sound-in-order : {P : ℕ} {rows : List Row} → Sound P rows → (j : ℕ) → j < length rows → InOrder rows j (rowAt rows j)
 sound-in-order none j h = absurd (omega arith)
 sound-in-order (next {rows} {r} s w m) j h = go (decLt j (length rows)) (λ l. sound-in-order s j l)
@@ -154,7 +154,7 @@ pub record Delivered (rows : List Row) : Type 0 where
   pub sent-before : (m j : ℕ) → j < length rows → Receives (rowAt rows j) m →
       (i : ℕ) × (i < j) × Sends (rowAt rows i) m × (rowAt rows i .process ≡ rowAt rows j .process → ⊥)
 
--- a property that never holds at two places, one before the other, holds at one place only
+-- A property that never holds at two places, one before the other, holds at one place only.
 once : (n : ℕ) (Q : ℕ → Type 0) → ((i j : ℕ) → i < j → j < n → Q i → Q j → ⊥) → (i j : ℕ) → i < n → j < n → Q i → Q j → i ≡ j
 once n Q f i j h g p q = go (decLt i j) (decLt j i)
   where
@@ -163,7 +163,7 @@ once n Q f i j h g p q = go (decLt i j) (decLt j i)
     go (no l) (yes k) = absurd (f j i k h q p)
     go (no l) (no k) = omega arith
 
--- the messages of an accepted trace are delivered so
+-- The messages of an accepted trace are delivered so.
 pub sound-delivered : {P : ℕ} {rows : List Row} → Sound P rows → Delivered rows
 sound-delivered {P} {rows} s =
     record {
@@ -219,7 +219,7 @@ sound-edge {P} {rows} s i j h g = (to, from)
         let same = eq-eqb (r .message) (w .message) (c .1 ∙ sym (d .1)) in
         message-order rows i j l g (rw (eq-eqb (r .kind) SEND (c .0), eq-eqb (w .kind) RECV (d .0)) same)
 
--- the messages of every text that a call accepts are delivered so
+-- The messages of every text that a call accepts are delivered so.
 pub accepted-delivered : (text : List ℕ) (header model rowLimit processLimit byteLimit rowsLength countsLength : ℕ) (rows : List Row) →
     checkTrace text header model rowLimit processLimit byteLimit rowsLength countsLength ≡ accepted rows → Delivered rows
 accepted-delivered text header model rowLimit processLimit byteLimit rowsLength countsLength rows e =

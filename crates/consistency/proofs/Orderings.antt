@@ -17,7 +17,7 @@ use Rattle.consistency.proofs.Meaning.{byteTrace}
 
 -- ---- A list turned, with another one behind it: `reverseAux l r`
 
--- what stands there stands in one of the two
+-- A number in the turned list stands in one of the two lists.
 in-turned : (a : ℕ) (l r : List ℕ) → In a (reverseAux l r) → In a l ⊎ In a r
 in-turned a [] r m = inr m
 in-turned a (c ∷ l) r m = go (in-turned a l (c ∷ r) m)
@@ -27,7 +27,7 @@ in-turned a (c ∷ l) r m = go (in-turned a l (c ∷ r) m)
     go (inr (inl q)) = inl (inl q)
     go (inr (inr i)) = inr i
 
--- and the other way
+-- A number in one of the two lists stands in the turned list.
 pub turned-in : (a : ℕ) (l r : List ℕ) → In a l ⊎ In a r → In a (reverseAux l r)
 turned-in a [] r (inl m) = absurd m
 turned-in a [] r (inr m) = m
@@ -35,7 +35,7 @@ turned-in a (c ∷ l) r (inl (inl q)) = turned-in a l (c ∷ r) (inr (inl q))
 turned-in a (c ∷ l) r (inl (inr m)) = turned-in a l (c ∷ r) (inl m)
 turned-in a (c ∷ l) r (inr m) = turned-in a l (c ∷ r) (inr (inr m))
 
--- what stands in the turned list stands in the list
+-- A number in a turned list stands in the list.
 pub in-reverse : (a : ℕ) (l : List ℕ) → In a (reverse l) → In a l
 in-reverse a l m = go (in-turned a l [] m)
   where
@@ -43,7 +43,7 @@ in-reverse a l m = go (in-turned a l [] m)
     go (inl i) = i
     go (inr i) = absurd i
 
--- where each number stands once there, so it does in the second, and they have none in common
+-- Where each number stands once there, so it does in the second, and they have none in common.
 once-turned : (l r : List ℕ) → Once (reverseAux l r) → Once r × ((a : ℕ) → In a l → In a r → ⊥)
 once-turned [] r o = (o, λ a m. absurd m)
 once-turned (c ∷ l) r o = go (once-turned l (c ∷ r) o)
@@ -55,7 +55,7 @@ once-turned (c ∷ l) r o = go (once-turned l (c ∷ r) o)
         apart a (inl q) i = n (rw q at i)
         apart a (inr m) i = d a m (inr i)
 
--- where each stands once in both, and they have none in common, each stands once there
+-- Where each stands once in both, and they have none in common, each stands once there.
 pub turned-once : (l r : List ℕ) → Once l → Once r → ((a : ℕ) → In a l → In a r → ⊥) → Once (reverseAux l r)
 turned-once [] r o p d = p
 turned-once (c ∷ l) r o p d = turned-once l (c ∷ r) (o .1) (d c (inl refl), p) apart
@@ -64,7 +64,7 @@ turned-once (c ∷ l) r o p d = turned-once l (c ∷ r) (o .1) (d c (inl refl), 
     apart a m (inl q) = o .0 (rw q at m)
     apart a m (inr i) = d a (inr m) i
 
--- what stands before b there stands in the first, or before b in the second
+-- What stands before b there stands in the first, or before b in the second.
 stands-turned : (a b : ℕ) (l r : List ℕ) → Stands a b (reverseAux l r) → In a l ⊎ Stands a b r
 stands-turned a b [] r s = inr s
 stands-turned a b (c ∷ l) r s = go (stands-turned a b l (c ∷ r) s)
@@ -74,7 +74,7 @@ stands-turned a b (c ∷ l) r s = go (stands-turned a b l (c ∷ r) s)
     go (inr (inl (q, _))) = inl (inl q)
     go (inr (inr s)) = inr s
 
--- what stands in the first stands before all of the second, and what stands before b in the second does so there
+-- What stands in the first stands before all of the second, and what stands before b in the second does so there.
 turned-stands : (a b : ℕ) (l r : List ℕ) → (In a l × In b r) ⊎ Stands a b r → Stands a b (reverseAux l r)
 turned-stands a b [] r (inl (m, _)) = absurd m
 turned-stands a b [] r (inr s) = s
@@ -82,7 +82,7 @@ turned-stands a b (c ∷ l) r (inl (inl q, i)) = turned-stands a b l (c ∷ r) (
 turned-stands a b (c ∷ l) r (inl (inr m, i)) = turned-stands a b l (c ∷ r) (inl (m, inr i))
 turned-stands a b (c ∷ l) r (inr s) = turned-stands a b l (c ∷ r) (inr (inr s))
 
--- what another stands before stands
+-- What another stands before stands.
 stands-in : (a b : ℕ) (l : List ℕ) → Stands a b l → In b l
 stands-in a b [] s = absurd s
 stands-in a b (c ∷ l) (inl (_, m)) = inr m
@@ -91,7 +91,7 @@ stands-in a b (c ∷ l) (inr s) = inr (stands-in a b l s)
 -- ---- Orders
 
 module _ (t : Trace) where
-  -- what was put to an allowed order last may be left out
+  -- What was put to an allowed order last may be left out.
   ok-rest : (l h : List ℕ) → Ok t (reverseAux l h) → Ok t h
   ok-rest [] h ok = ok
   ok-rest (y ∷ l) h ok = go (ok-rest l (y ∷ h) ok)
@@ -99,18 +99,18 @@ module _ (t : Trace) where
       go : Ok t (y ∷ h) → Ok t h
       go (next b n e o) = o
 
-  -- in an allowed order each row stands once
+  -- In an allowed order each row stands once.
   ok-once : {h : List ℕ} → Ok t h → Once h
   ok-once none = tt
   ok-once (next b n e ok) = (n, ok-once ok)
 
-  -- in an allowed order, turned, a direct predecessor stands before its row
+  -- In an allowed order, turned, a direct predecessor stands before its row.
   ok-stands : {h : List ℕ} → Ok t h → (i j : ℕ) → t .edge i j ≡ true → In j h → (r : List ℕ) → Stands i j (reverseAux h r)
   ok-stands none i j e m r = absurd m
   ok-stands (next {y} {h} b n es ok) i j e (inl q) r = turned-stands i j h (y ∷ r) (inl (es i (rw q at e), inl q))
   ok-stands (next {y} {h} b n es ok) i j e (inr m) r = ok-stands ok i j e m (y ∷ r)
 
--- the next row of an order: its direct predecessors are passed
+-- The next row of an order: its direct predecessors are passed.
 predecessor-passed : (rows : List Row) (y : ℕ) (passed rest : List ℕ) → Allowed rows (reverseAux passed (y ∷ rest)) → (k : ℕ) →
     edge rows k y ≡ true → In k passed
 predecessor-passed rows y passed rest a k e = go (stands-turned k y passed (y ∷ rest) (a .in-order k y e (a .closed k y (one e) here) here))
@@ -126,7 +126,7 @@ predecessor-passed rows y passed rest a k e = go (stands-turned k y passed (y �
     go (inr (inl (_, m))) = absurd (new m)
     go (inr (inr s)) = absurd (new (stands-in k y rest s))
 
--- where the rows passed are allowed, so are all of an order
+-- Where the rows passed are allowed, so are all of an order.
 passed-ok : (rows : List Row) (model file b : ℕ) (passed rest : List ℕ) → Ok (byteTrace rows model file b) passed →
     Allowed rows (reverseAux passed rest) → Ok (byteTrace rows model file b) (reverseAux rest passed)
 passed-ok rows model file b passed [] ok a = ok
@@ -135,11 +135,11 @@ passed-ok rows model file b passed (y ∷ rest) ok a =
     (next (a .of-trace y (turned-in y passed (y ∷ rest) (inr (inl refl))))
     (λ m. once-turned passed (y ∷ rest) (a .once) .1 y m (inl refl)) (predecessor-passed rows y passed rest a) ok) a
 
--- an allowed order, latest row first, is one for every byte
+-- An allowed order, latest row first, is one for every byte.
 pub allowed-ok : (rows : List Row) (model file b : ℕ) (order : List ℕ) → Allowed rows order → Ok (byteTrace rows model file b) (reverse order)
 allowed-ok rows model file b order a = passed-ok rows model file b [] order none a
 
--- what is allowed for a byte is allowed
+-- What is allowed for a byte is allowed.
 pub ok-allowed : (rows : List Row) (model file b : ℕ) (h : List ℕ) → Ok (byteTrace rows model file b) h → Allowed rows (reverse h)
 ok-allowed rows model file b h ok =
     record {
@@ -152,7 +152,7 @@ ok-allowed rows model file b h ok =
     t : Trace
     t = byteTrace rows model file b
 
--- each first part of an allowed order is allowed
+-- Each first part of an allowed order is allowed.
 pub first-allowed : (rows : List Row) (first rest : List ℕ) → Allowed rows (first ++ rest) → Allowed rows first
 first-allowed rows first rest a =
     rw (reverse-reverse first) at (ok-allowed rows 0 0 0 (reverse first)
@@ -160,13 +160,13 @@ first-allowed rows first rest a =
 
 -- ---- The recorded order
 
--- places below a bound, the largest first, turned
+-- Places below a bound, the largest first, turned.
 places-turned : (n : ℕ) → reverse (select (λ k. true) n) ≡ placesBelow n
 unfolding select placesBelow
 places-turned zero = refl
 places-turned (suc n) = reverse-cons n (select (λ k. true) n) ∙ ap (λ (l : List ℕ). l ++ (n ∷ [])) (places-turned n)
 
--- the order in which a trace was recorded is allowed
+-- The order in which a trace was recorded is allowed.
 pub trace-order : (rows : List Row) → Allowed rows (traceOrder rows)
 trace-order rows =
     let n = length rows in

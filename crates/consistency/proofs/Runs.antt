@@ -1,5 +1,5 @@
--- What runs of allowed orders keep under commit: what is published was published by its process after its write, and what is unpublished stays
--- so until its process publishes.
+-- What runs of allowed orders keep under commit: a published number was published by its process after its write, and an unpublished number
+-- stays unpublished until its process publishes.
 use Prim.Native.Nat.{ℕ, suc, _<_}
 use native.Mathlib.Omega.{arith}
 use native.Mathlib.Decide.{decLt, ℕ-discrete}
@@ -14,22 +14,22 @@ use Rattle.consistency.proofs.Core.{Trace, run, Ok, none, next, publish
 
 -- ---- One byte
 
--- the value put at a process
+-- The value at the process where it was put.
 put-same : {A : Type 0} (p : ℕ) (a : A) (f : ℕ → A) (q : ℕ) → q ≡ p → put p a f q ≡ a
 unfolding put
 put-same p a f q e = rw (eq-eqb q p e)
 
--- the values at other processes
+-- The values at other processes stay.
 put-other : {A : Type 0} (p : ℕ) (a : A) (f : ℕ → A) (q : ℕ) → (q ≡ p → ⊥) → put p a f q ≡ f q
 unfolding put
 put-other p a f q n = rw (ne-eqb q p n)
 
--- what a process sees after its refresh is its unpublished number or the published one
+-- After a refresh, a process sees its unpublished number or the published one.
 sees : (p : ℕ) (s : Byte) → refreshByte p s .view p ≡ cond (s .unpublished p) (s .view p) (s .published)
 unfolding refreshByte
 sees p s = put-same p _ (s .view) p refl
 
--- a refresh leaves unpublished numbers
+-- A refresh leaves unpublished numbers.
 refresh-own : (p : ℕ) (s : Byte) (q : ℕ) → s .unpublished q ≡ true → refreshByte p s .view q ≡ s .view q
 unfolding refreshByte
 refresh-own p s q u = go (ℕ-discrete q p)
@@ -38,7 +38,7 @@ refresh-own p s q u = go (ℕ-discrete q p)
     go (yes e) = put-same p _ (s .view) q e ∙ rw (← e, u)
     go (no n) = put-other p _ (s .view) q n
 
--- publishing by all, a process with an unpublished number last, publishes that number
+-- Publishing by all, a process with an unpublished number last, publishes that number.
 pub last-published : (p : ℕ) (qs : List ℕ) (s : Byte) → (In p qs → ⊥) → s .unpublished p ≡ true →
     publishAll (qs ++ (p ∷ [])) s .published ≡ s .view p
 unfolding publishAll publishByte
@@ -49,19 +49,19 @@ last-published p (q ∷ qs) s n u =
 module _ (t : Trace) where
   -- ---- Allowed orders
 
-  -- their rows are rows of the trace
+  -- The rows of an allowed order are rows of the trace.
   rows-in : {h : List ℕ} → Ok t h → (k : ℕ) → In k h → k < t .rows
   rows-in none k m = absurd m
   rows-in (next b n d o) k (inl e) = rw e b
   rows-in (next b n d o) k (inr m) = rows-in o k m
 
-  -- they have the direct predecessors of their rows
+  -- An allowed order has the direct predecessors of its rows.
   predecessors-in : {h : List ℕ} → Ok t h → (i j : ℕ) → t .edge i j ≡ true → In j h → In i h
   predecessors-in none i j a m = absurd m
   predecessors-in (next b n d o) i j a (inl e) = inr (d i (rw e at a))
   predecessors-in (next b n d o) i j a (inr m) = inr (predecessors-in o i j a m)
 
-  -- a row that comes next is after the rows of its process
+  -- A row that comes next is after the rows of its process.
   after-own : {h : List ℕ} → Ok t h → (y : ℕ) → (In y h → ⊥) → (w : ℕ) → In w h → t .process w ≡ t .process y → w < y
   after-own o y n w m e = go (decLt w y) (decLt y w)
     where
@@ -72,31 +72,31 @@ module _ (t : Trace) where
 
   -- ---- What a run keeps
 
-  -- the process of row w publishes after w
+  -- The process of row w publishes after w.
   abbrev pub Released : List ℕ → ℕ → Type 0
   Released h w = (c : ℕ) × In c h × (w < c) × (t .publishes c ≡ true) × (t .process c ≡ t .process w)
 
-  -- What is published is released; what is unpublished is of the process's own rows; what a process wrote and did not release is unpublished.
+  -- A published number is released; an unpublished number is of the process's own rows; a number that a process wrote and did not release is unpublished.
   pub record Kept (h : List ℕ) (s : Byte) : Type 0 where
     pub released : (w : ℕ) → s .published ≡ suc w → Released h w
     pub own : (q : ℕ) → s .unpublished q ≡ true → (w : ℕ) × In w h × (t .process w ≡ q) × (s .view q ≡ suc w)
     pub pending : (x : ℕ) → In x h → t .writes x ≡ true → (Released h x → ⊥) → s .unpublished (t .process x) ≡ true
 
-  -- what is released stays so
+  -- A released row stays released.
   released-more : (y : ℕ) (h : List ℕ) (w : ℕ) → Released h w → Released (y ∷ h) w
   released-more y h w (c, m, l, p, e) = (c, inr m, l, p, e)
 
-  -- a write does not stand at a row that does not write
+  -- A write is not the latest row where the latest row does not write.
   earlier : (y : ℕ) (h : List ℕ) → t .writes y ≡ false → (x : ℕ) → In x (y ∷ h) → t .writes x ≡ true → In x h
   earlier y h f x (inl e) w = absurd (false≢true (sym f ∙ (rw e at w)))
   earlier y h f x (inr m) w = m
 
   module _ (y : ℕ) (h : List ℕ) (s : Byte) (k : Kept h s) where
-    -- what is unpublished is of the process's own rows, with one more row in the order
+    -- With one more row in the order, an unpublished number is of the process's own rows.
     own-more : (q : ℕ) → s .unpublished q ≡ true → (w : ℕ) × In w (y ∷ h) × (t .process w ≡ q) × (s .view q ≡ suc w)
     own-more q u = let r = k .own q u in (r .0, inr (r .1), r .2, r .3)
 
-    -- it is kept by a row that does nothing
+    -- A row that does nothing keeps the record.
     kept-idle : t .writes y ≡ false → Kept (y ∷ h) s
     kept-idle f =
         record {
@@ -105,7 +105,7 @@ module _ (t : Trace) where
           pending = λ x m w n. k .pending x (earlier y h f x m w) w (λ r. n (released-more y h x r));
         }
 
-    -- it is kept by a refresh
+    -- A refresh keeps the record.
     kept-refresh : t .writes y ≡ false → Kept (y ∷ h) (refreshByte (t .process y) s)
     unfolding refreshByte
     kept-refresh f =
@@ -115,7 +115,7 @@ module _ (t : Trace) where
           pending = λ x m w n. k .pending x (earlier y h f x m w) w (λ r. n (released-more y h x r));
         }
 
-    -- it is kept by a write
+    -- A write keeps the record.
     kept-write : Kept (y ∷ h) (writeByte (t .process y) (suc y) s)
     unfolding writeByte
     kept-write =
@@ -142,7 +142,7 @@ module _ (t : Trace) where
         marked x (inr m) w n (no d) =
             put-other p true (s .unpublished) (t .process x) d ∙ k .pending x m w (λ r. n (released-more y h x r))
 
-    -- it is kept by a publishing
+    -- A row that publishes keeps the record.
     kept-publish : Ok t h → (In y h → ⊥) → t .writes y ≡ false → t .publishes y ≡ true → Kept (y ∷ h) (publishByte (t .process y) s)
     unfolding publishByte
     kept-publish o new f a =
@@ -177,7 +177,7 @@ module _ (t : Trace) where
         marked x m w n (no d) = put-other p false (s .unpublished) (t .process x) d ∙ k .pending x m w (λ r. n (released-more y h x r))
 
   module _ (commits : Commits t) where
-    -- it is kept by any row: under commit it writes, or publishes, or refreshes, or does none of these
+    -- Any row keeps the record: under commit a row writes, or publishes, or refreshes, or does none of these.
     kept-next : (y : ℕ) (h : List ℕ) (s : Byte) → Kept h s → Ok t h → (In y h → ⊥) →
         Kept (y ∷ h) (stepByte (t .writes y) (t .publishes y) (t .refreshes y) (t .process y) (suc y) s)
     kept-next y h s k o new = go (t .writes y) (t .publishes y) (t .refreshes y) refl refl refl
@@ -192,7 +192,7 @@ module _ (t : Trace) where
         go false false true a b c = kept-refresh y h s k a
         go false false false a b c = kept-idle y h s k a
 
-    -- it holds after every allowed order
+    -- The record holds after every allowed order.
     pub kept : {h : List ℕ} → Ok t h → Kept h (run t h)
     unfolding run freshByte
     kept none =
@@ -203,7 +203,7 @@ module _ (t : Trace) where
         }
     kept (next {y} {h} b n d o) = kept-next y h (run t h) (kept o) o n
 
-    -- a read does not see an unreleased row of another process
+    -- A read does not see an unreleased row of another process.
     pub unseen : {l : List ℕ} → Ok t l → (y w : ℕ) → t .reads y ≡ true → (t .process w ≡ t .process y → ⊥) → (Released l w → ⊥) →
         run t (y ∷ l) .view (t .process y) ≡ suc w → ⊥
     unfolding run

@@ -1,5 +1,4 @@
--- Rows selected by a test, in trace order: they are an allowed order where the test passes with every row its direct predecessors. Assumes
--- nothing.
+-- Rows selected by a test, in trace order, which are an allowed order where the test passes with every row its direct predecessors.
 use Prim.Native.Nat.{ℕ, zero, suc, _≤_, _<_}
 use native.Mathlib.Omega.{arith}
 use native.Mathlib.Decide.{decLt}
@@ -11,18 +10,18 @@ use Rattle.rows.proofs.Bools.{or-out, or-right}
 use Rattle.rows.specs.Lists.{In}
 use Rattle.consistency.proofs.Core.{Trace, plain, Ok, none, next}
 
--- a row before a list, where a test of it passed
+-- A row before a list, where a test of the row passed.
 abbrev pub keep : Bool → ℕ → List ℕ → List ℕ
 keep true k l = k ∷ l
 keep false k l = l
 
--- the numbers below n that pass, the largest first
+-- The numbers below n that pass, the largest first.
 unfoldable pub select : (ℕ → Bool) → ℕ → List ℕ
 select test zero = []
 select test (suc n) = keep (test n) n (select test n)
 
 module _ (test : ℕ → Bool) where
-  -- what passes below n is selected
+  -- A number below n that passes is selected.
   pub select-in : (n k : ℕ) → k < n → test k ≡ true → In k (select test n)
   unfolding select
   select-in zero k l e = absurd (omega arith)
@@ -34,7 +33,7 @@ module _ (test : ℕ → Bool) where
       go false q (yes a) rest = rest a e
       go false q (no a) rest = let s : n ≡ k = omega arith in absurd (false≢true (sym q ∙ (ap test s ∙ e)))
 
-  -- what is selected is below n and passes
+  -- A selected number is below n and passes.
   pub select-out : (n k : ℕ) → In k (select test n) → (k < n) × (test k ≡ true)
   unfolding select
   select-out zero k m = absurd m
@@ -49,7 +48,7 @@ module _ (test : ℕ → Bool) where
       go true q (inr m) rest = wider (rest m)
       go false q m rest = wider (rest m)
 
-  -- the largest number that passes is the first
+  -- The largest number that passes is the first.
   pub select-top : (y n : ℕ) → y < n → test y ≡ true → ((k : ℕ) → test k ≡ true → k ≤ y) → select test n ≡ y ∷ select test y
   unfolding select
   select-top y zero l e most = absurd (omega arith)
@@ -64,11 +63,11 @@ module _ (test : ℕ → Bool) where
       go false q (no a) rest = let s : n ≡ y = omega arith in absurd (false≢true (sym q ∙ (ap test s ∙ e)))
 
 module _ (t : Trace) where
-  -- with every row that passes its direct predecessors pass
+  -- With every row that passes its direct predecessors pass.
   abbrev pub Closed : (ℕ → Bool) → Type 0
   Closed test = (i j : ℕ) → t .edge i j ≡ true → test j ≡ true → test i ≡ true
 
-  -- so with one of two tests
+  -- Where two tests are closed, passing one of the two is.
   pub closed-or : (f g : ℕ → Bool) → Closed f → Closed g → Closed (λ k. f k || g k)
   closed-or f g c d i j a e = go (or-out (f j) (g j) e)
     where
@@ -77,11 +76,11 @@ module _ (t : Trace) where
       go (inr b) = or-right (f i) (g i) (d i j a b)
 
   module _ (test : ℕ → Bool) where
-    -- the bound is not selected
+    -- The bound is not selected.
     select-new : (n : ℕ) → In n (select test n) → ⊥
     select-new n m = let r = select-out test n n m in omega arith
 
-    -- what is selected so is an allowed order
+    -- The rows that a closed test selects are an allowed order.
     pub select-ok : Closed test → (n : ℕ) → n ≤ t .rows → Ok t (select test n)
     unfolding select
     select-ok c zero l = none
@@ -91,12 +90,12 @@ module _ (t : Trace) where
         go true q o = next l (select-new n) (λ k a. select-in test n k (t .forward k n a) (c k n a q)) o
         go false q o = o
 
-    -- what the plain byte says of the selected rows: none writes, or which one is the last that does
+    -- What the plain byte says of the selected rows: none writes, or which one is the last that does.
     abbrev pub Latest : ℕ → ℕ → Type 0
     Latest n zero = (k : ℕ) → k < n → test k ≡ true → t .writes k ≡ true → ⊥
     Latest n (suc w) = (w < n) × (test w ≡ true) × (t .writes w ≡ true) × ((k : ℕ) → k < n → test k ≡ true → t .writes k ≡ true → k ≤ w)
 
-    -- one more row, which is not selected or does not write
+    -- One more row, which is not selected or does not write, leaves the last write.
     latest-more : (n v : ℕ) → (test n ≡ true → t .writes n ≡ true → ⊥) → Latest n v → Latest (suc n) v
     latest-more n v f r = go v r
       where
@@ -111,7 +110,7 @@ module _ (t : Trace) where
         go zero r = λ k l e a. r k (under k l e a) e a
         go (suc w) r = (omega arith, r .1, r .2, λ k l e a. r .3 k (under k l e a) e a)
 
-    -- it says so
+    -- The plain byte says which selected row is the last that writes.
     pub plain-latest : (n : ℕ) → Latest n (plain t (select test n))
     unfolding select plain
     plain-latest zero = λ k l e a. omega arith

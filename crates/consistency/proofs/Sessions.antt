@@ -27,7 +27,7 @@ use Rattle.machine_meaning.specs.Layers.{Layers, fresh, nothing, ofFile}
 use Rattle.machine_meaning.specs.States.{Header}
 use Rattle.consistency.specs.Orders.{Allowed}
 use Rattle.rows.specs.Lists.{In}
-use Rattle.consistency.specs.Files.{Numbered, rowsFor, End, endRows, processesOf, ByAll, SpaceFor, headerFor, EqualWith}
+use Rattle.consistency.specs.Files.{NumberedRow, rowsFor, End, endRows, processesOf, ByAll, SpaceFor, headerFor, EqualWith}
 use Rattle.consistency.proofs.Byte.{Byte, stepByte}
 use Rattle.consistency.proofs.Core.{Trace, run, plain, Ok, none, next, publishAll}
 use Rattle.consistency.proofs.Freedom.{row-of, published-plain}
@@ -55,7 +55,7 @@ sText =
     ++ ((49 ∷ 44 ∷ 119 ∷ 114 ∷ 105 ∷ 116 ∷ 101 ∷ 44 ∷ 49 ∷ 44 ∷ 48 ∷ 44 ∷ 49 ∷ 44 ∷ 13 ∷ 10 ∷ [])
     ++ (49 ∷ 44 ∷ 99 ∷ 108 ∷ 111 ∷ 115 ∷ 101 ∷ 44 ∷ 49 ∷ 44 ∷ 44 ∷ 44 ∷ 13 ∷ 10 ∷ [])))))
 
--- it races under session, yet no order shows a difference, with closes at the end
+-- The trace races under session, yet no order shows a difference, with closes at the end.
 pub record SessionRace : Type 0 where
   pub taken : checkTrace sText 0 SESSION 6 2 8192 36 12 ≡ accepted sRows
   pub judged : verdictOf sRows SESSION ≡ racing 1 5
@@ -63,34 +63,34 @@ pub record SessionRace : Type 0 where
 
 -- ---- From the text to the verdict
 
--- the text is read as these rows
+-- The text is read as these rows.
 s-taken : checkTrace sText 0 SESSION 6 2 8192 36 12 ≡ accepted sRows
 unfolding records recordsFrom onFound readAt fieldsFrom onStop prepend fieldAt afterCR stopOf textLength isText contentOf sameBytes wordOf usedBy
     allDigits startsPlain valueFrom rowOf firstNo callQuestions filledAsUsed numbersInRange any messageInOrder fieldQuestions rowQuestions judgeRows
     readTrace checkTrace
 s-taken = refl
 
--- rows 1 and 5 race
+-- Rows 1 and 5 race.
 s-judged : verdictOf sRows SESSION ≡ racing 1 5
 unfolding anyBelow edge shareByte conflict chainSession chain synchronized race leastFrom verdictOf
 s-judged = refl
 
--- ---- With commits for its closes it is free under commit
+-- ---- The trace with commits for its closes is free under commit
 
--- the rows with commits for closes
+-- The rows with commits for closes.
 abbrev cRows : List Row
 cRows =
     row 0 WRITE 1 0 1 0
     ∷ (row 0 COMMIT 1 0 0 0 ∷ (row 0 SEND 0 0 0 7 ∷ (row 1 RECV 0 0 0 7 ∷ (row 1 WRITE 1 0 1 0 ∷ (row 1 COMMIT 1 0 0 0 ∷ [])))))
 
--- they are free
+-- The rows with commits for closes are free under commit.
 c-judged : verdictOf cRows COMMIT-MODEL ≡ free
 unfolding anyBelow edge hbWithin shareByte conflict chainCommit chain synchronized race leastFrom verdictOf
 c-judged = refl
 
--- ---- And every byte sees both alike
+-- ---- Every byte sees both traces alike
 
--- what a byte of a file and the edges see of a row under a model
+-- What a byte of a file and the edges see of a row under a model.
 record Seen : Type 0 where
   process : ℕ
   message : ℕ
@@ -113,14 +113,14 @@ seen model file b r =
     }
 
 module _ (file b : ℕ) where
-  -- the rows, and those with commits
+  -- The rows, and the rows with commits.
   abbrev t : Trace
   t = byteTrace sRows SESSION file b
 
   abbrev u : Trace
   u = byteTrace cRows COMMIT-MODEL file b
 
-  -- each row is seen alike, does not read, and is of process 0 or 1
+  -- Each row is seen alike, does not read, and is of process 0 or 1.
   alike : (k : ℕ) → k < 6 →
       (seen SESSION file b (rowAt sRows k) ≡ seen COMMIT-MODEL file b (rowAt cRows k)) × (t .reads k ≡ false) × (u .process k < 2)
   unfolding publishes refreshes
@@ -132,7 +132,7 @@ module _ (file b : ℕ) where
   alike (suc (suc (suc (suc (suc zero))))) l = (refl, refl, omega arith)
   alike (suc (suc (suc (suc (suc (suc k)))))) l = absurd (omega arith)
 
-  -- so an edge between those with commits is one between the rows
+  -- An edge between rows with commits is one between the rows.
   edge-alike : (k y : ℕ) → y < 6 → edge cRows k y ≡ true → edge sRows k y ≡ true
   unfolding edge
   edge-alike k y l e =
@@ -143,7 +143,7 @@ module _ (file b : ℕ) where
       && (ltb y 6 && (eqb (p i .process) (q i .process) || (p i .sends && (q i .receives && eqb (p i .message) (q i .message))))))
       ∙ e
 
-  -- so an allowed order of the rows is one of those, and leaves the same
+  -- An allowed order of the rows is one of the rows with commits, and leaves the same files.
   run-alike : {h : List ℕ} → Ok t h → Ok u h × (run t h ≡ run u h) × (plain t h ≡ plain u h)
   unfolding run plain
   run-alike none = (none, refl, refl)
@@ -155,7 +155,7 @@ module _ (file b : ℕ) where
         (λ i. cond (e i .writes) (suc y) (w .2 i)),
       )
 
-  -- after a publishing by both processes the published byte is the plain one
+  -- After both processes have published, the published byte is the plain one.
   published-last : {h : List ℕ} → Ok t h → (ps : List ℕ) → ((p : ℕ) → p < 2 → In p ps) → publishAll ps (run t h) .published ≡ plain t h
   published-last {h} ok ps m =
       let w = run-alike ok in
@@ -164,29 +164,29 @@ module _ (file b : ℕ) where
       (λ k i. m (u .process k) (alike k (row-of u (w .0) k i) .2))
       ∙ sym (w .2)
 
--- ---- So no order shows a difference
+-- ---- No order shows a difference
 
--- what stands in the middle of a list stands in it
+-- A number in the middle of a list stands in the list.
 in-middle : (y : ℕ) (l m : List ℕ) → In y (l ++ (y ∷ m))
 in-middle y [] m = inl refl
 in-middle y (x ∷ l) m = inr (in-middle y l m)
 
 module _ (space file : ℕ) (f : file < FILES) (order : List ℕ) (allowed : Allowed sRows order) (ends : List End) (all : ByAll 2 ends) where
-  -- the header, the rows in this order, the closes at the end
+  -- The header, the rows in this order, the closes at the end.
   abbrev h : Header
   h = headerFor SESSION 2 space file
 
-  abbrev l : List Numbered
+  abbrev l : List NumberedRow
   l = rowsFor sRows file order
 
-  abbrev final : List Numbered
+  abbrev final : List NumberedRow
   final = endRows CLOSE file ends
 
-  -- the header passes the questions of making
+  -- The header passes the questions of making.
   made : Made h
   made = record { is-model = omega arith; some-process = omega arith; few-processes = omega arith; is-file = f }
 
-  -- the rows and the closes pass those before 16
+  -- The rows and the closes pass the questions before 16.
   whole-fits : AllFit h (pointsOf sRows) (l ++ final)
   whole-fits =
       let s = sound-trace sText 0 SESSION 6 2 8192 36 12 sRows s-taken in
@@ -195,7 +195,7 @@ module _ (space file : ℕ) (f : file < FILES) (order : List ℕ) (allowed : All
       (ends-fit sRows 2 (s .0) (s .1) (s .2) (s .3) SESSION space file (omega arith) f CLOSE (omega arith) refl (λ q. absurd (omega (arith, q))) ends
       (λ p i. all .every p .1 i) (all .numbered))
 
-  -- there are no reads
+  -- No row of the run reads.
   whole-reads : ReadsSame SESSION (l ++ final) fresh nothing
   whole-reads =
       reads-append SESSION l final fresh nothing
@@ -205,7 +205,7 @@ module _ (space file : ℕ) (f : file < FILES) (order : List ℕ) (allowed : All
       absurd (false≢true (sym (alike file b y (allowed .of-trace y i) .1) ∙ r))))
       (ends-read CLOSE SESSION file ends (λ q. absurd (omega (arith, q))) _ _)
 
-  -- what the published file holds at the end is what the plain file holds
+  -- At the end the published file holds what the plain file holds.
   whole-level : (b : ℕ) → numberIn (layersRun SESSION (l ++ final) fresh .shared b) ≡ numberIn (plainRun (l ++ final) nothing b)
   unfolding publishes refreshes
   whole-level b =
@@ -216,7 +216,7 @@ module _ (space file : ℕ) (f : file < FILES) (order : List ℕ) (allowed : All
       ∙ sym (plain-at sRows SESSION file b order)
       ∙ ap (λ (g : ℕ → ℕ). numberIn (g b)) (sym (plain-append l final nothing ∙ ends-plain CLOSE file ends n (plainRun l nothing)))
 
--- the layered file and the plain file are equal
+-- The layered file and the plain file are equal.
 equal-always : (space : ℕ) → SpaceFor sRows space → EqualWith CLOSE SESSION 2 space sRows
 equal-always space room file f order allowed ends all xs ys out lent =
     let rows = rowsFor sRows file order ++ endRows CLOSE file ends in
@@ -227,6 +227,6 @@ equal-always space room file f order allowed ends all xs ys out lent =
       level-iff m enough lent rows fit .1 (λ b _. whole-level space file f order allowed ends all b),
     )
 
--- the trace whose race no order shows
+-- The trace whose race no order shows.
 pub session-race : SessionRace
 session-race = record { taken = s-taken; judged = s-judged; equal = equal-always }

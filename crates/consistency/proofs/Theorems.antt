@@ -1,4 +1,4 @@
--- Demands 2 and 3 about whole runs.
+-- Demands 2 and 3 about whole runs of the layered and the plain file.
 use Prim.Native.Nat.{ℕ, zero, suc, _+_, _*_, _≤_, _<_}
 use native.Mathlib.Omega.{arith}
 use mathlib.Core.Path.{_≡_, refl, sym, ap, subst, _∙_}
@@ -26,7 +26,7 @@ use Rattle.machine_meaning.specs.States.{Header, mapsLength}
 use Rattle.machine_meaning.specs.Steps.{usesRange}
 use Rattle.consistency.specs.Orders.{Allowed}
 use Rattle.rows.specs.Lists.{In}
-use Rattle.consistency.specs.Files.{Numbered, rowsFor, End, endRows, processesOf, NumbersIn, ByAll, writesIn, SpaceFor, headerFor, Lent, ReadsPlain, Equal}
+use Rattle.consistency.specs.Files.{NumberedRow, rowsFor, End, endRows, processesOf, NumbersIn, ByAll, writesIn, SpaceFor, headerFor, Lent, ReadsPlain, Equal}
 use Rattle.consistency.proofs.Core.{run, plain, Ok, Shown, by-read, at-end, publishAll}
 use Rattle.consistency.proofs.Freedom.{row-of, reads-plain, published-plain}
 use Rattle.consistency.proofs.Witness.{race-shown}
@@ -41,7 +41,7 @@ unfoldable pub pointsOf : List Row → List ℕ
 pointsOf [] = []
 pointsOf (r ∷ rows) = cond (eqb (r .kind) WRITE) (r .offset ∷ ((r .offset + r .length) ∷ pointsOf rows)) (pointsOf rows)
 
--- two for each write
+-- Each write has two points.
 pub points-length : (rows : List Row) → length (pointsOf rows) ≤ 2 * writesIn rows
 unfolding pointsOf writesIn
 points-length [] = omega arith
@@ -52,11 +52,11 @@ points-length (r ∷ rows) = go (eqb (r .kind) WRITE) (points-length rows)
     go true h = omega arith
     go false h = omega arith
 
--- so maps that have space for twice the writes have space for a run from each point
+-- Maps that have space for twice the writes have space for a run from each point.
 pub points-enough : (h : Header) (rows : List Row) → SpaceFor rows (h .space) → Enough h rows (pointsOf rows)
 points-enough h rows room = record { few = points-length rows; room = room }
 
--- both ends of a write are among them
+-- Both ends of a write are points.
 points-in : (rows : List Row) (k : ℕ) → k < length rows → rowAt rows k .kind ≡ WRITE →
     In (rowAt rows k .offset) (pointsOf rows) × In (rowAt rows k .offset + rowAt rows k .length) (pointsOf rows)
 unfolding pointsOf
@@ -70,7 +70,7 @@ points-in (r ∷ rows) (suc k) h e = go (eqb (r .kind) WRITE) (points-in rows k 
     go true i = (inr (inr (i .0)), inr (inr (i .1)))
     go false i = i
 
--- a byte of a range lies below its end
+-- A byte of a range lies below its end.
 range-end : (s n b : ℕ) → inRange s n b ≡ true → b < s + n
 range-end s n b e = ltb-true b (s + n) (and-out (leb s b) (ltb b (s + n)) e .1)
 
@@ -79,8 +79,8 @@ range-end s n b e = ltb-true b (s + n) (and-out (leb s b) (ltb b (s + n)) e .1)
 last-first : (l : List ℕ) (y : ℕ) → reverse (l ++ (y ∷ [])) ≡ y ∷ reverse l
 last-first l y = reverse-append l (y ∷ [])
 
--- rows of two parts pass where both do
-pub fit-append : (h : Header) (points : List ℕ) (l m : List Numbered) → AllFit h points l → AllFit h points m → AllFit h points (l ++ m)
+-- Rows of two parts pass where both parts do.
+pub fit-append : (h : Header) (points : List ℕ) (l m : List NumberedRow) → AllFit h points l → AllFit h points m → AllFit h points (l ++ m)
 fit-append h points [] m a b = b
 fit-append h points (x ∷ l) m a b = (a .0, fit-append h points l m (a .1) b)
 
@@ -97,7 +97,7 @@ module _ (rows : List Row) (P : ℕ) (sound : Sound P rows) (few : length rows �
     made : Made h
     made = record { is-model = m; some-process = some; few-processes = most; is-file = f }
 
-    -- every row of an order passes the questions before 16
+    -- Every row of an order passes the questions before 16.
     pub order-fits : (order : List ℕ) → ((k : ℕ) → In k order → k < length rows) → AllFit h (pointsOf rows) (rowsFor rows file order)
     unfolding rowsFor
     order-fits [] i = tt
@@ -119,7 +119,7 @@ module _ (rows : List Row) (P : ℕ) (sound : Sound P rows) (few : length rows �
             )
         go false e rest = rest
 
-    -- and so does a row of another kind at the end
+    -- A row that ends a process's run passes the questions before 16.
     pub ends-fit : (kind : ℕ) → kind < SEND →
         (usesRange (record { process = 0; kind = kind; file = file; offset = 0; length = 0; message = 0 }) ≡ false) → (kind ≡ WRITE → ⊥) →
         (ends : List End) → ((p : ℕ) → In p (processesOf ends) → p < P) → NumbersIn ends → AllFit h (pointsOf rows) (endRows kind file ends)
@@ -137,7 +137,7 @@ module _ (rows : List Row) (P : ℕ) (sound : Sound P rows) (few : length rows �
       ends-fit kind s u w ends (λ p q. i p (inr q)) (n .2),
     )
 
-  -- where the trace is free every read of every allowed order finds the plain file's numbers
+  -- Where the trace is free every read of every allowed order finds the plain file's numbers.
   reads-free : (model : ℕ) → model < MODELS → verdictOf rows model ≡ free → (file : ℕ) (order : List ℕ) → Allowed rows order →
       ReadsSame model (rowsFor rows file order) fresh nothing
   reads-free model m e file order allowed =
@@ -147,7 +147,7 @@ module _ (rows : List Row) (P : ℕ) (sound : Sound P rows) (few : length rows �
       let ok = subst (Ok (byteTrace rows model file b)) (last-first first y) (allowed-ok rows model file b (first ++ (y ∷ [])) a) in
       reads-plain (byteTrace rows model file b) (free-at rows model m e file b) y (reverse first) ok r)
 
-  -- demand 2: a trace that is free under its model
+  -- Demand 2 for the rows of a trace that is free under a model.
   pub free-reads : (model : ℕ) → model < MODELS → verdictOf rows model ≡ free → (space : ℕ) → SpaceFor rows space → ReadsPlain model P space rows
   free-reads model m e space room file f order allowed xs ys out lent =
       agree-iff (made model space file m f) (points-enough (h model space file m f) rows room) lent (rowsFor rows file order)
@@ -156,13 +156,13 @@ module _ (rows : List Row) (P : ℕ) (sound : Sound P rows) (few : length rows �
   -- ---- Commit
 
   module _ (file : ℕ) (f : file < FILES) (order : List ℕ) (allowed : Allowed rows order) (ends : List End) (all : ByAll P ends) where
-    abbrev l : List Numbered
+    abbrev l : List NumberedRow
     l = rowsFor rows file order
 
-    abbrev final : List Numbered
+    abbrev final : List NumberedRow
     final = endRows COMMIT file ends
 
-    -- the rows of a whole run pass the questions before 16
+    -- The rows of a whole run pass the questions before 16.
     whole-fits : (space : ℕ) → AllFit (headerFor COMMIT-MODEL P space file) (pointsOf rows) (l ++ final)
     whole-fits space =
         fit-append (headerFor COMMIT-MODEL P space file) (pointsOf rows) l final
@@ -170,7 +170,7 @@ module _ (rows : List Row) (P : ℕ) (sound : Sound P rows) (few : length rows �
         (ends-fit COMMIT-MODEL space file (omega arith) f COMMIT (omega arith) refl (λ q. absurd (omega (arith, q))) ends (λ p i. all .every p .1 i)
         (all .numbered))
 
-    -- what the published file and the plain file hold at the end of a run
+    -- What the published file holds at the end of a run.
     published-end : (b : ℕ) → numberIn (layersRun COMMIT-MODEL (l ++ final) fresh .shared b)
         ≡ publishAll (processesOf ends) (run (byteTrace rows COMMIT-MODEL file b) (reverse order)) .published
     published-end b =
@@ -183,7 +183,7 @@ module _ (rows : List Row) (P : ℕ) (sound : Sound P rows) (few : length rows �
         ap (λ (g : ℕ → ℕ). numberIn (g b)) (plain-append l final nothing ∙ ends-plain COMMIT file ends (λ q. absurd (omega (arith, q))) (plainRun l nothing))
         ∙ plain-at rows COMMIT-MODEL file b order
 
-  -- a free trace has equal files
+  -- A free trace has equal files.
   free-equal : verdictOf rows COMMIT-MODEL ≡ free → (space : ℕ) → SpaceFor rows space → Equal P space rows
   free-equal e space room file f order allowed ends all xs ys out lent =
       let fit = whole-fits file f order allowed ends all space in
@@ -205,7 +205,7 @@ module _ (rows : List Row) (P : ℕ) (sound : Sound P rows) (few : length rows �
           published-plain t (free-at rows COMMIT-MODEL (omega arith) e file b) (reverse order) ok (processesOf ends)
           (λ k i. all .every (rowAt rows k .process) .0 (well k (row-of t ok k i) .process))
 
-  -- slices with room
+  -- Slices of zeros have room.
   zeros : (g : Header) → Lent g rows (replicate (mapsLength g) 0) (replicate (4 * g .space) 0) (replicate (3 * (2 * writesIn rows + 1)) 0)
   zeros g =
       record {
@@ -219,10 +219,10 @@ module _ (rows : List Row) (P : ℕ) (sound : Sound P rows) (few : length rows �
     abbrev g : Header
     g = headerFor COMMIT-MODEL P space file
 
-    abbrev whole : List Numbered
+    abbrev whole : List NumberedRow
     whole = rowsFor rows file order ++ endRows COMMIT file ends
 
-    -- equal files: every read of the order finds the plain file's numbers
+    -- Where the files are equal, every read of the order finds the plain file's numbers.
     equal-reads : ReadsSame COMMIT-MODEL (rowsFor rows file order) fresh nothing
     equal-reads =
         reads-first COMMIT-MODEL (rowsFor rows file order) (endRows COMMIT file ends) fresh nothing
@@ -230,7 +230,7 @@ module _ (rows : List Row) (P : ℕ) (sound : Sound P rows) (few : length rows �
         (whole-fits file f order allowed ends all space) .0
         (equal file f order allowed ends all _ _ _ (zeros g) .0))
 
-    -- and at the end each published byte is the plain one
+    -- Where the files are equal, at the end each published byte is the plain one.
     equal-end : (b : ℕ) → b < OFFSET-MAX → publishAll (processesOf ends) (run (byteTrace rows COMMIT-MODEL file b) (reverse order)) .published
         ≡ plain (byteTrace rows COMMIT-MODEL file b) (reverse order)
     equal-end b lb =
@@ -240,7 +240,7 @@ module _ (rows : List Row) (P : ℕ) (sound : Sound P rows) (few : length rows �
         (equal file f order allowed ends all _ _ _ (zeros g) .1) b lb
         ∙ plain-end file f order allowed ends all b
 
-  -- what an order shows at a byte is no equality
+  -- Where an order shows a difference at a byte, the files are not equal.
   not-shown : (space : ℕ) → SpaceFor rows space → Equal P space rows → (file b : ℕ) → file < FILES → b < OFFSET-MAX → (h : List ℕ) →
       Ok (byteTrace rows COMMIT-MODEL file b) h → Shown (byteTrace rows COMMIT-MODEL file b) h → ⊥
   not-shown space room equal file b f lb h ok (by-read y l q r n) =
@@ -264,7 +264,7 @@ module _ (rows : List Row) (P : ℕ) (sound : Sound P rows) (few : length rows �
       (subst (λ (z : List ℕ). publishAll z (run t h) .published ≡ plain t h) (a .3)
       (subst (λ (z : List ℕ). publishAll (processesOf (a .1)) (run t z) .published ≡ plain t z) (reverse-reverse h) end))
 
-  -- equal files are those of a free trace
+  -- Equal files are those of a free trace.
   equal-free : (space : ℕ) → SpaceFor rows space → Equal P space rows → verdictOf rows COMMIT-MODEL ≡ free
   equal-free space room equal = free-iff rows COMMIT-MODEL .1 no-race
     where
@@ -283,7 +283,7 @@ module _ (rows : List Row) (P : ℕ) (sound : Sound P rows) (few : length rows �
 
   -- ---- Orders alone
 
-  -- an order of a free trace shows nothing
+  -- An order of a free trace shows nothing.
   free-unshown : verdictOf rows COMMIT-MODEL ≡ free → (file b : ℕ) (h : List ℕ) → Ok (byteTrace rows COMMIT-MODEL file b) h →
       Shown (byteTrace rows COMMIT-MODEL file b) h → ⊥
   free-unshown e file b h ok (by-read y l q r n) =
@@ -299,8 +299,8 @@ module _ (rows : List Row) (P : ℕ) (sound : Sound P rows) (few : length rows �
       (published-plain t (free-at rows COMMIT-MODEL (omega arith) e file b) h ok (processesOf (a .1))
       (λ j m. a .2 .every (rowAt rows j .process) .0 (well j (row-of t ok j m) .process))))
 
-  -- The trace is free under commit exactly when no allowed order of any closed set shows a difference at any byte. Orders are all that is asked,
-  -- so it does not matter which of them was recorded.
+  -- The trace is free under commit exactly when no allowed order of any closed set shows a difference at any byte. Which of the orders was
+  -- recorded does not matter.
   pub free-by-orders : (verdictOf rows COMMIT-MODEL ≡ free)
       ↔ ((file b : ℕ) (h : List ℕ) → Ok (byteTrace rows COMMIT-MODEL file b) h → Shown (byteTrace rows COMMIT-MODEL file b) h → ⊥)
   free-by-orders = (
@@ -333,7 +333,7 @@ module _ (text : List ℕ) (header model R P limit a b : ℕ) (rows : List Row) 
       let s = sound-trace in
       (λ e. free-equal rows P (s .0) (s .1) (s .2) (s .3) e space room, equal-free rows P (s .0) (s .1) (s .2) (s .3) space room)
 
-  -- both in maps with space for exactly twice the trace's writes
+  -- Demand 2 in maps with space for exactly twice the trace's writes.
   pub demand-2-exactly : (m : ℕ) → m < MODELS → verdictOf rows m ≡ free → ReadsPlain m P (2 * writesIn rows) rows
   demand-2-exactly m h e = demand-2 m h e (2 * writesIn rows) (omega arith)
 

@@ -18,19 +18,19 @@ use Rattle.consistency.proofs.Selections.{select, select-in, select-out
 -- ---- The order that shows a race, as a list with its latest row first
 
 module _ (t : Trace) where
-  -- a row is or happens before x or y
+  -- A row is x or y or happens before one of them.
   abbrev pub eitherUpTo : ℕ → ℕ → ℕ → Bool
   eitherUpTo x y k = upTo (t .edge) k x || upTo (t .edge) k y
 
-  -- the same of the rows but x, where x does not happen before y
+  -- A row happens before x, or is y or happens before y. Row x is none of these where x does not happen before y.
   abbrev pub otherUpTo : ℕ → ℕ → ℕ → Bool
   otherUpTo x y k = hb (t .edge) k x || upTo (t .edge) k y
 
-  -- the rows that are or happen before x or y, in trace order
+  -- The rows up to x or y, in trace order.
   abbrev pub inTurn : ℕ → ℕ → List ℕ
   inTurn x y = select (eitherUpTo x y) (t .rows)
 
-  -- the same rows, x put last
+  -- The rows up to x or y, with x put last.
   abbrev pub putLast : ℕ → ℕ → List ℕ
   putLast x y = x ∷ select (otherUpTo x y) (t .rows)
 
@@ -39,13 +39,13 @@ module _ (t : Trace) where
   inTurnFor x y zero = inTurn x y
   inTurnFor x y (suc w) = cond (eqb (t .process w) (t .process x)) (inTurn x y) (inTurn x w)
 
-  -- the order that shows a race of x and y
+  -- The order that shows a race of x and y.
   unfoldable pub witness : ℕ → ℕ → List ℕ
   witness x y = cond (t .writes x) (cond (t .writes y) (inTurn x y) (inTurnFor x y (plain t (inTurn x y)))) (putLast x y)
 
-  -- ---- It is allowed
+  -- ---- The order is allowed
 
-  -- a row is or happens before another
+  -- A row is another or happens before it.
   upTo-iff : (k y : ℕ) → (upTo (t .edge) k y ≡ true) ↔ ((k ≡ y) ⊎ HB (t .edge) k y)
   upTo-iff k y = (λ e. there (or-out (eqb k y) (hb (t .edge) k y) e), back)
     where
@@ -57,7 +57,7 @@ module _ (t : Trace) where
       back (inl e) = rw (eq-eqb k y e)
       back (inr b) = or-right (eqb k y) (hb (t .edge) k y) (hb-iff (t .forward) k y .1 b)
 
-  -- what is or happens before y is no later
+  -- A row up to y is no later than y.
   upTo-most : (k y : ℕ) → upTo (t .edge) k y ≡ true → k ≤ y
   upTo-most k y e = go (upTo-iff k y .0 e)
     where
@@ -65,15 +65,15 @@ module _ (t : Trace) where
       go (inl q) = omega arith
       go (inr b) = omega (arith, HB-less (t .forward) b)
 
-  -- a row is up to itself
+  -- A row is up to itself.
   upTo-self : (y : ℕ) → upTo (t .edge) y y ≡ true
   upTo-self y = upTo-iff y y .1 (inl refl)
 
-  -- what happens before y passes with its direct predecessors
+  -- The rows that happen before y are closed under direct predecessors.
   closed-hb : (y : ℕ) → Closed t (λ k. hb (t .edge) k y)
   closed-hb y i j a e = hb-iff (t .forward) i y .1 (HB-trans (one a) (hb-iff (t .forward) j y .0 e))
 
-  -- and so does what is up to y
+  -- The rows up to y are closed under direct predecessors.
   closed-upTo : (y : ℕ) → Closed t (λ k. upTo (t .edge) k y)
   closed-upTo y i j a e = upTo-iff i y .1 (inr (go (upTo-iff j y .0 e)))
     where
@@ -81,19 +81,19 @@ module _ (t : Trace) where
       go (inl q) = one (rw q at a)
       go (inr b) = HB-trans (one a) b
 
-  -- the first of the rows in turn are an allowed order
+  -- The first of the rows in turn are an allowed order.
   first-ok : (x y n : ℕ) → n ≤ t .rows → Ok t (select (eitherUpTo x y) n)
   first-ok x y = select-ok t (eitherUpTo x y) (closed-or t _ _ (closed-upTo x) (closed-upTo y))
 
-  -- all of them are
+  -- All rows in turn are an allowed order.
   in-turn-ok : (x y : ℕ) → Ok t (inTurn x y)
   in-turn-ok x y = first-ok x y (t .rows) (omega arith)
 
-  -- and so are those without x
+  -- The rows in turn without x are an allowed order.
   others-ok : (x y : ℕ) → Ok t (select (otherUpTo x y) (t .rows))
   others-ok x y = select-ok t (otherUpTo x y) (closed-or t _ _ (closed-hb x) (closed-upTo y)) (t .rows) (omega arith)
 
-  -- x is not one of those
+  -- Row x is not among the rows in turn without x.
   others-new : (x y : ℕ) → x < y → (HB (t .edge) x y → ⊥) → In x (select (otherUpTo x y) (t .rows)) → ⊥
   others-new x y l n m = go (or-out (hb (t .edge) x x) _ (select-out (otherUpTo x y) (t .rows) x m .1))
     where
@@ -105,13 +105,13 @@ module _ (t : Trace) where
       go (inl e) = let b = HB-less (t .forward) (hb-iff (t .forward) x x .0 e) in omega arith
       go (inr e) = same (upTo-iff x y .0 e)
 
-  -- its direct predecessors are
+  -- The direct predecessors of x are among the rows in turn without x.
   others-before : (x y : ℕ) → x < t .rows → (k : ℕ) → t .edge k x ≡ true → In k (select (otherUpTo x y) (t .rows))
   others-before x y b k a =
       let l : k < t .rows = omega (arith, t .forward k x a) in
       select-in (otherUpTo x y) (t .rows) k l (rw (hb-iff (t .forward) k x .1 (one a)))
 
-  -- the rows with x last are an allowed order
+  -- The rows with x last are an allowed order.
   put-last-ok : (x y : ℕ) → x < y → y < t .rows → (HB (t .edge) x y → ⊥) → Ok t (putLast x y)
   put-last-ok x y l b n =
       let c : x < t .rows = omega arith in
@@ -119,7 +119,7 @@ module _ (t : Trace) where
 
   -- ---- Its rows
 
-  -- in turn, no row is later than y
+  -- In turn, no row is later than y.
   either-most : (x y : ℕ) → x < y → (k : ℕ) → eitherUpTo x y k ≡ true → k ≤ y
   either-most x y l k e = go (or-out (upTo (t .edge) k x) (upTo (t .edge) k y) e)
     where
@@ -127,7 +127,7 @@ module _ (t : Trace) where
       go (inl u) = omega (arith, upTo-most k x u)
       go (inr u) = upTo-most k y u
 
-  -- without x, none is either
+  -- Without x, none is either.
   other-most : (x y : ℕ) → x < y → (k : ℕ) → otherUpTo x y k ≡ true → k ≤ y
   other-most x y l k e = go (or-out (hb (t .edge) k x) (upTo (t .edge) k y) e)
     where
@@ -135,7 +135,7 @@ module _ (t : Trace) where
       go (inl u) = omega (arith, HB-less (t .forward) (hb-iff (t .forward) k x .0 u))
       go (inr u) = upTo-most k y u
 
-  -- in turn, a row after x is y or happens before it
+  -- In turn, a row after x is y or happens before it.
   after-x : (x y k : ℕ) → eitherUpTo x y k ≡ true → x < k → (k ≡ y) ⊎ HB (t .edge) k y
   after-x x y k e l = go (or-out (upTo (t .edge) k x) (upTo (t .edge) k y) e)
     where
@@ -143,21 +143,21 @@ module _ (t : Trace) where
       go (inl u) = absurd (omega (arith, upTo-most k x u))
       go (inr u) = upTo-iff k y .0 u
 
-  -- in turn, y is the last row
+  -- In turn, y is the last row.
   in-turn-top : (x y : ℕ) → x < y → y < t .rows → inTurn x y ≡ y ∷ select (eitherUpTo x y) y
   in-turn-top x y l b =
       select-top (eitherUpTo x y) y (t .rows) b (or-right (upTo (t .edge) y x) _ (upTo-self y)) (either-most x y l)
 
-  -- without x, it is too
+  -- Without x, it is too.
   others-top : (x y : ℕ) → x < y → y < t .rows → select (otherUpTo x y) (t .rows) ≡ y ∷ select (otherUpTo x y) y
   others-top x y l b = select-top (otherUpTo x y) y (t .rows) b (or-right (hb (t .edge) y x) _ (upTo-self y)) (other-most x y l)
 
-  -- the plain byte after a write
+  -- The plain byte after a write.
   plain-write : (y : ℕ) (l : List ℕ) → t .writes y ≡ true → plain t (y ∷ l) ≡ suc y
   unfolding plain
   plain-write y l e = rw e
 
-  -- the plain byte after any other row
+  -- The plain byte after any other row.
   plain-other : (y : ℕ) (l : List ℕ) → t .writes y ≡ false → plain t (y ∷ l) ≡ plain t l
   unfolding plain
   plain-other y l e = rw e
@@ -165,7 +165,7 @@ module _ (t : Trace) where
   -- ---- It shows the race
 
   module _ (commits : Commits t) (x y : ℕ) (l : x < y) (b : y < t .rows) (d : t .process x ≡ t .process y → ⊥) where
-    -- in turn, where the write x is not synchronized with y, no row of its process from x on is released
+    -- In turn, where the write x is not synchronized with y, no row of its process from x on is released.
     unreleased : t .writes x ≡ true → (Synchronized t x y → ⊥) → (n w : ℕ) → x ≤ w → t .process w ≡ t .process x →
         Released t (select (eitherUpTo x y) n) w → ⊥
     unreleased a s n w m q (c, i, f, p, e) = go (after-x x y c (select-out (eitherUpTo x y) n c i .1) g)
@@ -181,7 +181,7 @@ module _ (t : Trace) where
     x-in-turn : In x (inTurn x y)
     x-in-turn = let c : x < t .rows = omega arith in select-in (eitherUpTo x y) (t .rows) x c (rw (upTo-self x))
 
-    -- two writes: x's process, publishing last, puts its own write over y
+    -- Two writes: x's process, publishing last, puts its own write over y.
     shown-two-writes : t .writes x ≡ true → t .writes y ≡ true → (Synchronized t x y → ⊥) → Shown t (inTurn x y)
     shown-two-writes a g s = at-end (t .process x) x x-in-turn refl wrong
       where
@@ -199,7 +199,7 @@ module _ (t : Trace) where
             let q : r .0 ≡ y = omega arith in
             d (sym (r .2) ∙ ap (t .process) q)
 
-    -- a read y after a last write by x's process: it does not see that write
+    -- A read y after a last write by x's process: it does not see that write.
     shown-read : t .writes x ≡ true → t .reads y ≡ true → (Synchronized t x y → ⊥) → (w : ℕ) → plain t (inTurn x y) ≡ suc w → x ≤ w →
         t .process w ≡ t .process x → Shown t (inTurn x y)
     shown-read a r s w v m q =
@@ -213,7 +213,7 @@ module _ (t : Trace) where
         same : plain t (inTurn x y) ≡ plain t rest
         same = ap (plain t) (in-turn-top x y l b) ∙ plain-other y rest (t .one-kind y r)
 
-    -- a read x put last does not see the write y
+    -- A read x put last does not see the write y.
     shown-last : t .reads x ≡ true → t .writes y ≡ true → Shown t (putLast x y)
     shown-last r g =
         by-read x rest refl r
@@ -226,7 +226,7 @@ module _ (t : Trace) where
         early : Released t rest y → ⊥
         early (c, i, f, p, e) = omega (arith, other-most x y l c (select-out (otherUpTo x y) (t .rows) c i .1))
 
-  -- a write after x in turn is not synchronized with the write x where the read y is not
+  -- A write after x in turn is not synchronized with the write x where the read y is not.
   unsynchronized : (commits : Commits t) (x y w : ℕ) → t .writes x ≡ true → t .reads y ≡ true → (Synchronized t x y → ⊥) → x < w →
       t .writes w ≡ true → eitherUpTo x y w ≡ true → Synchronized t x w → ⊥
   unsynchronized commits x y w a r s l g e z = by-chain (before (after-x x y w e l)) z
@@ -240,7 +240,7 @@ module _ (t : Trace) where
       by-chain k (inl (_, (c, o, p, inr f, h))) = false≢true (sym (f .0) ∙ commits .every-read)
       by-chain k (inr (f, _)) = false≢true (sym (t .one-kind x f) ∙ a)
 
-  -- a write x and a read y, by the last write up to them
+  -- A write x and a read y, by the last write up to them.
   shown-for : (commits : Commits t) (x y : ℕ) → x < y → y < t .rows → (t .process x ≡ t .process y → ⊥) → t .writes x ≡ true →
       t .reads y ≡ true → (Synchronized t x y → ⊥) → (v : ℕ) → plain t (inTurn x y) ≡ v → Latest t (eitherUpTo x y) (t .rows) v →
       Ok t (inTurnFor x y v) × Shown t (inTurnFor x y v)
@@ -261,7 +261,7 @@ module _ (t : Trace) where
           (in-turn-ok x w, shown-two-writes commits x w (after n) f n a g (unsynchronized commits x y w a r s (after n) g u))
 
 module _ (t : Trace) (commits : Commits t) where
-  -- the order for an unsynchronized conflict is allowed and shows it
+  -- The order for an unsynchronized conflict is allowed and shows it.
   pub witness-shown : (x y : ℕ) → Conflict t x y → (Synchronized t x y → ⊥) → Ok t (witness t x y) × Shown t (witness t x y)
   unfolding witness
   witness-shown x y (l, b, d, inl (a, inl g)) s = rw (a, g) (in-turn-ok t x y, shown-two-writes t commits x y l b d a g s)
@@ -270,6 +270,6 @@ module _ (t : Trace) (commits : Commits t) where
   witness-shown x y (l, b, d, inr (r, g)) s =
       rw (t .one-kind x r) (put-last-ok t x y l b (λ h. s (inr (r, h))), shown-last t commits x y l b d r g)
 
-  -- every race is shown by an allowed order
+  -- Every race is shown by an allowed order.
   pub race-shown : (x y : ℕ) → Conflict t x y → (Synchronized t x y → ⊥) → (h : List ℕ) × Ok t h × Shown t h
   race-shown x y c s = let r = witness-shown x y c s in (witness t x y, r .0, r .1)

@@ -21,29 +21,29 @@ use Rattle.rows.specs.Lists.{In, Once}
 
 -- ---- What is put to both files
 
--- a row under its number
-pub record Numbered : Type 0 where
+-- A row under its number.
+pub record NumberedRow : Type 0 where
   pub row : Row
   pub number : ℕ
 
--- the file's rows in this order, each under its number in the trace; rows that name another file or none only bind the order
-unfoldable pub rowsFor : List Row → ℕ → List ℕ → List Numbered
+-- The file's rows in this order, each under its number in the trace; rows that name another file or none only bind the order.
+unfoldable pub rowsFor : List Row → ℕ → List ℕ → List NumberedRow
 rowsFor rows file [] = []
 rowsFor rows file (k ∷ order) =
     cond (ofFile file (rowAt rows k)) (record { row = rowAt rows k; number = suc k } ∷ rowsFor rows file order) (rowsFor rows file order)
 
--- a row of a kind of the file by a process, under any number
+-- A row of a kind of the file by a process, under any number.
 pub record End : Type 0 where
   pub process : ℕ
   pub number : ℕ
 
-unfoldable pub endRows : ℕ → ℕ → List End → List Numbered
+unfoldable pub endRows : ℕ → ℕ → List End → List NumberedRow
 endRows kind file [] = []
 endRows kind file (e ∷ ends) =
     record { row = record { process = e .process; kind = kind; file = file; offset = 0; length = 0; message = 0 }; number = e .number }
     ∷ endRows kind file ends
 
--- one by each process below the limit, in any sequence, under row numbers 1 to 4,096
+-- One by each process below the limit, in any sequence, under row numbers 1 to 4,096.
 unfoldable pub processesOf : List End → List ℕ
 processesOf [] = []
 processesOf (e ∷ ends) = e .process ∷ processesOf ends
@@ -59,7 +59,7 @@ pub record ByAll (processes : ℕ) (ends : List End) : Type 0 where
 
 -- ---- Runs: each row meets the state the row before it left
 
--- neither refuses, and both answer the same: for a read its count and pieces
+-- Neither refuses, and both answer the same: for a read its count and pieces.
 pub record Same (s t : Step) : Type 0 where
   pub accepted : (number : ℕ) → s .answer ≡ refusing number → ⊥
   pub plainly-accepted : (number : ℕ) → t .answer ≡ refusing number → ⊥
@@ -67,42 +67,42 @@ pub record Same (s t : Step) : Type 0 where
   pub pieces : s .out ≡ t .out
 
 module _ (h : Header) (out : List ℕ) where
-  -- every row gets the same from both, from the slices of the machine and of the plain file on
-  abbrev pub Agree : List Numbered → List ℕ → List ℕ → Type 0
+  -- Every row gets the same from both, from the slices of the machine and of the plain file on.
+  abbrev pub Agree : List NumberedRow → List ℕ → List ℕ → Type 0
   Agree [] xs ys = Unit {0}
   Agree (x ∷ l) xs ys =
       Same (stepOf h xs (x .row) (x .number) out) (plainStepOf h ys (x .row) (x .number) out)
       × Agree l (stepOf h xs (x .row) (x .number) out .maps) (plainStepOf h ys (x .row) (x .number) out .maps)
 
-  -- the slices after all rows
-  unfoldable pub runFrom : List Numbered → List ℕ → List ℕ
+  -- The slices after all rows.
+  unfoldable pub runFrom : List NumberedRow → List ℕ → List ℕ
   runFrom [] xs = xs
   runFrom (x ∷ l) xs = runFrom l (stepOf h xs (x .row) (x .number) out .maps)
 
-  unfoldable pub plainRunFrom : List Numbered → List ℕ → List ℕ
+  unfoldable pub plainRunFrom : List NumberedRow → List ℕ → List ℕ
   plainRunFrom [] ys = ys
   plainRunFrom (x ∷ l) ys = plainRunFrom l (plainStepOf h ys (x .row) (x .number) out .maps)
 
--- the published file has the plain file's row number at every byte
+-- The published file has the plain file's row number at every byte.
 abbrev pub Level : Header → List ℕ → List ℕ → Type 0
 Level h xs ys = (b : ℕ) → b < OFFSET-MAX → numberIn (layersIn h xs .shared b) ≡ numberIn (plainIn h ys b)
 
 -- ---- Equal files
 
--- how many rows write
+-- How many rows write.
 unfoldable pub writesIn : List Row → ℕ
 writesIn [] = 0
 writesIn (r ∷ rows) = cond (eqb (r .kind) WRITE) 1 0 + writesIn rows
 
--- maps of this space have space for twice the trace's writes
+-- Maps of this space have space for twice the trace's writes.
 abbrev pub SpaceFor : List Row → ℕ → Type 0
 SpaceFor rows space = 2 * writesIn rows ≤ space
 
--- a header by its numbers
+-- A header by its numbers.
 abbrev pub headerFor : ℕ → ℕ → ℕ → ℕ → Header
 headerFor model processes space file = record { model = model; processes = processes; file = file; space = space }
 
--- slices that hold the maps of both files, and an answer slice with room for one piece more than twice the trace's writes
+-- Slices that hold the maps of both files, and an answer slice with room for one piece more than twice the trace's writes.
 pub record Lent (h : Header) (rows : List Row) (xs ys out : List ℕ) : Type 0 where
   pub for-machine : mapsLength h ≤ length xs
   pub for-plain : 4 * h .space ≤ length ys
@@ -134,6 +134,6 @@ EqualWith kind model processes space rows =
     let l = rowsFor rows file order ++ endRows kind file ends in
     Agree h out l (freshMachine h xs) (freshPlain h ys) × Level h (runFrom h out l (freshMachine h xs)) (plainRunFrom h out l (freshPlain h ys))
 
--- demand 3: with one commit by each process
+-- Demand 3: with one commit by each process.
 abbrev pub Equal : ℕ → ℕ → List Row → Type 0
 Equal processes space rows = EqualWith COMMIT COMMIT-MODEL processes space rows

@@ -9,7 +9,7 @@ use Rattle.rows.specs.declared.Row.{Row}
 use Rattle.happens_before.specs.Order.{edge, HB}
 use Rattle.rows.specs.Lists.{In, Once}
 
--- a stands before b
+-- A stands before b.
 abbrev pub Stands : ℕ → ℕ → List ℕ → Type 0
 Stands a b [] = ⊥
 Stands a b (c ∷ l) = ((a ≡ c) × In b l) ⊎ Stands a b l
@@ -22,11 +22,11 @@ pub record Allowed (rows : List Row) (order : List ℕ) : Type 0 where
   pub closed : (i j : ℕ) → HB (edge rows) i j → In j order → In i order
   pub in-order : (i j : ℕ) → edge rows i j ≡ true → In i order → In j order → Stands i j order
 
--- the places 0 to n - 1 in rising order
+-- The places 0 to n - 1 in rising order.
 unfoldable pub placesBelow : ℕ → List ℕ
 placesBelow zero = []
 placesBelow (suc n) = placesBelow n ++ (n ∷ [])
 
--- the recorded order: all rows as they stand in the trace
+-- The recorded order: all rows as they stand in the trace.
 abbrev pub traceOrder : List Row → List ℕ
 traceOrder rows = placesBelow (length rows)

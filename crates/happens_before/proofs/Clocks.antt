@@ -20,21 +20,21 @@ use Rattle.happens_before.proofs.Unions.{unionTo, count-joined}
 
 -- ---- Happens-before over any edges that lead forward
 
--- edges lead forward
+-- Edges lead forward.
 abbrev pub Forward : (ℕ → ℕ → Bool) → Type 0
 Forward e = (i j : ℕ) → e i j ≡ true → i < j
 
--- what happens before stands before
+-- A row that happens before another stands before it.
 pub HB-less : {e : ℕ → ℕ → Bool} → Forward e → {i j : ℕ} → HB e i j → i < j
 HB-less f (one {i} {j} e) = f i j e
 HB-less f (more {k = k} {j = j} h e) = omega (arith, HB-less f h, f k j e)
 
--- one after the other
+-- Happens-before is transitive.
 pub HB-trans : {e : ℕ → ℕ → Bool} {i k j : ℕ} → HB e i k → HB e k j → HB e i j
 HB-trans g (one e) = more g e
 HB-trans g (more h e) = more (HB-trans g h) e
 
--- what the decision finds is so
+-- Where the decision says Yes, the row happens before.
 hb-sound : (e : ℕ → ℕ → Bool) (n i j : ℕ) → hbWithin n e i j ≡ true → HB e i j
 unfolding hbWithin
 hb-sound e zero i j h = absurd (false≢true h)
@@ -47,7 +47,7 @@ hb-sound e (suc n) i j h = go (or-out (e i j) _ h) (hb-sound e n i)
         let b = and-out (e (r .0) j) (hbWithin n e i (r .0)) (r .2) in
         more (rest (r .0) (b .1)) (b .0)
 
--- what is so, the decision finds
+-- Where the row happens before, the decision says Yes.
 hb-found : {e : ℕ → ℕ → Bool} → Forward e → {i j : ℕ} → HB e i j → (n : ℕ) → j ≤ n → hbWithin n e i j ≡ true
 unfolding hbWithin
 hb-found f (one {i} {j} a) zero l = let b = f i j a in absurd (omega arith)
@@ -57,11 +57,11 @@ hb-found {e} f (more {i} {k} {j} h a) (suc n) l =
     let b = f k j a in
     or-right (e i j) _ (any-in j (λ s. e s j && hbWithin n e i s) k b (rw a (hb-found f h n (omega arith))))
 
--- the decision is right
+-- The decision says Yes exactly where the row happens before.
 pub hb-iff : {e : ℕ → ℕ → Bool} → Forward e → (i j : ℕ) → (hb e i j ≡ true) ↔ HB e i j
 hb-iff {e} f i j = (hb-sound e j i j, λ h. hb-found f h j (omega arith))
 
--- happens-before is decided
+-- Happens-before is decided.
 pub hb-dec : {e : ℕ → ℕ → Bool} → Forward e → (i j : ℕ) → Dec (HB e i j)
 hb-dec {e} f i j = go (hb e i j) refl
   where
@@ -69,11 +69,11 @@ hb-dec {e} f i j = go (hb e i j) refl
     go true h = yes (hb-iff f i j .0 h)
     go false h = no (λ a. false≢true (sym h ∙ hb-iff f i j .1 a))
 
--- nothing happens before itself
+-- No row happens before itself.
 hb-self : {e : ℕ → ℕ → Bool} → Forward e → (j : ℕ) → hb e j j ≡ false
 hb-self {e} f j = not-passed (hb e j j) (λ h. let l = HB-less f (hb-iff f j j .0 h) in omega arith)
 
--- an edge behind a row that is k or happens before k
+-- A row that is k or happens before k happens before where k has an edge to.
 upTo-edge : {e : ℕ → ℕ → Bool} → Forward e → (i k j : ℕ) → upTo e i k ≡ true → e k j ≡ true → HB e i j
 upTo-edge {e} f i k j u a = go (or-out (eqb i k) (hb e i k) u)
   where
@@ -81,12 +81,12 @@ upTo-edge {e} f i k j u a = go (or-out (eqb i k) (hb e i k) u)
     go (inl q) = one (ap (λ (x : ℕ). e x j) (eqb-true i k q) ∙ a)
     go (inr h) = more (hb-iff f i k .0 h) a
 
--- what happens before is k or happens before k, and k has an edge
+-- A row that happens before j is, or happens before, some k that has an edge to j.
 edge-upTo : {e : ℕ → ℕ → Bool} → Forward e → {i j : ℕ} → HB e i j → (k : ℕ) × (e k j ≡ true) × (upTo e i k ≡ true)
 edge-upTo f (one {i} {j} a) = (i, a, rw (eq-eqb i i refl))
 edge-upTo f (more {i} {k} {j} h a) = (k, a, or-right (eqb i k) _ (hb-iff f i k .1 h))
 
--- what happens before k or is it, from an edge to such a row
+-- A row with an edge to k happens before j or is it, if k does or is.
 edge-first : {e : ℕ → ℕ → Bool} → Forward e → (i k j : ℕ) → e i k ≡ true → upTo e k j ≡ true → upTo e i j ≡ true
 edge-first {e} f i k j a u = or-right (eqb i j) _ (hb-iff f i j .1 (go (or-out (eqb k j) (hb e k j) u)))
   where
@@ -96,7 +96,7 @@ edge-first {e} f i k j a u = or-right (eqb i j) _ (hb-iff f i j .1 (go (or-out (
 
 -- ---- The edges of a trace
 
--- what an edge says: it leads forward, into the trace, within a process or along a message
+-- An edge leads forward, into the trace, within a process or along a message.
 edge-out : (rows : List Row) (i j : ℕ) → edge rows i j ≡ true →
     (i < j) × (j < length rows) × ((rowAt rows i .process ≡ rowAt rows j .process) ⊎ (delivers (rowAt rows i) (rowAt rows j) ≡ true))
 unfolding edge
@@ -110,41 +110,41 @@ edge-out rows i j e =
     go (inl q) = inl (eqb-true _ _ q)
     go (inr d) = inr d
 
--- edges of a trace lead forward
+-- Edges of a trace lead forward.
 pub edge-forward : (rows : List Row) → Forward (edge rows)
 edge-forward rows i j e = edge-out rows i j e .0
 
--- an edge ends at a row of the trace
+-- An edge ends at a row of the trace.
 pub edge-in : (rows : List Row) (i j : ℕ) → edge rows i j ≡ true → j < length rows
 edge-in rows i j e = edge-out rows i j e .1
 
--- rows of one process are in order
+-- Of two rows of one process, the earlier has an edge to the later.
 pub program-order : (rows : List Row) (i j : ℕ) → i < j → j < length rows → rowAt rows i .process ≡ rowAt rows j .process → edge rows i j ≡ true
 unfolding edge
 program-order rows i j h n p = rw (lt-ltb i j h, lt-ltb j (length rows) n, eq-eqb (rowAt rows i .process) (rowAt rows j .process) p)
 
--- a send is before what receives it
+-- A send has an edge to a later recv of its message.
 pub message-order : (rows : List Row) (i j : ℕ) → i < j → j < length rows → delivers (rowAt rows i) (rowAt rows j) ≡ true → edge rows i j ≡ true
 unfolding edge
 message-order rows i j h n d = rw (lt-ltb i j h, lt-ltb j (length rows) n) (or-right (sameProcess (rowAt rows i) (rowAt rows j)) _ d)
 
--- a row of the process p
+-- Row i is of process p.
 abbrev ofProcess : List Row → ℕ → ℕ → Bool
 ofProcess rows p i = eqb (rowAt rows i .process) p
 
--- the rows of one process that happen before a row or are it are the first of that process
+-- The rows of one process that happen before row k or are row k are the first of that process.
 upTo-closed : (rows : List Row) (p k : ℕ) → Closed (length rows) (ofProcess rows p) (λ i. upTo (edge rows) i k)
 upTo-closed rows p k i s l h a b u =
     edge-first (edge-forward rows) i s k (program-order rows i s l h (eqb-true _ p a ∙ sym (eqb-true _ p b))) u
 
 -- ---- The last row of a process
 
--- what lastOf says
+-- The number l names the last row of process q below j, as `lastOf` does.
 abbrev Last : (ℕ → ℕ) → ℕ → ℕ → ℕ → Type 0
 Last at q j zero = (k : ℕ) → k < j → at k ≡ q → ⊥
 Last at q j (suc l) = (l < j) × (at l ≡ q) × ((k : ℕ) → k < j → at k ≡ q → k ≤ l)
 
--- one more row, of another process
+-- One more row, of another process, leaves the last row.
 last-more : (at : ℕ → ℕ) (q j l : ℕ) → (at j ≡ q → ⊥) → Last at q j l → Last at q (suc j) l
 last-more at q j l o r = go l r
   where
@@ -156,7 +156,7 @@ last-more at q j l o r = go l r
     go zero r = λ k b s. r k (under k b s (decLt k j)) s
     go (suc l) r = (omega arith, r .1, λ k b s. r .2 k (under k b s (decLt k j)) s)
 
--- it says so
+-- `lastOf` names the last row.
 last-is : (at : ℕ → ℕ) (q j : ℕ) → Last at q j (lastOf at q j)
 unfolding lastOf lastBelow
 last-is at q zero = λ k b s. omega arith
@@ -168,22 +168,22 @@ last-is at q (suc j) = go (eqb (at j) q) refl (last-is at q j)
 
 -- ---- Counts
 
--- a count is at most the number of rows
+-- A count is at most the number of rows.
 pub count-most : (rows : List Row) (p j : ℕ) → count rows p j ≤ length rows
 unfolding count
 count-most rows p j = count-below (length rows) _
 
--- row i is the last row or happens before it
+-- Row i is the last row or happens before the last row.
 abbrev upToLast : (ℕ → ℕ → Bool) → ℕ → ℕ → Bool
 upToLast e zero i = false
 upToLast e (suc k) i = upTo e i k
 
--- these too are the first of a process
+-- The rows of a process up to a last row are the first of that process.
 last-closed : (rows : List Row) (p l : ℕ) → Closed (length rows) (ofProcess rows p) (upToLast (edge rows) l)
 last-closed rows p zero = λ i s b h x y u. absurd (false≢true u)
 last-closed rows p (suc k) = upTo-closed rows p k
 
--- their count
+-- The rows of process p up to the last row are as many as the last row's count says.
 count-last : (rows : List Row) (p l : ℕ) →
     countBelow (length rows) (λ i. ofProcess rows p i && upToLast (edge rows) l i) ≡ fromLast (λ k. count rows p k) l
 unfolding count countBelow
@@ -191,11 +191,11 @@ count-last rows p zero = count-cut zero (length rows) _ (omega arith) (λ i a b.
 count-last rows p (suc k) = refl
 
 module _ (rows : List Row) (j : ℕ) (h : j < length rows) where
-  -- the place and one of the last row of row j's process
+  -- The number l names the last row of row j's process below j.
   abbrev LastOf : ℕ → Type 0
   LastOf l = Last (λ k. rowAt rows k .process) (rowAt rows j .process) j l
 
-  -- what is up to an earlier row of row j's process is up to the last one
+  -- A row up to an earlier row of row j's process is up to the last one.
   last-in : (i k l : ℕ) → LastOf l → k < j → rowAt rows k .process ≡ rowAt rows j .process → upTo (edge rows) i k ≡ true →
       upToLast (edge rows) l i ≡ true
   last-in i k zero r b s u = absurd (r k b s)
@@ -211,12 +211,12 @@ module _ (rows : List Row) (j : ℕ) (h : j < length rows) where
           let e : l ≡ k = omega arith in
           ap (λ (x : ℕ). upTo (edge rows) i x) e ∙ u
 
-  -- what is up to the last one happens before row j
+  -- A row up to the last one happens before row j.
   last-out : (i l : ℕ) → LastOf l → upToLast (edge rows) l i ≡ true → HB (edge rows) i j
   last-out i zero r u = absurd (false≢true u)
   last-out i (suc l) r u = upTo-edge (edge-forward rows) i l j u (program-order rows l j (r .0) h (r .1))
 
-  -- What happens before row j: what is up to the last row of its process, or up to a send that it receives.
+  -- The rows that happen before row j are those up to the last row of its process and those up to a send that it receives.
   hb-union : (i l : ℕ) → LastOf l →
       hb (edge rows) i j ≡ unionTo (λ k. delivers (rowAt rows k) (rowAt rows j)) (λ k s. upTo (edge rows) s k) (upToLast (edge rows) l) j i
   hb-union i l r =
@@ -241,7 +241,7 @@ module _ (rows : List Row) (j : ℕ) (h : j < length rows) where
           let b = and-out (delivers (rowAt rows (t .0)) (rowAt rows j)) (upTo (edge rows) i (t .0)) (t .2) in
           upTo-edge (edge-forward rows) i (t .0) j (b .1) (message-order rows (t .0) j (t .1) h (b .0))
 
--- the rows of a process that happen before a row are as many as its clock says
+-- The rows of a process that happen before row j are as many as row j's clock says.
 count-before : (rows : List Row) (p j : ℕ) → j < length rows →
     countBelow (length rows) (λ i. ofProcess rows p i && hb (edge rows) i j) ≡ clock rows p j
 unfolding count clock
@@ -262,7 +262,7 @@ vector-clock rows p j h =
     let e = count-own (length rows) j (ofProcess rows p) (λ i. hb (edge rows) i j) h (hb-self (edge-forward rows) j) in
     rw (count-before rows p j h) at e
 
--- the place of a row among those of its process, from 1
+-- The place of row k among the rows of its process, from 1.
 unfoldable pub placeOf : List Row → ℕ → ℕ
 placeOf rows k = countBelow (suc k) (λ i. eqb (rowAt rows i .process) (rowAt rows k .process))
 

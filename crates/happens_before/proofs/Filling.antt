@@ -13,17 +13,17 @@ use Rattle.rows.specs.declared.Row.{Row}
 use Rattle.rows.specs.Rows.{rowsIn, rowHere, rowAt, rowIn}
 use Rattle.rows.specs.Counting.{values, blocks, lastBelow}
 use Rattle.happens_before.specs.Order.{delivers, count, countsOf}
-use Rattle.happens_before.specs.Clock.{lastOf, fromLast, joinedTo, clock, cellIn, withRow, filledRow}
+use Rattle.happens_before.specs.Clock.{lastOf, fromLast, joinedTo, clock, cellIn, withCounts, filledRow}
 use Rattle.happens_before.proofs.Cells.{values-length, values-at, values-same}
 use Rattle.happens_before.proofs.Joins.{last-low, joined-same}
 use Rattle.happens_before.proofs.Clocks.{count-most, vector-clock}
+use Rattle.rows.specs.Limits.{ROWS}
 use Rattle.rows.proofs.Zeros.{zeros}
 use Rattle.rows.proofs.Slices.{length-rows, row-in}
 
--- ---- Rows of a slice
-
 -- ---- Functions that agree below a bound
 
+-- The last row of a process is the same for functions that agree.
 last-same : (f g : ℕ → ℕ) (q n : ℕ) → ((k : ℕ) → k < n → f k ≡ g k) → lastOf f q n ≡ lastOf g q n
 unfolding lastOf lastBelow
 last-same f g q zero h = refl
@@ -31,6 +31,7 @@ last-same f g q (suc n) h =
     let ih = last-same f g q n (λ k l. h k (omega arith)) in
     (λ i. cond (eqb (h n (omega arith) i) q) (suc n) (ih i))
 
+-- The value of a last row is the same for functions that agree.
 from-same : (f g : ℕ → ℕ) (m n : ℕ) → m ≤ n → ((k : ℕ) → k < n → f k ≡ g k) → fromLast f m ≡ fromLast g m
 from-same f g zero n l h = refl
 from-same f g (suc m) n l h = h m l
@@ -38,16 +39,18 @@ from-same f g (suc m) n l h = h m l
 -- ---- Blocks of P values
 
 module _ (P : ℕ) (g : ℕ → ℕ → ℕ) where
+  -- Blocks of P values for the numbers below j.
   abbrev pub rowsOf : ℕ → List ℕ
   rowsOf j = blocks j (λ k. values P (g k))
 
+  -- The length of j blocks.
   pub length-rowsOf : (j : ℕ) → length (rowsOf j) ≡ j * P
   unfolding blocks
   length-rowsOf zero = sym (zero-mul P)
   length-rowsOf (suc j) =
       length-append (rowsOf j) (values P (g j)) ∙ (λ i. length-rowsOf j i + values-length P (g j) i) ∙ sym (suc-mul j P)
 
-  -- what stands in a block
+  -- A number in a block is the function's value.
   pub cell-done : (j k p : ℕ) (z : List ℕ) → k < j → p < P → cellIn P (rowsOf j ++ z) k p ≡ g k p
   unfolding blocks
   cell-done zero k p z h l = absurd (omega arith)
@@ -63,7 +66,7 @@ module _ (P : ℕ) (g : ℕ → ℕ → ℕ) where
           ∙ getD-append-add (rowsOf j) (values P (g j) ++ z) p 0
           ∙ List·getD-append (values P (g j)) z 0 p w ∙ values-at P (g j) p l ∙ ap (λ (x : ℕ). g x p) e
 
--- behind the blocks stand zeros
+-- Behind the blocks stand zeros.
 pub cell-zero : (P : ℕ) (g : ℕ → ℕ → ℕ) (j m p : ℕ) → cellIn P (rowsOf P g j ++ replicate m 0) j p ≡ 0
 cell-zero P g j m p =
     ap (λ (x : ℕ). getD (rowsOf P g j ++ replicate m 0) (x + p) 0) (sym (length-rowsOf P g j))
@@ -72,11 +75,11 @@ cell-zero P g j m p =
 -- ---- The slice after j rows
 
 module _ (n P L : ℕ) (xs : List ℕ) where
-  -- the counts of a row
+  -- The counts of row k.
   abbrev pub counted : ℕ → ℕ → ℕ
   counted k p = count (rowsIn n xs) p k
 
-  -- the counts of the first j rows, then 0
+  -- The slice with the counts of the first j rows, then 0.
   abbrev pub filledTo : ℕ → List ℕ
   filledTo j = rowsOf P counted j ++ replicate (L - j * P) 0
 
@@ -93,7 +96,7 @@ module _ (n P L : ℕ) (xs : List ℕ) where
     cells : (p : ℕ) → p < P → (k : ℕ) → k < j → cellIn P (filledTo j) k p ≡ counted k p
     cells p l k q = cell-done P counted j k p (replicate (L - j * P) 0) q l
 
-    -- the clock of the process's last row
+    -- In the slice, the last row of the process has its counts.
     start-count : (p : ℕ) → p < P →
         fromLast (λ k. cellIn P (filledTo j) k p) (lastOf (λ k. rowIn xs k .process) (rowIn xs j .process) j)
         ≡ fromLast (λ k. counted k p) (lastOf (λ k. rowAt rows k .process) (rowAt rows j .process) j)
@@ -104,7 +107,7 @@ module _ (n P L : ℕ) (xs : List ℕ) where
         (last-same (λ k. rowIn xs k .process) (λ k. rowAt rows k .process) (rowIn xs j .process) j (λ k q. ap (λ (r : Row). r .process) (at k q))
         ∙ ap (λ (r : Row). lastOf (λ k. rowAt rows k .process) (r .process) j) here)
 
-    -- joined with those of the sends
+    -- In the slice, the sends have their counts.
     sends-count : (p : ℕ) → p < P → (a : ℕ) →
         joinedTo (λ k. delivers (rowIn xs k) (rowIn xs j)) (λ k. cellIn P (filledTo j) k p) a j
         ≡ joinedTo (λ k. delivers (rowAt rows k) (rowAt rows j)) (λ k. counted k p) a j
@@ -112,7 +115,7 @@ module _ (n P L : ℕ) (xs : List ℕ) where
         joined-same (λ k. delivers (rowIn xs k) (rowIn xs j)) (λ k. delivers (rowAt rows k) (rowAt rows j))
         j (λ k q. λ i. delivers (at k q i) (here i)) (cells p l) refl
 
-    -- one row more is filled with its counts
+    -- Row j is filled with its counts.
     filled-count : (p : ℕ) → p < P → filledRow P xs (filledTo j) j p ≡ counted j p
     unfolding filledRow clock
     filled-count p l =
@@ -120,8 +123,8 @@ module _ (n P L : ℕ) (xs : List ℕ) where
         (λ i. sends-count p l (start-count p l i) i + cond (eqb (here i .process) p) 1 0) ∙ sym (vector-clock rows p j in-rows)
 
     module _ (room : j * P + P ≤ L) where
-      -- the slice with that row put there is filled one row further
-      pub row-filled : withRow P (filledTo j) j (filledRow P xs (filledTo j) j) ≡ filledTo (suc j)
+      -- The slice with row j put there is filled one row further.
+      pub row-filled : withCounts P (filledTo j) j (filledRow P xs (filledTo j) j) ≡ filledTo (suc j)
       unfolding blocks
       row-filled =
           let b = rowsOf P counted j in
@@ -135,18 +138,20 @@ module _ (n P L : ℕ) (xs : List ℕ) where
           ∙ drop-at (replicate P 0) (replicate (L - suc j * P) 0) P (length-replicate P 0) in
           (λ i. front i ++ (values-same P filled-count i ++ behind i)) ∙ sym (append-assoc b (values P (counted j)) (replicate (L - suc j * P) 0))
 
-      -- and it has the bounds that filling a row asks for
+      -- Row j's counts are 0 before row j is filled.
       pub row-empty : (p : ℕ) → p < P → cellIn P (filledTo j) j p ≡ 0
       row-empty p l = cell-zero P counted j (L - j * P) p
 
-      pub cells-small : n ≤ 4096 → (k p : ℕ) → k < j → p < P → cellIn P (filledTo j) k p ≤ 4096
+      -- The counts of the rows before row j are at most the largest row limit.
+      pub cells-small : n ≤ ROWS → (k p : ℕ) → k < j → p < P → cellIn P (filledTo j) k p ≤ ROWS
       cells-small few k p q l = omega (arith, cells p l k q, count-most rows p k, length-rows n xs)
 
-  -- nothing is filled at first, and all at the end
+  -- A slice of zeros has no row filled.
   pub none-filled : replicate L 0 ≡ filledTo 0
   unfolding blocks
   none-filled = let e : L ≡ L - 0 * P = omega (arith, zero-mul P) in ap (λ (k : ℕ). replicate k 0) e
 
+  -- A slice with n rows filled has the counts of all rows.
   pub all-filled : filledTo n ≡ countsOf P (rowsIn n xs) ++ replicate (L - n * P) 0
   unfolding countsOf
   all-filled = ap (λ (k : ℕ). rowsOf P counted k ++ replicate (L - n * P) 0) (sym (length-rows n xs))

@@ -12,13 +12,13 @@ use Rattle.happens_before.specs.Clock.{joinedTo}
 use Rattle.rows.proofs.Bools.{and-out, or-out, or-right}
 use Rattle.rows.proofs.Below.{any-in, any-out, Closed, count-union}
 
--- a first test, or one of those chosen below m
+-- The first test passes, or one of the tests chosen below m.
 abbrev pub unionTo : (ℕ → Bool) → (ℕ → ℕ → Bool) → (ℕ → Bool) → ℕ → ℕ → Bool
 unionTo chosen test first m i = first i || anyBelow m (λ k. chosen k && test k i)
 
 module _ (n : ℕ) (isP chosen : ℕ → Bool) (test : ℕ → ℕ → Bool) (first : ℕ → Bool)
     (c : Closed n isP first) (d : (k : ℕ) → Closed n isP (test k)) where
-  -- such a union is closed
+  -- A union of closed tests is closed.
   closed-union : (m : ℕ) → Closed n isP (unionTo chosen test first m)
   closed-union m i k l b p q e = go (or-out (first k) (anyBelow m (λ s. chosen s && test s k)) e)
     where
@@ -29,7 +29,7 @@ module _ (n : ℕ) (isP chosen : ℕ → Bool) (test : ℕ → ℕ → Bool) (fi
           let o = and-out (chosen (r .0)) (test (r .0) k) (r .2) in
           or-right (first i) _ (any-in m (λ s. chosen s && test s i) (r .0) (r .1) (rw (o .0) (d (r .0) i k l b p q (o .1))))
 
-  -- its count
+  -- The count of a union is the join of the counts.
   pub count-joined : (m : ℕ) →
       countBelow n (λ i. isP i && unionTo chosen test first m i)
       ≡ joinedTo chosen (λ k. countBelow n (λ i. isP i && test k i)) (countBelow n (λ i. isP i && first i)) m

@@ -12,16 +12,16 @@ use Rattle.happens_before.specs.Order.{delivers, count}
 
 -- ---- On rows
 
--- the last row of a process below k, as its place and one; 0 where there is none
+-- The index of the last row of a process below k, plus one; 0 where there is none.
 unfoldable pub lastOf : (ℕ → ℕ) → ℕ → ℕ → ℕ
 lastOf processAt process k = lastBelow k (λ i. eqb (processAt i) process)
 
--- a value from a place and one; 0 where there is none
+-- The value at the index that such a number names; 0 where it names none.
 abbrev pub fromLast : (ℕ → ℕ) → ℕ → ℕ
 fromLast f zero = 0
 fromLast f (suc k) = f k
 
--- joined with the values of the sends below k
+-- A start joined with the values of the sends below k.
 unfoldable pub joinedTo : (ℕ → Bool) → (ℕ → ℕ) → ℕ → ℕ → ℕ
 joinedTo sends f start zero = start
 joinedTo sends f start (suc k) = cond (sends k) (max (joinedTo sends f start k) (f k)) (joinedTo sends f start k)
@@ -35,34 +35,34 @@ clock rows p j =
 
 -- ---- On slices
 
--- the count of process p at row k in the counts' slice
+-- The count of process p at row k in the counts' slice.
 abbrev pub cellIn : ℕ → List ℕ → ℕ → ℕ → ℕ
 cellIn processLimit counts k p = getD counts (k * processLimit + p) 0
 
--- the slice with the counts of row j put there
-abbrev pub withRow : ℕ → List ℕ → ℕ → (ℕ → ℕ) → List ℕ
-withRow processLimit counts j f =
+-- The counts' slice with the counts of row j put in their place.
+abbrev pub withCounts : ℕ → List ℕ → ℕ → (ℕ → ℕ) → List ℕ
+withCounts processLimit counts j f =
     take (j * processLimit) counts ++ (values processLimit f ++ drop (j * processLimit + processLimit) counts)
 
--- row j's counts joined with those of row k
+-- Row j's counts joined with those of row k.
 abbrev pub joinedRow : ℕ → List ℕ → ℕ → ℕ → ℕ → ℕ
 joinedRow processLimit counts j k p = max (cellIn processLimit counts j p) (cellIn processLimit counts k p)
 
--- row j's counts joined with those of a last row, if there is one
+-- Row j's counts joined with those of a last row, if there is one.
 abbrev pub joinedLast : ℕ → List ℕ → ℕ → ℕ → ℕ → ℕ
 joinedLast processLimit counts j last p =
     max (cellIn processLimit counts j p) (fromLast (λ k. cellIn processLimit counts k p) last)
 
--- row j's counts joined with those of the sends that it receives
+-- Row j's counts joined with those of the sends that row j receives.
 abbrev pub joinedSends : ℕ → List ℕ → List ℕ → ℕ → ℕ → ℕ
 joinedSends processLimit xs counts j p =
     joinedTo (λ k. delivers (rowIn xs k) (rowIn xs j)) (λ k. cellIn processLimit counts k p) (cellIn processLimit counts j p) j
 
--- with the row itself
+-- Counts with the row itself, which is of this process.
 abbrev pub withOwn : ℕ → (ℕ → ℕ) → ℕ → ℕ
 withOwn process f p = f p + cond (eqb process p) 1 0
 
--- what row j's counts become, from 0: the last row of its process, the sends it receives, itself
+-- What row j's counts become, from 0: those of the last row of its process, joined with those of the sends that it receives, and row j itself.
 unfoldable pub filledRow : ℕ → List ℕ → List ℕ → ℕ → ℕ → ℕ
 filledRow processLimit xs counts j =
     withOwn (rowIn xs j .process)

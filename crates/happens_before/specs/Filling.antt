@@ -5,6 +5,7 @@ use mathlib.Core.List.{List, [], _∷_, _++_}
 use lib.ListN.{length, replicate}
 use lib.Dec.{leb, ltb, eqb}
 use Rattle.rows.specs.Limits.{ROWS, PROCESSES}
+use Rattle.rows.specs.Refusals.{SHORT-SLICE, LIMITS, RANGE}
 use Rattle.rows.specs.Rows.{rowsIn, rowIn}
 use Rattle.rows.specs.Questions.{longEnough, Question}
 use Rattle.happens_before.specs.Order.{countsOf}
@@ -20,17 +21,17 @@ unfoldable pub processesIn : ℕ → ℕ → List ℕ → Bool
 processesIn zero processLimit xs = true
 processesIn (suc n) processLimit xs = processesIn n processLimit xs && ltb (rowIn xs n .process) processLimit
 
--- the questions in their order
+-- The questions in their order.
 unfoldable pub fillQuestions : ℕ → ℕ → List ℕ → ℕ → List Question
 fillQuestions n processLimit xs countsLength =
-    record { number = 1; yes = longEnough n processLimit (length xs) countsLength }
-    ∷ (record { number = 2; yes = countLimits n processLimit } ∷ (record { number = 10; yes = processesIn n processLimit xs } ∷ []))
+    record { number = SHORT-SLICE; yes = longEnough n processLimit (length xs) countsLength }
+    ∷ (record { number = LIMITS; yes = countLimits n processLimit } ∷ (record { number = RANGE; yes = processesIn n processLimit xs } ∷ []))
 
--- done, or refused with the first No
+-- Done, or refused with the first No.
 abbrev pub filledOf : ℕ → Filled
 filledOf first = cond (eqb first 0) Done (Refused first)
 
--- the counts of the first n rows, then 0 to the end; the slice as it was where there is a No
+-- The counts of the first n rows, then 0 to the end; the slice as it was where there is a No.
 abbrev pub filledLeft : ℕ → ℕ → ℕ → List ℕ → List ℕ → List ℕ
 filledLeft first n processLimit xs counts =
     cond (eqb first 0) (countsOf processLimit (rowsIn n xs) ++ replicate (length counts - n * processLimit) 0) counts

@@ -10,11 +10,11 @@ use Rattle.rows.specs.Kinds.{SEND, RECV}
 use Rattle.rows.specs.Counting.{anyBelow, countBelow, values, blocks}
 use Rattle.rows.specs.Rows.{rowAt}
 
--- two rows of one process
+-- Two rows are of one process.
 abbrev pub sameProcess : Row → Row → Bool
 sameProcess r s = eqb (r .process) (s .process)
 
--- a send and a recv of its message
+-- Row r sends the message that row s receives.
 abbrev pub delivers : Row → Row → Bool
 delivers r s = eqb (r .kind) SEND && (eqb (s .kind) RECV && eqb (r .message) (s .message))
 
@@ -23,20 +23,21 @@ delivers r s = eqb (r .kind) SEND && (eqb (s .kind) RECV && eqb (r .message) (s 
 unfoldable pub edge : List Row → ℕ → ℕ → Bool
 edge rows i j = ltb i j && (ltb j (length rows) && (sameProcess (rowAt rows i) (rowAt rows j) || delivers (rowAt rows i) (rowAt rows j)))
 
--- happens-before: the transitive closure of direct edges
+-- Happens-before is the transitive closure of direct edges.
 pub data HB (edge : ℕ → ℕ → Bool) : ℕ → ℕ → Type 0 where
   one : {i j : ℕ} → edge i j ≡ true → HB edge i j
   more : {i k j : ℕ} → HB edge i k → edge k j ≡ true → HB edge i j
 
--- its decision: a direct edge, or a last edge from a row below j; the first number bounds the edges, and j does
+-- Decides happens-before: a direct edge, or a last edge from a row below j. The first number bounds how many edges are taken.
 unfoldable pub hbWithin : ℕ → (ℕ → ℕ → Bool) → ℕ → ℕ → Bool
 hbWithin zero edge i j = false
 hbWithin (suc n) edge i j = edge i j || anyBelow j (λ k. edge k j && hbWithin n edge i k)
 
+-- Row i happens before row j. No chain of edges to row j has more than j edges.
 abbrev pub hb : (ℕ → ℕ → Bool) → ℕ → ℕ → Bool
 hb edge i j = hbWithin j edge i j
 
--- row i happens before row j or is it
+-- Row i happens before row j or is row j.
 abbrev pub upTo : (ℕ → ℕ → Bool) → ℕ → ℕ → Bool
 upTo edge i j = eqb i j || hb edge i j
 
@@ -44,6 +45,6 @@ upTo edge i j = eqb i j || hb edge i j
 unfoldable pub count : List Row → ℕ → ℕ → ℕ
 count rows p j = countBelow (length rows) (λ i. eqb (rowAt rows i .process) p && upTo (edge rows) i j)
 
--- row after row, and in each row process after process up to the limit
+-- The counts of all rows, row after row, and in each row process after process up to the limit.
 unfoldable pub countsOf : ℕ → List Row → List ℕ
 countsOf processLimit rows = blocks (length rows) (λ j. values processLimit (λ p. count rows p j))

@@ -1,14 +1,14 @@
-// The happens-before counts of every row of a trace: how many rows of each process happen before the row or are the row.
+// Fills the happens-before counts of every row of a trace: how many rows of each process happen before the row or are the row.
 ghost use mathlib.Core.Path.{_≡_};
 ghost use Prim.Native.Nat.{ℕ, max, _+_, _*_, _-_, _<_, _≤_};
 ghost use lib.ListN.{length};
 ghost use Rattle.rows.specs.Questions.{longEnough, firstNo};
 ghost use Rattle.happens_before.specs.Order.{delivers};
-ghost use Rattle.happens_before.specs.Clock.{lastOf, cellIn, withRow, joinedRow, joinedLast, joinedSends, withOwn, filledRow};
+ghost use Rattle.happens_before.specs.Clock.{lastOf, cellIn, withCounts, joinedRow, joinedLast, joinedSends, withOwn, filledRow};
 ghost use Rattle.rows.specs.Rows.{rowIn};
 ghost use Rattle.happens_before.specs.Filling.{processesIn, fillQuestions, filledOf, filledLeft};
 use rows::refusal;
-ghost use Rattle.rows.specs.Limits.{ROWS, PROCESSES};
+ghost use Rattle.rows.specs.Limits.{ROWS, PROCESSES, FIELDS};
 
 // The counts were filled, or the number of the question that was answered No.
 pub enum Filled {
@@ -37,7 +37,7 @@ pub fn fill_counts(rows: &[u32], n: u32, process_limit: u32, counts: &mut [u16])
     Filled::Done
 }
 
-// The questions 1, 2 and 10.
+// Asks the questions 1, 2 and 10 and answers the number of the first No, and 0 where there is none.
 fn ask_rows(rows: &[u32], n: u32, process_limit: u32, counts_len: usize) -> u32
     ensures { λ r. ⌜ r ≡ firstNo (fillQuestions n «process_limit» (now (rows .entry)) «counts_len») ⌝ }
 {
@@ -71,7 +71,7 @@ pub fn slices_fit(n: u32, process_limit: u32, rows_len: usize, counts_len: usize
 
 // Question 10: every process of the first n rows is below the limit.
 fn processes_in(rows: &[u32], n: usize, process_limit: u32) -> bool
-    requires { ⌜ n * 6 ≤ length (now rows) ⌝ }
+    requires { ⌜ n * FIELDS ≤ length (now rows) ⌝ }
     ensures { λ r. ⌜ r ≡ processesIn n «process_limit» (now (rows .entry)) ⌝ }
 {
     let mut i = n;
@@ -85,12 +85,12 @@ fn processes_in(rows: &[u32], n: usize, process_limit: u32) -> bool
     true
 }
 
-// Fills the counts of row j, which are 0, from those of the rows before it.
+// Fills the counts of row j, which are 0, from the counts of the rows before row j.
 fn fill_row(rows: &[u32], j: usize, processes: usize, counts: &mut [u16])
-    requires { ⌜ (j * 6 + 6 ≤ length (now rows)) × (processes ≤ PROCESSES) × (j * processes + processes ≤ length (now counts)) × (rowIn (now rows) j .process < processes) ⌝ }
+    requires { ⌜ (j * FIELDS + FIELDS ≤ length (now rows)) × (processes ≤ PROCESSES) × (j * processes + processes ≤ length (now counts)) × (rowIn (now rows) j .process < processes) ⌝ }
     requires { ⌜ ((p : ℕ) → p < processes → cellIn processes (now counts) j p ≡ 0) ⌝ }
     requires { ⌜ ((k : ℕ) → (p : ℕ) → k < j → p < processes → cellIn processes (now counts) k p ≤ ROWS) ⌝ }
-    ensures { λ r. ⌜ now (counts .exit) ≡ withRow processes (now (counts .entry)) j (filledRow processes (now (rows .entry)) (now (counts .entry)) j) ⌝ }
+    ensures { λ r. ⌜ now (counts .exit) ≡ withCounts processes (now (counts .entry)) j (filledRow processes (now (rows .entry)) (now (counts .entry)) j) ⌝ }
 {
     let at = j * rows::FIELDS;
     let process = rows[at];
@@ -100,9 +100,9 @@ fn fill_row(rows: &[u32], j: usize, processes: usize, counts: &mut [u16])
     add_own(counts, j, processes, process);
 }
 
-// The last row of the process below j, as its place and one; 0 where there is none.
+// Answers the index of the last row of the process below row j, plus one; 0 where there is none.
 fn last_of(rows: &[u32], j: usize, process: u32) -> usize
-    requires { ⌜ j * 6 ≤ length (now rows) ⌝ }
+    requires { ⌜ j * FIELDS ≤ length (now rows) ⌝ }
     ensures { λ r. ⌜ r ≡ lastOf (λ k. rowIn (now (rows .entry)) k .process) process j ⌝ }
 {
     let mut i = j;
@@ -118,7 +118,7 @@ fn last_of(rows: &[u32], j: usize, process: u32) -> usize
 
 // Row j receives what row k sends.
 fn receives(rows: &[u32], k: usize, j: usize) -> bool
-    requires { ⌜ (k * 6 + 6 ≤ length (now rows)) × (j * 6 + 6 ≤ length (now rows)) ⌝ }
+    requires { ⌜ (k * FIELDS + FIELDS ≤ length (now rows)) × (j * FIELDS + FIELDS ≤ length (now rows)) ⌝ }
     ensures { λ r. ⌜ r ≡ delivers (rowIn (now (rows .entry)) k) (rowIn (now (rows .entry)) j) ⌝ }
 {
     let from = k * rows::FIELDS;
@@ -142,7 +142,7 @@ fn larger(a: u16, b: u16) -> u16
 // Joins the counts of row k into those of row j.
 fn join(counts: &mut [u16], k: usize, j: usize, processes: usize)
     requires { ⌜ (k < j) × (processes ≤ PROCESSES) × (j * processes + processes ≤ length (now counts)) ⌝ }
-    ensures { λ r. ⌜ now (counts .exit) ≡ withRow processes (now (counts .entry)) j (joinedRow processes (now (counts .entry)) j k) ⌝ }
+    ensures { λ r. ⌜ now (counts .exit) ≡ withCounts processes (now (counts .entry)) j (joinedRow processes (now (counts .entry)) j k) ⌝ }
 {
     let from = k * processes;
     let to = j * processes;
@@ -153,10 +153,10 @@ fn join(counts: &mut [u16], k: usize, j: usize, processes: usize)
     }
 }
 
-// Joins the counts of the row before `last` into those of row j; nothing where last is 0.
+// Joins the counts of row `last` - 1 into those of row j. Nothing changes where `last` is 0.
 fn join_last(counts: &mut [u16], last: usize, j: usize, processes: usize)
     requires { ⌜ (last ≤ j) × (processes ≤ PROCESSES) × (j * processes + processes ≤ length (now counts)) ⌝ }
-    ensures { λ r. ⌜ now (counts .exit) ≡ withRow processes (now (counts .entry)) j (joinedLast processes (now (counts .entry)) j last) ⌝ }
+    ensures { λ r. ⌜ now (counts .exit) ≡ withCounts processes (now (counts .entry)) j (joinedLast processes (now (counts .entry)) j last) ⌝ }
 {
     if 0 < last {
         join(counts, last - 1, j, processes);
@@ -165,8 +165,8 @@ fn join_last(counts: &mut [u16], last: usize, j: usize, processes: usize)
 
 // Joins the counts of every send that row j receives into those of row j.
 fn join_sends(rows: &[u32], j: usize, processes: usize, counts: &mut [u16])
-    requires { ⌜ (j * 6 + 6 ≤ length (now rows)) × (processes ≤ PROCESSES) × (j * processes + processes ≤ length (now counts)) ⌝ }
-    ensures { λ r. ⌜ now (counts .exit) ≡ withRow processes (now (counts .entry)) j (joinedSends processes (now (rows .entry)) (now (counts .entry)) j) ⌝ }
+    requires { ⌜ (j * FIELDS + FIELDS ≤ length (now rows)) × (processes ≤ PROCESSES) × (j * processes + processes ≤ length (now counts)) ⌝ }
+    ensures { λ r. ⌜ now (counts .exit) ≡ withCounts processes (now (counts .entry)) j (joinedSends processes (now (rows .entry)) (now (counts .entry)) j) ⌝ }
 {
     let at = j * rows::FIELDS;
     if rows[at + rows::KIND_AT] != rows::RECV {
@@ -184,7 +184,7 @@ fn join_sends(rows: &[u32], j: usize, processes: usize, counts: &mut [u16])
 // Counts row j itself.
 fn add_own(counts: &mut [u16], j: usize, processes: usize, process: u32)
     requires { ⌜ (processes ≤ PROCESSES) × (j * processes + processes ≤ length (now counts)) × (process < processes) × (cellIn processes (now counts) j process ≤ ROWS) ⌝ }
-    ensures { λ r. ⌜ now (counts .exit) ≡ withRow processes (now (counts .entry)) j (withOwn process (λ p. cellIn processes (now (counts .entry)) j p)) ⌝ }
+    ensures { λ r. ⌜ now (counts .exit) ≡ withCounts processes (now (counts .entry)) j (withOwn process (λ p. cellIn processes (now (counts .entry)) j p)) ⌝ }
 {
     let at = j * processes + process as usize;
     counts[at] += 1;

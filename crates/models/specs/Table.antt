@@ -5,7 +5,7 @@ use lib.Dec.{eqb}
 use Rattle.rows.specs.Kinds.{READ, WRITE, COMMIT, OPEN, CLOSE, SYNC}
 use Rattle.models.specs.Models.{POSIX, COMMIT-MODEL, SESSION, MPI-IO}
 
--- a row of this kind under this model
+-- The model is m and the kind is k.
 abbrev pub under : ℕ → ℕ → ℕ → ℕ → Bool
 under m k model kind = eqb model m && eqb kind k
 
@@ -23,6 +23,24 @@ refreshes model kind =
     || (under COMMIT-MODEL READ model kind
     || (under SESSION OPEN model kind || (under MPI-IO OPEN model kind || under MPI-IO SYNC model kind)))
 
--- the mark of a row: 1 if it publishes, plus 2 if it refreshes
-abbrev pub markOf : ℕ → ℕ → ℕ
-markOf model kind = cond (publishes model kind) 1 0 + cond (refreshes model kind) 2 0
+-- ---- The entries of the table
+
+-- A row does neither.
+abbrev pub ENTRY-NONE : ℕ
+ENTRY-NONE = 0
+
+-- A row publishes.
+abbrev pub ENTRY-PUBLISH : ℕ
+ENTRY-PUBLISH = 1
+
+-- A row refreshes.
+abbrev pub ENTRY-REFRESH : ℕ
+ENTRY-REFRESH = 2
+
+-- A row publishes and refreshes.
+abbrev pub ENTRY-BOTH : ℕ
+ENTRY-BOTH = 3
+
+-- The table's entry for a row of this kind under this model: ENTRY-PUBLISH if the row publishes, plus ENTRY-REFRESH if it refreshes.
+abbrev pub tableEntry : ℕ → ℕ → ℕ
+tableEntry model kind = cond (publishes model kind) ENTRY-PUBLISH ENTRY-NONE + cond (refreshes model kind) ENTRY-REFRESH ENTRY-NONE

@@ -10,21 +10,21 @@ use borrow.Author.Tests.{le-leb, lt-leb}
 use Rattle.print.specs.Decimal.{digitsOf, widthOf, decimalOf}
 use Rattle.print.specs.Puts.{lay, room, putIn, putEnd}
 
--- where there is room, the bytes are laid
+-- Where there is room, the bytes are laid.
 pub put-lay : (xs : List ℕ) (at : ℕ) (w : List ℕ) → at + length w ≤ length xs → (at + length w ≡ putEnd xs at w) × (lay xs at w ≡ putIn xs at w)
 unfolding putEnd putIn
 put-lay xs at w h = rw (le-leb _ _ h) (refl, refl)
 
--- where there is none, nothing is
+-- Where there is no room, nothing is laid.
 pub put-none : (xs : List ℕ) (at : ℕ) (w : List ℕ) → length xs < at + length w → (at ≡ putEnd xs at w) × (xs ≡ putIn xs at w)
 unfolding putEnd putIn
 put-none xs at w h = rw (lt-leb _ _ h) (refl, refl)
 
--- laying is the library's copy of all bytes
+-- Laying is the library's copy of all bytes.
 pub lay-paste : (xs : List ℕ) (at : ℕ) (w : List ℕ) → paste xs at w (length w) ≡ lay xs at w
 lay-paste xs at w = ap (λ (l : List ℕ). (take at xs ++ l) ++ drop (at + length w) xs) (take-length w)
 
--- no bytes change nothing
+-- Laying no bytes changes nothing.
 pub lay-none : (xs : List ℕ) (at : ℕ) → xs ≡ lay xs at []
 lay-none xs at =
     let z : at ≡ at + 0 = omega arith in
@@ -33,7 +33,7 @@ lay-none xs at =
 pub lay-length : (xs : List ℕ) (at : ℕ) (w : List ℕ) → at + length w ≤ length xs → length (lay xs at w) ≡ length xs
 lay-length xs at w h = ap length (sym (lay-paste xs at w)) ∙ length-paste xs at w (length w) h (omega arith)
 
--- bytes laid behind others are laid with them
+-- Bytes laid behind others are laid with them.
 pub lay-lay : (xs : List ℕ) (at : ℕ) (s t : List ℕ) → at + length s ≤ length xs → lay (lay xs at s) (at + length s) t ≡ lay xs at (s ++ t)
 lay-lay xs at s t h =
     let head : length (take at xs ++ s) ≡ at + length s = length-append (take at xs) s ∙ ap (λ (k : ℕ). k + length s) (length-take-le at xs (omega arith)) in
@@ -47,7 +47,7 @@ lay-lay xs at s t h =
     ∙ ap (λ (l : List ℕ). l ++ drop (at + length s + length t) (lay xs at s)) (append-assoc (take at xs) s t)
     ∙ ap (λ (l : List ℕ). (take at xs ++ (s ++ t)) ++ l) behind
 
--- a last byte may be stored before the others are laid
+-- A last byte may be stored before the others are laid.
 pub lay-last : (xs : List ℕ) (at : ℕ) (w : List ℕ) (d : ℕ) → at + length w < length xs → lay (set xs (at + length w) d) at w ≡ lay xs at (w ++ (d ∷ []))
 lay-last xs at w d h =
     let i = at + length w in
@@ -66,7 +66,7 @@ digits-length (suc k) n = length-append (digitsOf k _) (_ ∷ []) ∙ ap (λ (l 
 
 -- ---- Bytes put one after the other
 
--- what a copy keeps: the first i bytes are in their places
+-- What a copy keeps: the first i bytes are in their places.
 pub record Copying (xs : List ℕ) (at : ℕ) (w ys : List ℕ) (i : ℕ) : Type 0 where
   pub so-far : ys ≡ paste xs at w i
   pub within : i ≤ length w
@@ -95,7 +95,7 @@ module _ {xs : List ℕ} {at : ℕ} {w ys : List ℕ} {i : ℕ} (g : Copying xs 
       let e : i ≡ length w = omega (arith, g .within) in
       (put-lay xs at w (g .fit) .0, g .so-far ∙ ap (λ (k : ℕ). paste xs at w k) e ∙ lay-paste xs at w ∙ put-lay xs at w (g .fit) .1)
 
--- what spelling from the last digit on keeps: the digits that are left, laid on what is there, make the whole
+-- What spelling from the last digit on keeps: the digits that are left, laid on what is there, make the whole.
 pub record Spelling (xs : List ℕ) (at n width : ℕ) (ys : List ℕ) (i rest : ℕ) : Type 0 where
   pub so-far : lay ys at (digitsOf i rest) ≡ lay xs at (digitsOf width n)
   pub size : length ys ≡ length xs
@@ -131,12 +131,12 @@ module _ {xs : List ℕ} {at n width : ℕ} {ys : List ℕ} {i rest : ℕ} (g : 
       let z : i ≡ 0 = omega arith in
       lay-none ys at ∙ sym (ap (λ (k : ℕ). lay ys at (digitsOf k rest)) z) ∙ g .so-far
 
--- a number has as many bytes as digits
+-- A number has as many bytes as digits.
 pub number-length : (n : ℕ) → length (decimalOf n) ≡ widthOf n
 unfolding decimalOf
 number-length n = digits-length (widthOf n) n
 
--- its digits in their places are the number put
+-- A number's digits in their places are the number put.
 pub number-put : (xs : List ℕ) (at n : ℕ) {width : ℕ} {ys : List ℕ} → width ≡ widthOf n → at + width ≤ length xs → ys ≡ lay xs at (digitsOf width n) →
     (at + width ≡ putEnd xs at (decimalOf n)) × (ys ≡ putIn xs at (decimalOf n))
 unfolding decimalOf

@@ -1,11 +1,11 @@
--- How many digits a number has.
+-- Laws of how many digits a number has.
 use Prim.Native.Nat.{ℕ, zero, suc, _+_, _-_, _*_, _/_, _≤_, _<_}
 use native.Mathlib.Omega.{arith}
 use mathlib.Core.Path.{_≡_, refl, subst}
 use borrow.Author.Tests.{lt-ltb, le-ltb}
 use Rattle.print.specs.Decimal.{widthWithin, widthOf}
 
--- the power of ten with one more zero than a number says
+-- The power of ten with one more zero than a number says.
 abbrev pub tens : ℕ → ℕ
 tens zero = 10
 tens (suc k) = tens k * 10
@@ -19,7 +19,7 @@ pub record Going (n width rest left : ℕ) : Type 0 where
 pub start : (n : ℕ) → n < 4294967296 → Going n 1 n 9
 start n h = record { ten = refl; small = omega arith; counted = omega arith }
 
--- one digit more
+-- A rest of 10 or more has one digit more.
 step : {n width rest k : ℕ} → Going n width rest (suc k) → 10 ≤ rest → Going n (width + 1) (rest / 10) k
 unfolding widthWithin
 step {n} {width} {rest} {k} g l =
@@ -32,7 +32,7 @@ step {n} {width} {rest} {k} g l =
       counted = omega (arith, c, e);
     }
 
--- the last digit
+-- A rest below 10 is the last digit.
 pub stop : {n width rest left : ℕ} → Going n width rest left → rest < 10 → (width ≡ widthOf n) × (width ≤ 10)
 unfolding widthWithin
 stop {n} {width} {rest} {left} g h =
@@ -40,7 +40,7 @@ stop {n} {width} {rest} {left} g h =
     let e : widthWithin (suc left) rest ≡ 1 = rw (lt-ltb rest 10 h) in
     (omega (arith, c, e), omega (arith, g .ten))
 
--- one digit more, with what is left of ten said by the width
+-- A rest of 10 or more has one digit more, with the digits that are left said by the width.
 pub again : {n width rest : ℕ} → Going n width rest (10 - width) → 10 ≤ rest → Going n (width + 1) (rest / 10) (10 - (width + 1))
 again {n} {width} {rest} g l = go (10 - width) refl g
   where

@@ -1,11 +1,17 @@
-// Bytes and decimal numbers put into a lent slice from a place on. Where there is no room nothing is put, and the answer is the same place.
-ghost use Prim.Native.Nat.{_+_, _≤_};
+// Puts bytes and decimal numbers into a lent slice from an index on. Where there is no room nothing is put, and the answer is that index.
+ghost use Prim.Native.Nat.{_+_, _≤_, _<_};
 ghost use mathlib.Core.Path.{_≡_};
 ghost use lib.ListN.{length};
-ghost use Rattle.print.specs.Decimal.{digitsOf, widthOf, decimalOf};
+ghost use Rattle.print.specs.Decimal.{BASE, DIGIT-0, WIDTH, digitsOf, widthOf, decimalOf};
 ghost use Rattle.print.specs.Puts.{lay, putIn, putEnd};
 
-// Puts bytes and answers the place behind them.
+// Numbers are decimal.
+const BASE: u32 = 10;
+
+// The byte of the digit 0.
+const DIGIT_0: u8 = 48;
+
+// Puts bytes and answers the index behind them.
 pub fn put(out: &mut [u8], at: usize, bytes: &[u8]) -> usize
     ensures answer { λ r. ⌜ r ≡ putEnd (now (out .entry)) at (now (bytes .entry)) ⌝ }
     ensures left { λ r. ⌜ now (out .exit) ≡ putIn (now (out .entry)) at (now (bytes .entry)) ⌝ }
@@ -24,7 +30,7 @@ pub fn put(out: &mut [u8], at: usize, bytes: &[u8]) -> usize
     at + bytes.len()
 }
 
-// Puts a number's decimal digits and answers the place behind them.
+// Puts a number's decimal digits and answers the index behind them.
 pub fn put_number(out: &mut [u8], at: usize, n: u32) -> usize
     ensures answer { λ r. ⌜ r ≡ putEnd (now (out .entry)) at (decimalOf n) ⌝ }
     ensures left { λ r. ⌜ now (out .exit) ≡ putIn (now (out .entry)) at (decimalOf n) ⌝ }
@@ -40,14 +46,14 @@ pub fn put_number(out: &mut [u8], at: usize, n: u32) -> usize
     at + width
 }
 
-// How many digits a number has.
+// Answers how many digits a number has.
 fn width_of(n: u32) -> usize
-    ensures { λ r. ⌜ (r ≡ widthOf n) × (r ≤ 10) ⌝ }
+    ensures { λ r. ⌜ (r ≡ widthOf n) × (r ≤ WIDTH) ⌝ }
 {
     let mut width = 1;
     let mut rest = n;
-    while 10 <= rest {
-        rest /= 10;
+    while BASE <= rest {
+        rest /= BASE;
         width += 1;
     }
     width
@@ -62,14 +68,15 @@ fn put_digits(out: &mut [u8], at: usize, n: u32, width: usize)
     let mut rest = n;
     while 0 < i {
         i -= 1;
-        out[at + i] = digit(rest % 10);
-        rest /= 10;
+        out[at + i] = digit(rest % BASE);
+        rest /= BASE;
     }
 }
 
+// Answers the byte of a digit.
 fn digit(d: u32) -> u8
-    requires { ⌜ d ≤ 9 ⌝ }
-    ensures { λ r. ⌜ r ≡ 48 + d ⌝ }
+    requires { ⌜ d < BASE ⌝ }
+    ensures { λ r. ⌜ r ≡ DIGIT-0 + d ⌝ }
 {
-    48 + d as u8
+    DIGIT_0 + d as u8
 }

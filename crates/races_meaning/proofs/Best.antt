@@ -1,5 +1,4 @@
 -- The first row that publishes and the last row that refreshes are the best choices for a chain, and counts tell happens-before.
---
 use Prim.Native.Nat.{ℕ, zero, suc, _-_, _≤_, _<_}
 use native.Mathlib.Omega.{arith}
 use native.Mathlib.Numerals.{unary-clauses}
@@ -21,25 +20,25 @@ use Rattle.rows.proofs.Bools.{and-out, or-out, or-right, same-test, not-passed}
 use Rattle.rows.proofs.Below.{count-less, count-cut}
 use Rattle.happens_before.proofs.Clocks.{edge-forward, program-order, HB-less, HB-trans, hb-iff, placeOf, place-iff}
 use Rattle.races_meaning.specs.Races.{sameFile}
-use Rattle.races_meaning.specs.Marks.{publishedBy, refreshedBy, tableChain}
+use Rattle.races_meaning.specs.TableChain.{publishedBy, refreshedBy, tableChain}
 use Rattle.races_meaning.specs.Search.{isPublish, isRefresh, publishAt, refreshAt, bestChain, countsOrder}
 use Rattle.races_meaning.proofs.Verdicts.{Least, least-is}
 use Rattle.races_meaning.proofs.Chains.{HB-in, HB-start, two-iff}
 
 -- ---- The first that passes and the last that passes
 
--- p is the first number below n that passes, or not below n
+-- The number p is the first below n that passes, or is not below n where none passes.
 pub record Earliest (n : ℕ) (test : ℕ → Bool) (p : ℕ) : Type 0 where
   pub passes : p < n → test p ≡ true
   pub first : (c : ℕ) → test c ≡ true → p ≤ c
 
--- q is one more than the last number that passes, or 0, and at most n
+-- The number q is one more than the last below n that passes, or 0 where none passes.
 pub record Latest (n : ℕ) (test : ℕ → Bool) (q : ℕ) : Type 0 where
   pub high : q ≤ n
   pub passes : 0 < q → test (q - 1) ≡ true
   pub last : (o : ℕ) → o < n → test o ≡ true → o < q
 
--- lastBelow finds it
+-- `lastBelow` finds the last number that passes.
 pub last-is : (n : ℕ) (test : ℕ → Bool) → Latest n test (lastBelow n test)
 unfolding lastBelow
 last-is zero test = record { high = omega arith; passes = λ h. absurd (omega arith); last = λ o l e. omega arith }
@@ -54,11 +53,11 @@ last-is (suc n) test = go (test n) refl (last-is n test)
         rest o l t (no b) = let s : n ≡ o = omega arith in absurd (false≢true (sym e ∙ ap test s ∙ t))
 
 module _ (rows : List Row) where
-  -- the process of the row at a place
+  -- The process of the row at an index.
   abbrev processAt : ℕ → ℕ
   processAt k = rowAt rows k .process
 
-  -- what happens after a row happens after an earlier row of its process
+  -- A row that happens after another happens after every earlier row of that one's process.
   HB-early : (p c o : ℕ) → p ≤ c → processAt p ≡ processAt c → HB (edge rows) c o → HB (edge rows) p o
   HB-early p c o l s h = go (decLt p c)
     where
@@ -66,7 +65,7 @@ module _ (rows : List Row) where
       go (yes b) = HB-trans (one (program-order rows p c b (HB-start rows h) s)) h
       go (no b) = let q : p ≡ c = omega arith in rw q h
 
-  -- what happens before a row happens before a later row of its process
+  -- A row that happens before another happens before every later row of that one's process.
   HB-late : (c o r : ℕ) → o ≤ r → r < length rows → processAt o ≡ processAt r → HB (edge rows) c o → HB (edge rows) c r
   HB-late c o r l b s h = go (decLt o r)
     where
@@ -74,7 +73,7 @@ module _ (rows : List Row) where
       go (yes a) = more h (program-order rows o r a b s)
       go (no a) = let q : o ≡ r = omega arith in rw q at h
 
-  -- a row of one process that passes happens before a row of another that passes exactly where the first does before the last
+  -- Of two processes, some row that passes happens before some row that passes exactly where the first of the one does before the last of the other.
   best-pair : (by for : ℕ → Bool) (x y p q n : ℕ) → n ≤ length rows → ((c : ℕ) → by c ≡ true → processAt x ≡ processAt c) →
       ((o : ℕ) → for o ≡ true → (o < n) × (processAt y ≡ processAt o)) → Earliest (length rows) by p → Latest n for q →
       anyBelow (length rows) (λ c. by c && anyBelow (length rows) (λ o. for o && hb (edge rows) c o))
@@ -105,7 +104,7 @@ module _ (rows : List Row) where
 
   -- ---- The choices
 
-  -- what publishes x is of its process
+  -- A row that publishes x is of x's process.
   published : (model x c : ℕ) → publishedBy rows model x c ≡ true → processAt x ≡ processAt c
   unfolding publishedBy
   published model x c = go (publishes model WRITE)
@@ -117,7 +116,7 @@ module _ (rows : List Row) where
           let j = and-out (publishes model (rowAt rows c .kind)) _ (i .1) in
           eqb-true _ _ (and-out (sameFile (rowAt rows x) (rowAt rows c)) _ (j .1) .1)
 
-  -- what refreshes for y stands before it or is it, and is of its process
+  -- A row that refreshes for y is y or stands before y, and is of y's process.
   pub refreshed : (model y o : ℕ) → refreshedBy rows model y o ≡ true → (o < suc y) × (processAt y ≡ processAt o)
   unfolding refreshedBy
   refreshed model y o = go (refreshes model READ)
@@ -130,7 +129,7 @@ module _ (rows : List Row) where
           let l = ltb-true o y (i .0) in
           (omega arith, eqb-true _ _ (and-out (sameFile (rowAt rows y) (rowAt rows o)) _ (j .1) .1))
 
-  -- publishAt is the first that publishes
+  -- `publishAt` names the first row that publishes x.
   pub publish-first : (model x : ℕ) → x < length rows → Earliest (length rows) (publishedBy rows model x) (publishAt rows model x)
   unfolding publishedBy publishAt
   publish-first model x h = go (publishes model WRITE)
@@ -154,7 +153,7 @@ module _ (rows : List Row) where
       go true = record { passes = λ l. eq-eqb x x refl; first = λ c e. omega (arith, eqb-true c x e) }
       go false = record { passes = λ l. rw (lt-ltb x p (r .low)) (r .passes (omega arith)); first = after }
 
-  -- refreshAt is the last that refreshes, and one
+  -- `refreshAt` names the last row that refreshes for y, plus one.
   pub refresh-last : (model y : ℕ) → Latest (suc y) (refreshedBy rows model y) (refreshAt rows model y)
   unfolding refreshedBy refreshAt
   refresh-last model y = go (refreshes model READ)
@@ -180,7 +179,7 @@ module _ (rows : List Row) where
             last = λ o l e. before o e;
           }
 
--- a chain exists exactly where the best choices make one
+-- The table has a chain exactly where the best choices make one.
 pub best-chain : (rows : List Row) (model x y : ℕ) → x < length rows → y < length rows → tableChain rows model x y ≡ bestChain rows model x y
 unfolding tableChain bestChain
 best-chain rows model x y h g =
@@ -189,7 +188,7 @@ best-chain rows model x y h g =
 
 -- ---- Counts
 
--- a row or one that happens before it does not stand behind it
+-- A row that is j or happens before j does not stand behind j.
 upTo-least : (rows : List Row) (k i : ℕ) → upTo (edge rows) k i ≡ true → k ≤ i
 upTo-least rows k i e = go (or-out (eqb k i) _ e)
   where
@@ -197,7 +196,7 @@ upTo-least rows k i e = go (or-out (eqb k i) _ e)
     go (inl q) = omega (arith, eqb-true k i q)
     go (inr h) = let l = HB-less (edge-forward rows) (hb-iff (edge-forward rows) k i .0 h) in omega arith
 
--- a row's count for its own process is at most its place
+-- A row's count for its own process is at most its place among that process's rows.
 own-most : (rows : List Row) (i : ℕ) → i < length rows → count rows (rowAt rows i .process) i ≤ placeOf rows i
 unfolding count placeOf
 own-most rows i h =
@@ -214,14 +213,14 @@ own-most rows i h =
     out : (k : ℕ) → suc i ≤ k → k < length rows → both k ≡ false
     out k l b = not-passed (both k) (λ e. let m = upTo-least rows k i (and-out (isP k) _ e .1) in omega arith)
 
--- and it is its place
+-- A row's count for its own process is its place among that process's rows.
 own-place : (rows : List Row) (i : ℕ) → i < length rows → count rows (rowAt rows i .process) i ≡ placeOf rows i
 own-place rows i h =
     let a = own-most rows i h in
     let b = place-iff rows i i h h .0 (rw (eq-eqb i i refl)) in
     omega arith
 
--- a row of another process happens before row j exactly where its own count is at most row j's count for its process
+-- Row i happens before row j of another process exactly where row i's own count is at most row j's count for row i's process.
 pub counts-tell : (rows : List Row) (i j : ℕ) → i < length rows → j < length rows → (i ≡ j → ⊥) → hb (edge rows) i j ≡ countsOrder rows i j
 counts-tell rows i j h g n = same-test _ _ there back
   where

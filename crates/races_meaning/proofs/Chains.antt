@@ -1,4 +1,4 @@
--- The chains as what lies between, and the chain of the table.
+-- Each model's chain by the rows between, and the chain of the table.
 use Prim.Native.Nat.{ℕ, zero, suc, _<_}
 use native.Mathlib.Omega.{arith}
 use mathlib.Core.Path.{_≡_, refl, sym, ap, _∙_}
@@ -18,11 +18,12 @@ use Rattle.rows.proofs.Bools.{and-out, same-test}
 use Rattle.rows.proofs.Below.{any-in, any-out}
 use Rattle.happens_before.proofs.Clocks.{edge-forward, edge-in, HB-less, hb-iff}
 use Rattle.races_meaning.specs.Races.{sameFile, isSync, chainPosix, chainCommit, chainSession, chainMpiIo, chain}
-use Rattle.races_meaning.specs.Marks.{publishedBy, refreshedBy, tableChain}
+use Rattle.races_meaning.specs.TableChain.{publishedBy, refreshedBy, tableChain}
+use Rattle.rows.specs.Limits.{MODELS}
 
 -- ---- Tests
 
--- one of two kinds, and a test of the row
+-- Some row of one of two kinds passes a test.
 kinds : (a b w : Bool) → (a || b) && w ≡ (a && w) || (b && w)
 kinds true true true = refl
 kinds true true false = refl
@@ -30,7 +31,7 @@ kinds true false true = refl
 kinds true false false = refl
 kinds false b w = refl
 
--- the same, the second kind first
+-- Some row of one of two kinds, the second kind first, passes a test.
 kinds-turned : (a b w : Bool) → (a || b) && w ≡ (b && w) || (a && w)
 kinds-turned true true true = refl
 kinds-turned true true false = refl
@@ -39,7 +40,7 @@ kinds-turned false true true = refl
 kinds-turned false true false = refl
 kinds-turned false false w = refl
 
--- equal tests pass together
+-- Equal tests pass together.
 any-same : (n : ℕ) (f g : ℕ → Bool) → ((i : ℕ) → f i ≡ g i) → anyBelow n f ≡ anyBelow n g
 unfolding anyBelow
 any-same zero f g h = refl
@@ -48,16 +49,16 @@ any-same (suc n) f g h = rw (any-same n f g h, h n)
 -- ---- Two rows with tests, the first of which happens before the second
 
 module _ (rows : List Row) where
-  -- a row before which another happens is in the trace
+  -- A row before which another happens is in the trace.
   pub HB-in : {i j : ℕ} → HB (edge rows) i j → j < length rows
   HB-in (one {i} {j} e) = edge-in rows i j e
   HB-in (more {k = k} {j = j} h e) = edge-in rows k j e
 
-  -- and so is the other
+  -- A row that happens before another is in the trace.
   pub HB-start : {i j : ℕ} → HB (edge rows) i j → i < length rows
   HB-start h = omega (arith, HB-in h, HB-less (edge-forward rows) h)
 
-  -- a row that passes and happens before a row below n that passes
+  -- Some row that passes happens before some row below n that passes.
   pub two-iff : (n : ℕ) (first last : ℕ → Bool) →
       (anyBelow (length rows) (λ c. first c && anyBelow n (λ o. last o && hb (edge rows) c o)) ≡ true)
       ↔ ((c : ℕ) × (o : ℕ) × (first c ≡ true) × (o < n) × (last o ≡ true) × HB (edge rows) c o)
@@ -83,7 +84,7 @@ module _ (rows : List Row) where
           (rw t (any-in n (λ o. last o && hb (edge rows) c o) o l (rw u (hb-iff (edge-forward rows) c o .1 h))))
 
 module _ (rows : List Row) (x y : ℕ) where
-  -- a row after x that passes happens before row y
+  -- Some row after x that passes happens before row y.
   one-iff : (test : ℕ → Bool) →
       (anyBelow (length rows) (λ c. ltb x c && (test c && hb (edge rows) c y)) ≡ true) ↔ ((c : ℕ) × (x < c) × (test c ≡ true) × HB (edge rows) c y)
   one-iff test = (there, back)
@@ -102,7 +103,7 @@ module _ (rows : List Row) (x y : ℕ) where
       back (c, l, t, h) =
           any-in (length rows) at c (HB-start rows h) (rw (lt-ltb x c l, t) (hb-iff (edge-forward rows) c y .1 h))
 
-  -- a row after x that passes happens before a row before y that passes
+  -- Some row after x that passes happens before some row before y that passes.
   pair-iff : (first last : ℕ → Bool) →
       (anyBelow (length rows) (λ c. ltb x c && (first c && anyBelow y (λ o. last o && hb (edge rows) c o))) ≡ true)
       ↔ ((c : ℕ) × (o : ℕ) × (x < c) × (first c ≡ true) × (o < y) × (last o ≡ true) × HB (edge rows) c o)
@@ -153,7 +154,7 @@ module _ (rows : List Row) (x y : ℕ) where
       pair-iff (λ c. isSync CLOSE (rowAt rows x) (rowAt rows c) || isSync SYNC (rowAt rows x) (rowAt rows c))
       (λ o. isSync SYNC (rowAt rows y) (rowAt rows o) || isSync OPEN (rowAt rows y) (rowAt rows o))
 
-  -- the table's reading, of a row after x and a row before y
+  -- The table's chain by a row after x and a row before y.
   table-pair : (p r first last : ℕ → Bool) → ((c : ℕ) → p c ≡ ltb x c && first c) → ((o : ℕ) → r o ≡ ltb o y && last o) →
       anyBelow (length rows) (λ c. p c && anyBelow (length rows) (λ o. r o && hb (edge rows) c o))
       ≡ anyBelow (length rows) (λ c. ltb x c && (first c && anyBelow y (λ o. last o && hb (edge rows) c o)))
@@ -172,7 +173,7 @@ module _ (rows : List Row) (x y : ℕ) where
           (c : ℕ) × (o : ℕ) × (p c ≡ true) × (o < length rows) × (r o ≡ true) × HB (edge rows) c o
       back (c, o, k, t, l, u, h) = (c, o, rw (a c, lt-ltb x c k) t, HB-in rows h, rw (b o, lt-ltb o y l) u, h)
 
-  -- the table's reading, of a row after x and row y itself
+  -- The table's chain by a row after x and row y itself.
   table-one : (p test : ℕ → Bool) → ((c : ℕ) → p c ≡ ltb x c && test c) →
       anyBelow (length rows) (λ c. p c && anyBelow (length rows) (λ o. eqb o y && hb (edge rows) c o))
       ≡ anyBelow (length rows) (λ c. ltb x c && (test c && hb (edge rows) c y))
@@ -190,7 +191,7 @@ module _ (rows : List Row) (x y : ℕ) where
           (c : ℕ) × (o : ℕ) × (p c ≡ true) × (o < length rows) × (eqb o y ≡ true) × HB (edge rows) c o
       back (c, k, t, h) = (c, y, rw (a c, lt-ltb x c k) t, HB-in rows h, eq-eqb y y refl, h)
 
-  -- the table's reading, of the rows x and y themselves
+  -- The table's chain by the rows x and y themselves.
   table-self : anyBelow (length rows) (λ c. eqb c x && anyBelow (length rows) (λ o. eqb o y && hb (edge rows) c o)) ≡ hb (edge rows) x y
   table-self =
       same-test _ _ (λ e. hb-iff (edge-forward rows) x y .1 (there (two-iff rows (length rows) (λ c. eqb c x) (λ o. eqb o y) .0 e)))
@@ -202,12 +203,12 @@ module _ (rows : List Row) (x y : ℕ) where
       back : HB (edge rows) x y → (c : ℕ) × (o : ℕ) × (eqb c x ≡ true) × (o < length rows) × (eqb o y ≡ true) × HB (edge rows) c o
       back h = (x, y, eq-eqb x x refl, HB-in rows h, eq-eqb y y refl, h)
 
-  -- rows of one file and process
+  -- Two rows are of one file and process.
   abbrev own : ℕ → ℕ → Bool
   own i k = sameFile (rowAt rows i) (rowAt rows k) && sameProcess (rowAt rows i) (rowAt rows k)
 
-  -- The table's reading gives the four chains.
-  pub table-chain : (model : ℕ) → model < 4 → x < length rows → y < length rows → tableChain rows model x y ≡ chain rows model x y
+  -- The table's chain is the chain of document 01 under each of the four models.
+  pub table-chain : (model : ℕ) → model < MODELS → x < length rows → y < length rows → tableChain rows model x y ≡ chain rows model x y
   unfolding tableChain publishedBy refreshedBy publishes refreshes chain chainPosix chainCommit chainSession chainMpiIo
   table-chain zero h a b = table-self
   table-chain (suc zero) h a b =

@@ -23,7 +23,7 @@ pub record Conflict (r s : Row) : Type 0 where
   pub two-processes : r .process ≡ s .process → ⊥
   pub one-writes : (r .kind ≡ WRITE) ⊎ (s .kind ≡ WRITE)
 
--- one of two numbers, by two tests
+-- One of two tests of a number passes exactly where the number is one of the two.
 either : (a b k l : ℕ) → (eqb a k || eqb b l ≡ true) ↔ ((a ≡ k) ⊎ (b ≡ l))
 either a b k l = (λ e. to (or-out (eqb a k) (eqb b l) e), from)
   where

@@ -1,5 +1,4 @@
 -- Races and verdicts in document 01's words. Rows are named by their places, from 0; a verdict gives row numbers, which are one more.
---
 use Prim.Native.Nat.{ℕ, zero, suc, _+_, _≤_, _<_}
 use native.Mathlib.Omega.{arith}
 use mathlib.Core.Path.{_≡_, refl, sym, subst, _∙_}
@@ -24,12 +23,12 @@ use Rattle.races_meaning.proofs.Chains.{posix-iff, commit-iff, session-
 
 -- ---- What document 01 says
 
--- s is a row of this kind by r's process, of r's file
+-- Row s is of this kind, by row r's process, of row r's file.
 abbrev pub Own : ℕ → Row → Row → Type 0
 Own kind r s = (s .kind ≡ kind) × (r .file ≡ s .file) × (r .process ≡ s .process)
 
 module _ (rows : List Row) where
-  -- row i happens before row j: direct edges lead from i to j, one after the other
+  -- Row i happens before row j: direct edges lead from i to j, one after the other.
   abbrev pub Before : ℕ → ℕ → Type 0
   Before i j = HB (edge rows) i j
 
@@ -60,7 +59,7 @@ module _ (rows : List Row) where
     pub conflicting : Conflict (rowAt rows x) (rowAt rows y)
     pub not-synchronized : Synchronized model x y → ⊥
 
-  -- the race with the smallest later row, then the smallest earlier row
+  -- The first race: the one with the smallest later row, then the smallest earlier row.
   pub record FirstRace (model x y : ℕ) : Type 0 where
     pub is-race : Race model x y
     pub smallest-later : (x′ y′ : ℕ) → Race model x′ y′ → y ≤ y′
@@ -68,7 +67,7 @@ module _ (rows : List Row) where
 
 -- ---- Chains
 
--- the test of a row's kind, file and process
+-- The test of a row's kind, file and process says what document 01 says.
 own-iff : (kind : ℕ) (r s : Row) → (isSync kind r s ≡ true) ↔ Own kind r s
 own-iff kind r s = (
   λ e. let a = and-out (eqb (s .kind) kind) _ e in
@@ -77,7 +76,7 @@ own-iff kind r s = (
   λ (k, f, p). rw (eq-eqb (s .kind) kind k, eq-eqb (r .file) (s .file) f, eq-eqb (r .process) (s .process) p),
 )
 
--- of one of two kinds
+-- The test of one of two kinds says what document 01 says.
 either-iff : (k l : ℕ) (r s : Row) → (isSync k r s || isSync l r s ≡ true) ↔ (Own k r s ⊎ Own l r s)
 either-iff k l r s = (λ e. to (or-out (isSync k r s) (isSync l r s) e), from)
   where
@@ -90,7 +89,7 @@ either-iff k l r s = (λ e. to (or-out (isSync k r s) (isSync l r s) e), from)
     from (inr o) = or-right (isSync k r s) (isSync l r s) (own-iff l r s .1 o)
 
 module _ (rows : List Row) (x y : ℕ) where
-  -- the definition of a model's chain gives the chain
+  -- Where the definition of a model's chain passes, the chain is there.
   chain-to : (model : ℕ) → model < MODELS → chain rows model x y ≡ true → Chain rows x y model
   unfolding chain
   chain-to zero h e = posix (posix-iff rows x y .0 e)
@@ -103,7 +102,7 @@ module _ (rows : List Row) (x y : ℕ) where
       mpi-io c o l (either-iff CLOSE SYNC (rowAt rows x) (rowAt rows c) .0 p) b m (either-iff SYNC OPEN (rowAt rows y) (rowAt rows o) .0 q)
   chain-to (suc (suc (suc (suc n)))) h e = absurd (omega arith)
 
-  -- the chain gives the definition of a model's chain
+  -- Where the chain is there, the definition of a model's chain passes.
   chain-from : {model : ℕ} → Chain rows x y model → chain rows model x y ≡ true
   unfolding chain
   chain-from (posix b) = posix-iff rows x y .1 b
@@ -118,7 +117,7 @@ module _ (rows : List Row) (x y : ℕ) where
   -- ---- Races
 
   module _ (model : ℕ) (known : model < MODELS) where
-    -- the definition of proper synchronization, where X is a data row
+    -- Where X is a data row, the definition of proper synchronization says what document 01 says.
     synchronized-iff : (rowAt rows x .kind ≡ READ) ⊎ (rowAt rows x .kind ≡ WRITE) →
         (synchronized rows model x y ≡ true) ↔ Synchronized rows model x y
     unfolding synchronized
@@ -162,14 +161,14 @@ module _ (rows : List Row) (x y : ℕ) where
 -- ---- Verdicts
 
 module _ (rows : List Row) (model : ℕ) (known : model < MODELS) where
-  -- free: there is no race
+  -- The verdict is free exactly where there is no race.
   pub verdict-free : (verdictOf rows model ≡ free) ↔ ((x y : ℕ) → Race rows model x y → ⊥)
   verdict-free = (
     λ e x y r. free-iff rows model .0 e x y (race-iff rows x y model known .1 r),
     λ n. free-iff rows model .1 (λ x y e. n x y (race-iff rows x y model known .0 e)),
   )
 
-  -- a race: it is the first one
+  -- The verdict names a race exactly where that race is the first one.
   pub verdict-race : (x y : ℕ) → (verdictOf rows model ≡ racing (x + 1) (y + 1)) ↔ FirstRace rows model x y
   verdict-race x y = (to, from)
     where

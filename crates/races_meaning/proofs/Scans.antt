@@ -16,26 +16,27 @@ use Rattle.rows.proofs.Bools.{and-out, same-test}
 use Rattle.happens_before.proofs.Clocks.{edge-forward, HB-less, hb-iff}
 use Rattle.races_meaning.specs.Races.{sameFile, conflict, synchronized, race, free, racing, verdictOf}
 use Rattle.rows.specs.Counting.{leastFrom, lastBelow}
-use Rattle.races_meaning.specs.Marks.{publishedBy, refreshedBy, tableChain}
+use Rattle.races_meaning.specs.TableChain.{publishedBy, refreshedBy, tableChain}
 use Rattle.races_meaning.specs.Search.{isPublish, publishAt, refreshAt, bestChain}
 use Rattle.races_meaning.specs.Scan.{before, noted, lastNoted, inOrder, raceAt}
 use Rattle.races_meaning.proofs.Verdicts.{least-is, race-out, free-iff, racing-iff}
 use Rattle.races_meaning.proofs.Conflicts.{Conflict, conflict-iff}
 use Rattle.races_meaning.proofs.Chains.{two-iff, table-chain}
 use Rattle.races_meaning.proofs.Best.{Latest, last-is, refreshed, publish-first, refresh-last, best-chain, counts-tell}
+use Rattle.rows.specs.Limits.{MODELS}
 
 -- ---- A write: its chain and the last noted row
 
 module _ (rows : List Row) (model x y : ℕ) (h : x < y) (g : y < length rows) (c : Conflict (rowAt rows x) (rowAt rows y)) where
-  -- the test of a noted row of x's process
+  -- Row c is a noted row of x's process.
   abbrev mark : ℕ → ℕ → Bool
   mark o k = eqb (rowAt rows k .process) (rowAt rows x .process) && noted rows model y o k
 
-  -- x is published by itself, or by a noted row behind it
+  -- Row x publishes itself, or a noted row behind x does.
   abbrev told : Bool → ℕ → Bool
   told b o = cond b (before rows model (rowAt rows x .process) x o) (ltb (suc x) (lastBelow y (mark o)))
 
-  -- what publishes x and happens before row o, up to y, is told
+  -- Where a row publishes x and happens before row o, the noted rows tell.
   chain-told : (b : Bool) (k o : ℕ) → o ≤ y → HB (edge rows) k o → cond b (eqb k x) (ltb x k && isPublish rows model (rowAt rows x) k) ≡ true →
       told b o ≡ true
   chain-told true k o l r e =
@@ -55,7 +56,7 @@ module _ (rows : List Row) (model x y : ℕ) (h : x < y) (g : y < length rows) (
       let a = last-is y (mark o) .last k (omega arith) (rw (p, j .0, s) u) in
       lt-ltb (suc x) _ (omega arith)
 
-  -- what is told is a row that publishes x and happens before row o, of y's process
+  -- Where the noted rows tell, a row publishes x and happens before row o.
   told-chain : (b : Bool) (o : ℕ) → o ≤ y → rowAt rows y .process ≡ rowAt rows o .process → told b o ≡ true →
       (k : ℕ) × (cond b (eqb k x) (ltb x k && isPublish rows model (rowAt rows x) k) ≡ true) × HB (edge rows) k o
   told-chain true o l s e = (x, eq-eqb x x refl, hb-iff (edge-forward rows) x o .0 (counts-tell rows x o (omega arith) (omega arith) apart ∙ e))
@@ -101,7 +102,7 @@ module _ (rows : List Row) (model x y : ℕ) (h : x < y) (g : y < length rows) (
       apart : k ≡ o → ⊥
       apart q = c .two-processes (sym p ∙ ap (λ (i : ℕ). rowAt rows i .process) q ∙ sym s)
 
-  -- the chain of the table, by the last noted row
+  -- The chain of the table, by the last noted row.
   chain-scan : tableChain rows model x y ≡ ltb 0 (refreshAt rows model y) && told (publishes model WRITE) (refreshAt rows model y - 1)
   unfolding tableChain publishedBy bestChain
   chain-scan = same-test _ _ (λ e. there (sym (best-chain rows model x y (omega arith) g) ∙ e)) back
@@ -128,8 +129,8 @@ module _ (rows : List Row) (model x y : ℕ) (h : x < y) (g : y < length rows) (
           let a = told-chain (publishes model WRITE) (q - 1) (omega arith) (refreshed rows model y (q - 1) t .1) (j .1) in
           two-iff rows (length rows) (publishedBy rows model x) (refreshedBy rows model y) .1 (a .0, q - 1, a .1, omega arith, t, a .2)
 
--- of a conflicting pair, the scan tells whether it is properly synchronized
-pub in-order : (rows : List Row) (model x y : ℕ) → model < 4 → x < y → y < length rows → conflict (rowAt rows x) (rowAt rows y) ≡ true →
+-- Of a conflicting pair, the scan tells whether it is properly synchronized.
+pub in-order : (rows : List Row) (model x y : ℕ) → model < MODELS → x < y → y < length rows → conflict (rowAt rows x) (rowAt rows y) ≡ true →
     synchronized rows model x y ≡ inOrder rows model x y
 unfolding synchronized inOrder lastNoted
 in-order rows model x y m h g c =
@@ -139,12 +140,12 @@ in-order rows model x y m h g c =
 
 -- ---- The races of a later row
 
--- what the scan asks of an earlier row
+-- What the scan asks of an earlier row.
 abbrev seen : List Row → ℕ → ℕ → ℕ → Bool
 seen rows model y x = conflict (rowAt rows x) (rowAt rows y) && not (inOrder rows model x y)
 
--- it is a race
-race-seen : (rows : List Row) (model x y : ℕ) → model < 4 → x < y → y < length rows → race rows model x y ≡ seen rows model y x
+-- An earlier row that the scan finds is a race.
+race-seen : (rows : List Row) (model x y : ℕ) → model < MODELS → x < y → y < length rows → race rows model x y ≡ seen rows model y x
 unfolding race
 race-seen rows model x y m h g = rw (lt-ltb x y h, lt-ltb y (length rows) g) (go (conflict (rowAt rows x) (rowAt rows y)) refl)
   where
@@ -152,19 +153,19 @@ race-seen rows model x y m h g = rw (lt-ltb x y h, lt-ltb y (length rows) g) (go
     go true e = ap not (in-order rows model x y m h g e)
     go false e = refl
 
-module _ (rows : List Row) (model y : ℕ) (m : model < 4) where
-  -- the smallest earlier row that is seen
+module _ (rows : List Row) (model y : ℕ) (m : model < MODELS) where
+  -- The smallest earlier row that the scan finds.
   abbrev smallest : ℕ
   smallest = leastFrom y 0 (seen rows model y)
 
-  -- a race is no smaller
+  -- No race with this later row has a smaller earlier row.
   race-small : (x : ℕ) → race rows model x y ≡ true → (smallest ≤ x) × (x < y)
   race-small x e =
       let o = race-out rows model x y e in
       let n = least-is y 0 (seen rows model y) .least x (omega arith) (sym (race-seen rows model x y m (o .0) (o .1)) ∙ e) in
       (omega arith, o .0)
 
-  -- the scan found none
+  -- Where the scan found none, there is no race with this later row.
   none-at : raceAt rows model y ≡ 0 → (x : ℕ) → race rows model x y ≡ true → ⊥
   unfolding raceAt
   none-at e x r = let s = race-small x r in go (ltb smallest y) refl e (omega arith)
@@ -173,7 +174,7 @@ module _ (rows : List Row) (model y : ℕ) (m : model < 4) where
       go true t e l = omega arith
       go false t e l = false≢true (sym t ∙ lt-ltb smallest y l)
 
-  -- the scan found one
+  -- Where the scan found one, it is the race with the smallest earlier row.
   one-at : (x : ℕ) → raceAt rows model y ≡ suc x → (smallest ≡ x) × (smallest < y)
   unfolding raceAt
   one-at x e = go (ltb smallest y) refl e
@@ -182,12 +183,12 @@ module _ (rows : List Row) (model y : ℕ) (m : model < 4) where
       go true t e = (omega arith, ltb-true smallest y t)
       go false t e = absurd (omega arith)
 
--- no later row has a race: free
-pub none-found : (rows : List Row) (model : ℕ) → model < 4 → ((y : ℕ) → y < length rows → raceAt rows model y ≡ 0) → verdictOf rows model ≡ free
+-- Where no later row has a race, the verdict is free.
+pub none-found : (rows : List Row) (model : ℕ) → model < MODELS → ((y : ℕ) → y < length rows → raceAt rows model y ≡ 0) → verdictOf rows model ≡ free
 none-found rows model m h = free-iff rows model .1 (λ x y e. none-at rows model y m (h y (race-out rows model x y e .1)) x e)
 
--- the first later row that has one, with its smallest earlier row
-pub first-found : (rows : List Row) (model x y : ℕ) → model < 4 → y < length rows → ((k : ℕ) → k < y → raceAt rows model k ≡ 0) →
+-- The verdict names the first later row that has a race, with its smallest earlier row.
+pub first-found : (rows : List Row) (model x y : ℕ) → model < MODELS → y < length rows → ((k : ℕ) → k < y → raceAt rows model k ≡ 0) →
     raceAt rows model y ≡ suc x → verdictOf rows model ≡ racing (suc x) (y + 1)
 first-found rows model x y m h g e =
     racing-iff rows model (suc x) (y + 1) .1 (x, y, omega arith, refl, record { is-race = is; least-later = later; least-earlier = earlier })

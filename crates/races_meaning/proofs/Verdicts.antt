@@ -15,7 +15,7 @@ use Rattle.rows.proofs.Bools.{and-out}
 use Rattle.rows.proofs.Below.{any-in, any-out}
 use Rattle.races_meaning.specs.Races.{shareByte, race, Verdict, free, racing, verdictOf}
 
--- two ranges overlap exactly where some byte lies in both
+-- Two ranges overlap exactly where some byte lies in both.
 pub share-iff : (r s : Row) →
     (shareByte r s ≡ true) ↔ ((b : ℕ) × (r .offset ≤ b) × (b < r .offset + r .length) × (s .offset ≤ b) × (b < s .offset + s .length))
 unfolding shareByte
@@ -32,14 +32,14 @@ share-iff r s = (
 
 -- ---- The least that passes
 
--- l is the smallest of the n numbers from s on that pass, or s + n
+-- The number l is the smallest of the n numbers from s on that pass, or s + n where none does.
 pub record Least (n s : ℕ) (test : ℕ → Bool) (l : ℕ) : Type 0 where
   pub low : s ≤ l
   pub high : l ≤ s + n
   pub passes : l < s + n → test l ≡ true
   pub least : (k : ℕ) → s ≤ k → test k ≡ true → k < l → ⊥
 
--- leastFrom finds it
+-- `leastFrom` finds the smallest number that passes.
 pub least-is : (n s : ℕ) (test : ℕ → Bool) → Least n s test (leastFrom n s test)
 unfolding leastFrom
 least-is zero s test = record { low = omega arith; high = omega arith; passes = λ h. absurd (omega arith); least = λ k a e b. omega arith }
@@ -61,7 +61,7 @@ least-is (suc n) s test = go (test s) refl (least-is n (suc s) test)
 
 -- ---- The verdict
 
--- a race leads forward, into the trace
+-- A race leads forward, into the trace.
 pub race-out : (rows : List Row) (model x y : ℕ) → race rows model x y ≡ true → (x < y) × (y < length rows)
 unfolding race
 race-out rows model x y e =
@@ -69,18 +69,18 @@ race-out rows model x y e =
     let b = and-out (ltb y (length rows)) _ (a .1) in
     (ltb-true _ _ (a .0), ltb-true _ _ (b .0))
 
--- the first race: no race has a smaller later row, and none with this later row a smaller earlier row
+-- The first race: no race has a smaller later row, and none with this later row a smaller earlier row.
 pub record First (rows : List Row) (model x y : ℕ) : Type 0 where
   pub is-race : race rows model x y ≡ true
   pub least-later : (x′ y′ : ℕ) → race rows model x′ y′ ≡ true → y ≤ y′
   pub least-earlier : (x′ : ℕ) → race rows model x′ y ≡ true → x ≤ x′
 
--- what the verdict says, with the reason
+-- What the verdict says, with the reason.
 data Told (rows : List Row) (model : ℕ) : Verdict → Type 0 where
   none : ((x y : ℕ) → race rows model x y ≡ true → ⊥) → Told rows model free
   some : (x y : ℕ) → First rows model x y → Told rows model (racing (x + 1) (y + 1))
 
--- the verdict is one of the two
+-- The verdict is free or names a race, with the reason.
 told : (rows : List Row) (model : ℕ) → Told rows model (verdictOf rows model)
 unfolding verdictOf
 told rows model = go (eqb later n) refl
@@ -128,7 +128,7 @@ told rows model = go (eqb later n) refl
           least-earlier = λ x r. omega (arith, under x r);
         })
 
--- free is said exactly where there is no race
+-- The verdict is free exactly where there is no race.
 pub free-iff : (rows : List Row) (model : ℕ) → (verdictOf rows model ≡ free) ↔ ((x y : ℕ) → race rows model x y ≡ true → ⊥)
 free-iff rows model = go (verdictOf rows model) (told rows model)
   where
@@ -136,7 +136,7 @@ free-iff rows model = go (verdictOf rows model) (told rows model)
     go free (none f) = (λ e. f, λ g. refl)
     go (racing _ _) (some x y f) = (λ e. let z : _≡_ {A = ℕ} 0 1 = cc in absurd (omega arith), λ g. absurd (g x y (f .is-race)))
 
--- a pair is named exactly where it is the first race; row numbers are places and one
+-- The verdict names a pair exactly where that pair is the first race. Row numbers are indices plus one.
 pub racing-iff : (rows : List Row) (model earlier later : ℕ) →
     (verdictOf rows model ≡ racing earlier later) ↔ ((x : ℕ) × (y : ℕ) × (earlier ≡ x + 1) × (later ≡ y + 1) × First rows model x y)
 racing-iff rows model earlier later = go (verdictOf rows model) (told rows model)

@@ -1,4 +1,4 @@
 pub mod Races
-pub mod Marks
+pub mod TableChain
 pub mod Search
 pub mod Scan

@@ -14,39 +14,42 @@ use Rattle.rows.specs.Rows.{rowAt}
 
 -- ---- Conflicts
 
+-- A row that writes.
 abbrev pub isWrite : Row → Bool
 isWrite r = eqb (r .kind) WRITE
 
--- a data row is a read or a write
+-- A data row is a read or a write.
 abbrev pub isData : Row → Bool
 isData r = eqb (r .kind) READ || isWrite r
 
+-- Two rows name one file.
 abbrev pub sameFile : Row → Row → Bool
 sameFile r s = eqb (r .file) (s .file)
 
--- the ranges share at least one byte: the larger start lies below the smaller end
+-- Two ranges share at least one byte: the larger start lies below the smaller end.
 unfoldable pub shareByte : Row → Row → Bool
 shareByte r s = ltb (max (r .offset) (s .offset)) (min (r .offset + r .length) (s .offset + s .length))
 
--- two data rows that name the same file, share at least one byte, are of different processes, and one is a write
+-- A conflict: two data rows that name the same file, share at least one byte, are of different processes, and one is a write.
 unfoldable pub conflict : Row → Row → Bool
 conflict r s = isData r && (isData s && (sameFile r s && (shareByte r s && (not (sameProcess r s) && (isWrite r || isWrite s)))))
 
 -- ---- Chains from a write at place x to a row at place y
 
--- row k is of this kind and of the file and process of row r
+-- Row s is of this kind and of the file and process of row r.
 abbrev pub isSync : ℕ → Row → Row → Bool
 isSync kind r s = eqb (s .kind) kind && (sameFile r s && sameProcess r s)
 
--- some row of x's file by x's process after x, with a test
+-- Some row after x passes a test.
 abbrev pub someAfter : List Row → ℕ → (ℕ → Bool) → Bool
 someAfter rows x test = anyBelow (length rows) (λ c. ltb x c && test c)
 
--- some row before y, with a test
+-- Some row before y passes a test.
 abbrev pub someBefore : ℕ → (ℕ → Bool) → Bool
 someBefore y test = anyBelow y test
 
 module _ (rows : List Row) where
+  -- The row at index k.
   abbrev row : ℕ → Row
   row k = rowAt rows k
 
@@ -70,7 +73,7 @@ module _ (rows : List Row) where
       (λ c. (isSync CLOSE (row x) (row c) || isSync SYNC (row x) (row c))
       && someBefore y (λ o. (isSync SYNC (row y) (row o) || isSync OPEN (row y) (row o)) && hb (edge rows) c o))
 
-  -- the model's chain; no other number is a model
+  -- The chain of a model by its number.
   unfoldable pub chain : ℕ → ℕ → ℕ → Bool
   chain model x y =
       cond (eqb model POSIX) (chainPosix x y)
@@ -78,20 +81,20 @@ module _ (rows : List Row) where
 
   -- ---- Races and the verdict
 
-  -- X, which stands before Y, is a read and happens before Y, or is a write and the model's chain lies between
+  -- Proper synchronization: X, which stands before Y, is a read and happens before Y, or is a write and the model's chain lies between.
   unfoldable pub synchronized : ℕ → ℕ → ℕ → Bool
   synchronized model x y = cond (isWrite (row x)) (chain model x y) (hb (edge rows) x y)
 
-  -- a conflicting pair, the earlier row first, that is not properly synchronized
+  -- A race: a conflicting pair, the earlier row first, that is not properly synchronized.
   unfoldable pub race : ℕ → ℕ → ℕ → Bool
   race model x y = ltb x y && (ltb y (length rows) && (conflict (row x) (row y) && not (synchronized model x y)))
 
--- "free", or the numbers of the earlier and the later row of a race
+-- A verdict: free, or the numbers of the earlier and the later row of a race.
 pub data Verdict : Type 0 where
   free : Verdict
   racing : (earlier later : ℕ) → Verdict
 
--- the race with the smallest later row, then the smallest earlier row
+-- The verdict names the race with the smallest later row, then the smallest earlier row.
 unfoldable pub verdictOf : List Row → ℕ → Verdict
 verdictOf rows model =
     let later = leastFrom (length rows) 0 (λ y. anyBelow y (λ x. race rows model x y)) in

@@ -15,20 +15,20 @@ use Rattle.rows.specs.Counting.{leastFrom, lastBelow}
 use Rattle.races_meaning.specs.Search.{refreshAt}
 
 module _ (rows : List Row) (model : ℕ) where
-  -- row i, of process p, happens before row j or is it, by the counts
+  -- By the counts, row i, of process p, happens before row j or is row j.
   abbrev pub before : ℕ → ℕ → ℕ → Bool
   before p i j = leb (count rows p i) (count rows p j)
 
-  -- row c publishes the file of row y and happens before row o
+  -- A noted row: row c publishes the file of row y and happens before row o.
   abbrev pub noted : ℕ → ℕ → ℕ → Bool
   noted y o c =
       publishes model (rowAt rows c .kind) && (sameFile (rowAt rows y) (rowAt rows c) && before (rowAt rows c .process) c o)
 
-  -- the last such row of process p below k, as its place and one
+  -- The index of the last noted row of process p below k, plus one; 0 where there is none.
   unfoldable pub lastNoted : ℕ → ℕ → ℕ → ℕ → ℕ
   lastNoted y o p k = lastBelow k (λ c. eqb (rowAt rows c .process) p && noted y o c)
 
-  -- X before Y is properly synchronized: a read by the counts; a write, where there is a refresh, by itself or by its process's last noted row
+  -- X before Y is properly synchronized: a read by the counts; a write, where there is a refresh, by itself or by its process's last noted row.
   unfoldable pub inOrder : ℕ → ℕ → Bool
   inOrder x y =
       let p = rowAt rows x .process in
@@ -37,10 +37,8 @@ module _ (rows : List Row) (model : ℕ) where
       && cond (publishes model WRITE) (before p x (refreshAt rows model y - 1)) (ltb (suc x) (lastNoted y (refreshAt rows model y - 1) p y)))
       (before p x y)
 
-  -- the smallest x that races with y, as its place and one; 0 where none does
+  -- The smallest x that races with y, plus one; 0 where none does.
   unfoldable pub raceAt : ℕ → ℕ
   raceAt y =
       let x = leastFrom y 0 (λ x. conflict (rowAt rows x) (rowAt rows y) && not (inOrder x y)) in
       cond (ltb x y) (suc x) 0
-
--- ---- What the call asks and answers

@@ -6,17 +6,17 @@ use mathlib.Core.Bool.{Bool, true, false, cond}
 use mathlib.Core.List.{List, [], _∷_}
 use Rattle.rows.specs.Questions.{Question, firstNo}
 
--- no question has a number below k
+-- No question has a number below k.
 abbrev pub From : ℕ → List Question → Type 0
 From k [] = Unit {0}
 From k (q ∷ qs) = (k ≤ q .number) × From k qs
 
--- every question is answered Yes
+-- Every question is answered Yes.
 abbrev pub AllYes : List Question → Type 0
 AllYes [] = Unit {0}
 AllYes (q ∷ qs) = (q .yes ≡ true) × AllYes qs
 
--- a first No is one of the numbers
+-- The number of a first No is at least k where no question has a number below k.
 pub no-from : (k : ℕ) (qs : List Question) → From k qs → (firstNo qs ≡ 0 → ⊥) → k ≤ firstNo qs
 unfolding firstNo
 no-from k [] f n = absurd (n refl)
@@ -26,7 +26,7 @@ no-from k (q ∷ qs) f n = go (no-from k qs (f .1)) (q .yes) n
     go rest true m = rest m
     go rest false m = f .0
 
--- without a No every answer is Yes
+-- Without a No every answer is Yes.
 pub all-yes : (qs : List Question) → From 1 qs → firstNo qs ≡ 0 → AllYes qs
 unfolding firstNo
 all-yes [] f e = tt

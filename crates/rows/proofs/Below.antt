@@ -12,7 +12,7 @@ use Rattle.rows.proofs.Bools.{and-out, or-out, or-right, not-passed}
 
 -- ---- Whether one passes
 
--- one that passes makes it pass
+-- A number that passes below n is some number that passes.
 pub any-in : (n : ℕ) (test : ℕ → Bool) (k : ℕ) → k < n → test k ≡ true → anyBelow n test ≡ true
 unfolding anyBelow
 any-in zero test k h e = absurd (omega arith)
@@ -22,7 +22,7 @@ any-in (suc n) test k h e = go (decLt k n) (any-in n test k)
     go (yes l) rest = rw (rest l e)
     go (no l) rest = let q : n ≡ k = omega arith in or-right (anyBelow n test) (test n) (ap test q ∙ e)
 
--- one that passes, where it passes
+-- Where some number passes, here is one.
 pub any-out : (n : ℕ) (test : ℕ → Bool) → anyBelow n test ≡ true → (k : ℕ) × (k < n) × (test k ≡ true)
 unfolding anyBelow
 any-out zero test e = absurd (false≢true e)
@@ -35,26 +35,26 @@ any-out (suc n) test e = go (or-out (anyBelow n test) (test n) e) (any-out n tes
 
 -- ---- How many pass
 
--- equal tests have equal counts
+-- Equal tests have equal counts.
 pub count-same : (n : ℕ) (f g : ℕ → Bool) → ((i : ℕ) → i < n → f i ≡ g i) → countBelow n f ≡ countBelow n g
 unfolding countBelow
 count-same zero f g h = refl
 count-same (suc n) f g h = rw (count-same n f g (λ i l. h i (omega arith)), h n (omega arith))
 
--- one more number, under a weaker test
+-- One more number keeps the order of two counts, if the second test is weaker.
 step : {a b : ℕ} → a ≤ b → (x y : Bool) → (x ≡ true → y ≡ true) → a + cond x 1 0 ≤ b + cond y 1 0
 step h true true f = omega arith
 step h true false f = absurd (false≢true (f refl))
 step h false true f = omega arith
 step h false false f = omega arith
 
--- a weaker test has at least the count
+-- A weaker test has at least the count.
 pub count-less : (n : ℕ) (f g : ℕ → Bool) → ((i : ℕ) → i < n → f i ≡ true → g i ≡ true) → countBelow n f ≤ countBelow n g
 unfolding countBelow
 count-less zero f g h = omega arith
 count-less (suc n) f g h = step (count-less n f g (λ i l. h i (omega arith))) (f n) (g n) (h n (omega arith))
 
--- a count is at most the bound
+-- A count is at most the bound.
 pub count-below : (n : ℕ) (f : ℕ → Bool) → countBelow n f ≤ n
 unfolding countBelow
 count-below zero f = omega arith
@@ -64,7 +64,7 @@ count-below (suc n) f = go (f n) (count-below n f)
     go true h = omega arith
     go false h = omega arith
 
--- a larger bound has at least the count
+-- A larger bound has at least the count.
 pub count-up : (m n : ℕ) (f : ℕ → Bool) → m ≤ n → countBelow m f ≤ countBelow n f
 unfolding countBelow
 count-up m zero f h = let q : m ≡ 0 = omega arith in rw q (omega arith)
@@ -74,7 +74,7 @@ count-up m (suc n) f h = go (decLt n m) (count-up m n f)
     go (yes l) rest = let q : m ≡ suc n = omega arith in rw q (omega arith)
     go (no l) rest = omega (arith, rest (omega arith))
 
--- numbers that fail do not count
+-- Numbers that fail from k on do not count.
 pub count-cut : (k n : ℕ) (f : ℕ → Bool) → k ≤ n → ((i : ℕ) → k ≤ i → i < n → f i ≡ false) → countBelow n f ≡ countBelow k f
 unfolding countBelow
 count-cut k zero f h out = let q : k ≡ 0 = omega arith in rw q
@@ -88,7 +88,7 @@ count-cut k (suc n) f h out = go (decLt n k) (count-cut k n f)
         let r = rest at (λ i a b. out i a (omega arith)) in
         rw (out n at (omega arith)) (omega arith)
 
--- one number that passes beside others
+-- One number j that passes beside others counts once.
 pub count-own : (n j : ℕ) (isP f : ℕ → Bool) → j < n → f j ≡ false →
     countBelow n (λ i. isP i && (eqb i j || f i)) ≡ countBelow n (λ i. isP i && f i) + cond (isP j) 1 0
 unfolding countBelow
@@ -107,16 +107,16 @@ count-own (suc n) j isP f h e = go (decLt j n) (count-own n j isP f)
 
 -- ---- Tests that are closed downward among the numbers of one kind
 
--- where a number of the kind passes, those below it pass
+-- Where a number of the kind passes, every smaller number of the kind passes.
 abbrev pub Closed : ℕ → (ℕ → Bool) → (ℕ → Bool) → Type 0
 Closed n isP f = (i k : ℕ) → i < k → k < n → isP i ≡ true → isP k ≡ true → f k ≡ true → f i ≡ true
 
--- where one passes, no other test has a larger count below
+-- Where number n passes a closed test, no other test has a larger count below n.
 closed-most : (n : ℕ) (isP f g : ℕ → Bool) → Closed (suc n) isP f → isP n ≡ true → f n ≡ true →
     countBelow n (λ i. isP i && g i) ≤ countBelow n (λ i. isP i && f i)
 closed-most n isP f g c p t = count-less n _ _ (λ i l e. let a = and-out (isP i) (g i) e in rw (a .0) (c i n l (omega arith) (a .0) p t))
 
--- the count of a union of two is the larger of their counts
+-- The count of a union of two closed tests is the larger of their counts.
 pub count-union : (n : ℕ) (isP f g : ℕ → Bool) → Closed n isP f → Closed n isP g →
     countBelow n (λ i. isP i && (f i || g i)) ≡ max (countBelow n (λ i. isP i && f i)) (countBelow n (λ i. isP i && g i))
 unfolding countBelow
@@ -139,7 +139,7 @@ count-union (suc n) isP f g c d =
     go true false true p t u h = let m = closed-most n isP g f d p u in omega arith
     go true false false p t u h = omega arith
 
--- the number itself, or one below it
+-- Where a number of the kind passes a closed test, so does every number of the kind up to that one.
 closed-at : (n : ℕ) (isP f : ℕ → Bool) → Closed n isP f → (i k : ℕ) → i ≤ k → k < n → isP i ≡ true → isP k ≡ true → f k ≡ true → f i ≡ true
 closed-at n isP f c i k l h p q e = go (decLt i k)
   where
@@ -171,5 +171,3 @@ closed-place n k isP f c h p = (there, λ m. back (f k) refl m)
         let b = count-less k (λ i. isP i && f i) isP (λ i l q. and-out (isP i) (f i) q .0) in
         let m′ = rw p at m in
         absurd (omega arith)
-
--- ---- Unions of many

@@ -10,25 +10,25 @@ use borrow.Author.Tests.{le-leb, lt-leb}
 use Rattle.rows.specs.declared.Row.{Row}
 use Rattle.rows.specs.Rows.{noRow, rowAt, six, numbers, rowHere, rowsIn, rowIn, withRow}
 
--- six numbers a row
+-- Each row has six numbers.
 pub length-numbers : (rows : List Row) → length (numbers rows) ≡ 6 * length rows
 unfolding numbers six
 length-numbers [] = refl
 length-numbers (r ∷ rs) = omega (arith, length-numbers rs)
 
--- numbers of rows one after the other
+-- The numbers of two lists of rows stand one after the other.
 pub numbers-append : (rows more : List Row) → numbers (rows ++ more) ≡ numbers rows ++ numbers more
 unfolding numbers six
 numbers-append [] more = refl
 numbers-append (r ∷ rs) more = ap (λ (l : List ℕ). six r ++ l) (numbers-append rs more)
 
--- reading back what was written, whatever stands behind it
+-- Rows that were written are read back, whatever stands behind them.
 pub rows-back : (rows : List Row) (behind : List ℕ) → rowsIn (length rows) (numbers rows ++ behind) ≡ rows
 unfolding rowsIn rowHere numbers six
 rows-back [] behind = refl
 rows-back (r ∷ rs) behind = ap {B = List Row} (λ l. r ∷ l) (rows-back rs behind)
 
--- six numbers at the front are the row there
+-- The row at the front has the first six numbers.
 six-back : (xs : List ℕ) → 6 ≤ length xs → six (rowHere xs) ≡ take 6 xs
 unfolding six rowHere
 six-back [] h = absurd (omega arith)
@@ -39,7 +39,7 @@ six-back (a ∷ b ∷ c ∷ d ∷ []) h = absurd (omega arith)
 six-back (a ∷ b ∷ c ∷ d ∷ e ∷ []) h = absurd (omega arith)
 six-back (a ∷ b ∷ c ∷ d ∷ e ∷ f ∷ xs) h = refl
 
--- writing back what was read
+-- Rows that were read have the numbers of the slice's front.
 pub numbers-back : (n : ℕ) (xs : List ℕ) → 6 * n ≤ length xs → numbers (rowsIn n xs) ≡ take (6 * n) xs
 unfolding rowsIn numbers
 numbers-back zero xs h = refl
@@ -49,13 +49,13 @@ numbers-back (suc n) xs h =
     let rest : 6 * n ≤ length (drop 6 xs) = simp length-drop (omega arith) in
     (λ i. six-back xs here i ++ numbers-back n (drop 6 xs) rest i) ∙ sym (take-add 6 (6 * n) xs) ∙ ap (λ (k : ℕ). take k xs) all
 
--- as many as asked for
+-- The first n rows are n.
 pub length-rows : (n : ℕ) (xs : List ℕ) → length (rowsIn n xs) ≡ n
 unfolding rowsIn
 length-rows zero xs = refl
 length-rows (suc n) xs = ap suc (length-rows n (drop 6 xs))
 
--- each is the six numbers at its place
+-- The row at index k of the first n rows is the one that the slice has at k.
 pub row-in : (n k : ℕ) (xs : List ℕ) → k < n → rowAt (rowsIn n xs) k ≡ rowIn xs k
 unfolding rowsIn
 row-in zero k xs h = absurd (omega arith)
@@ -65,7 +65,7 @@ row-in (suc n) (suc k) xs h =
     let e : 6 + k * 6 ≡ suc k * 6 = omega arith in
     row-in n k (drop 6 xs) l ∙ ap rowHere (drop-drop (k * 6) 6 xs ∙ ap (λ (m : ℕ). drop m xs) e)
 
--- six stores lay a row down
+-- Six stores lay a row down.
 pub laid : (l : List ℕ) (at : ℕ) (r : Row) → at + 6 ≤ length l →
     set (set (set (set (set (set l at (r .process)) (at + 1) (r .kind)) (at + 2) (r .file)) (at + 3) (r .offset)) (at + 4) (r .length)) (at + 5) (r .message)
     ≡ take at l ++ (six r ++ drop (at + 6) l)
@@ -73,7 +73,7 @@ unfolding six
 laid l at r h =
     rw (add-one, add-two, add-three, add-four, add-five) (sets-eq (six r) l at h ∙ append-assoc (take at l) (six r) (drop (at + 6) l))
 
--- six numbers are the row at a place
+-- The six numbers from k * 6 on are row k.
 pub row-read : (xs : List ℕ) (k : ℕ) →
     record {
       process = getD xs (k * 6) 0;
@@ -90,25 +90,25 @@ row-read xs k =
     let at : (n : ℕ) → getD xs (k * 6 + n) 0 ≡ getD (drop (k * 6) xs) n 0 = λ n. sym (getD-drop (k * 6) xs n 0) in
     λ i. record { process = zeroth i; kind = at 1 i; file = at 2 i; offset = at 3 i; length = at 4 i; message = at 5 i }
 
--- past the last whole row and one all numbers are 0
+-- Past the last row that has a number, a row is zeros.
 pub row-past : (xs : List ℕ) (k : ℕ) → length xs / 6 < k → noRow ≡ rowIn xs k
 unfolding rowHere
 row-past xs k h = let l : length xs ≤ k * 6 = omega arith in sym (ap rowHere (drop-of-length-le xs l))
 
 module _ (k : ℕ) (r : Row) (xs : List ℕ) where
-  -- a slice without room for the row stays
+  -- A slice without room for the row stays as it is.
   pub put-none : length xs / 6 ≤ k → xs ≡ withRow k r xs
   unfolding withRow
   put-none h = rw (lt-leb (k * 6 + 6) (length xs) (omega arith))
 
-  -- six stores put the row
+  -- Six stores put the row.
   pub put-some : k < length xs / 6 →
       set (set (set (set (set (set xs (k * 6) (r .process)) (k * 6 + 1) (r .kind)) (k * 6 + 2) (r .file)) (k * 6 + 3) (r .offset)) (k * 6 + 4) (r .length)) (k * 6 + 5) (r .message)
       ≡ withRow k r xs
   unfolding withRow
   put-some h = rw (le-leb (k * 6 + 6) (length xs) (omega arith)) (laid xs (k * 6) r (omega arith))
 
-  -- where there is room, the row stands in its place and the rest is as it was
+  -- Where there is room, the row stands in its place and the other numbers stay.
   pub with-room : k * 6 + 6 ≤ length xs → withRow k r xs ≡ take (k * 6) xs ++ (six r ++ drop (k * 6 + 6) xs)
   unfolding withRow
   with-room h = rw (le-leb (k * 6 + 6) (length xs) h)

@@ -4,37 +4,37 @@ use Prim.Native.Nat.{ℕ, zero, suc, _+_}
 use mathlib.Core.Bool.{Bool, true, false, cond, _&&_, _||_}
 use mathlib.Core.List.{List, [], _∷_, _++_}
 
--- some number below n passes
+-- Some number below n passes.
 unfoldable pub anyBelow : ℕ → (ℕ → Bool) → Bool
 anyBelow zero test = false
 anyBelow (suc n) test = anyBelow n test || test n
 
--- every number below n passes
+-- Every number below n passes.
 unfoldable pub allBelow : ℕ → (ℕ → Bool) → Bool
 allBelow zero test = true
 allBelow (suc n) test = allBelow n test && test n
 
--- the smallest number from s on that passes, among n of them; s + n where none does
+-- The smallest number from s on that passes, among n of them; s + n where none does.
 unfoldable pub leastFrom : ℕ → ℕ → (ℕ → Bool) → ℕ
 leastFrom zero s test = s
 leastFrom (suc n) s test = cond (test s) s (leastFrom n (suc s) test)
 
--- the last number below n that passes, as it and one; 0 where none does
+-- The last number below n that passes, plus one; 0 where none does.
 unfoldable pub lastBelow : ℕ → (ℕ → Bool) → ℕ
 lastBelow zero test = 0
 lastBelow (suc k) test = cond (test k) (suc k) (lastBelow k test)
 
--- how many numbers below n pass
+-- How many numbers below n pass.
 unfoldable pub countBelow : ℕ → (ℕ → Bool) → ℕ
 countBelow zero test = 0
 countBelow (suc n) test = countBelow n test + cond (test n) 1 0
 
--- the values at the numbers below n
+-- The values of a function at the numbers below n.
 unfoldable pub values : ℕ → (ℕ → ℕ) → List ℕ
 values zero f = []
 values (suc n) f = values n f ++ (f n ∷ [])
 
--- lists one after the other, for the numbers below n
+-- The lists of a function at the numbers below n, one after the other.
 unfoldable pub blocks : ℕ → (ℕ → List ℕ) → List ℕ
 blocks zero f = []
 blocks (suc n) f = blocks n f ++ f n

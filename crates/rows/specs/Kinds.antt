@@ -25,6 +25,6 @@ SEND = 6
 abbrev pub RECV : ℕ
 RECV = 7
 
--- how many kinds there are
+-- How many kinds there are.
 abbrev pub KINDS : ℕ
 KINDS = 8

@@ -1,5 +1,6 @@
 pub mod Limits
 pub mod Kinds
+pub mod Refusals
 pub mod Rows
 pub mod Questions
 pub mod Counting

@@ -3,13 +3,14 @@ use Prim.Native.Nat.{ℕ, _*_}
 use mathlib.Core.Bool.{Bool, cond, _&&_}
 use mathlib.Core.List.{List, [], _∷_}
 use lib.Dec.{leb}
+use Rattle.rows.specs.Limits.{FIELDS}
 
--- a question's number and its answer
+-- A question's number and its answer.
 pub record Question : Type 0 where
   pub number : ℕ
   pub yes : Bool
 
--- the number of the first No, and 0 where every answer is Yes
+-- The number of the first No, and 0 where every answer is Yes.
 unfoldable pub firstNo : List Question → ℕ
 firstNo [] = 0
 firstNo (q ∷ qs) = cond (q .yes) (firstNo qs) (q .number)
@@ -17,4 +18,4 @@ firstNo (q ∷ qs) = cond (q .yes) (firstNo qs) (q .number)
 -- 1. Are the lent slices long enough (6 × row limit; row limit × process limit)?
 abbrev pub longEnough : ℕ → ℕ → ℕ → ℕ → Bool
 longEnough rowLimit processLimit rowsLength countsLength =
-    leb (6 * rowLimit) rowsLength && leb (rowLimit * processLimit) countsLength
+    leb (FIELDS * rowLimit) rowsLength && leb (rowLimit * processLimit) countsLength

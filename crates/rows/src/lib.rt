@@ -1,5 +1,5 @@
-// The ground floor: the limits of the product, the kinds of rows by their numbers, a row, and the slice that holds six numbers for each row.
-// specs/Limits.antt and specs/Kinds.antt have the same numbers for the contracts.
+// The limits of the product, the kinds and refusals by their numbers, a row, and the slice that holds six numbers for each row.
+// specs/Limits.antt, specs/Kinds.antt and specs/Refusals.antt have these numbers for the contracts.
 pub mod refusal;
 
 ghost use mathlib.Core.Path.{_≡_};
@@ -70,7 +70,7 @@ fn number_at(numbers: &[u32], i: usize) -> u32
     if i < numbers.len() { numbers[i] } else { 0 }
 }
 
-// Answers row k of a slice; numbers past the slice's end are 0.
+// Answers row k of a slice. Numbers past the slice's end are 0.
 pub fn row_at(rows: &[u32], k: usize) -> Row
     ensures { λ r. ⌜ r ≡ rowIn (now (rows .entry)) k ⌝ }
 {
@@ -87,11 +87,11 @@ pub fn row_at(rows: &[u32], k: usize) -> Row
     let at = k * FIELDS;
     Row {
         process: number_at(rows, at),
-        kind: number_at(rows, at + 1),
-        file: number_at(rows, at + 2),
-        offset: number_at(rows, at + 3),
-        length: number_at(rows, at + 4),
-        message: number_at(rows, at + 5),
+        kind: number_at(rows, at + KIND_AT),
+        file: number_at(rows, at + FILE_AT),
+        offset: number_at(rows, at + OFFSET_AT),
+        length: number_at(rows, at + LENGTH_AT),
+        message: number_at(rows, at + MESSAGE_AT),
     }
 }
 
@@ -104,11 +104,11 @@ pub fn put_row(rows: &mut [u32], k: usize, row: Row)
     }
     let at = k * FIELDS;
     rows[at] = row.process;
-    rows[at + 1] = row.kind;
-    rows[at + 2] = row.file;
-    rows[at + 3] = row.offset;
-    rows[at + 4] = row.length;
-    rows[at + 5] = row.message;
+    rows[at + KIND_AT] = row.kind;
+    rows[at + FILE_AT] = row.file;
+    rows[at + OFFSET_AT] = row.offset;
+    rows[at + LENGTH_AT] = row.length;
+    rows[at + MESSAGE_AT] = row.message;
 }
 
 // Fills a slice with 0.

@@ -1,4 +1,5 @@
-// Refusals by their numbers: the questions of document 01.
+// The refusals by their numbers: the questions of document 01.
+
 // Are the lent slices long enough?
 pub const SHORT_SLICE: u32 = 1;
 // Are model, row limit and process limit within their ranges?

@@ -11,7 +11,7 @@ use Rattle.streams.specs.declared.Moved.the-variants.{Took, End, Again, 
 use Rattle.streams.specs.declared.Read.{Read}
 use Rattle.streams.specs.declared.Read.the-variants.{Whole, Failed as ReadFailed}
 
--- C's number of an interrupted call
+-- C's number of an interrupted call.
 abbrev pub EINTR : ℕ
 EINTR = 4
 

@@ -8,8 +8,8 @@ ghost use Rattle.streams.specs.Moves.{outcomeOf, Within};
 // How many interrupted calls are made again before the call counts as failed.
 pub const TRIES: u32 = 65536;
 
-// What a call of C's read or write came to: it moved so many bytes, the input has ended, a signal interrupted the call before it moved a
-// byte, or the call failed.
+// What a call of C's read or write came to: the call moved so many bytes, the input has ended, a signal interrupted the call before it moved
+// a byte, or the call failed.
 pub enum Moved {
     Took(usize),
     End,
@@ -39,6 +39,7 @@ pub fn outcome(got: isize, room: usize, error: i32) -> Moved
     Moved::Took(least(got as usize, room))
 }
 
+// Answers the smaller of two sizes.
 fn least(a: usize, b: usize) -> usize
     ensures { λ r. ⌜ r ≡ min a b ⌝ }
 {

@@ -5,7 +5,7 @@ use mathlib.Core.Path.{_≡_, refl, sym, ap, _∙_}
 use lib.ListN.{length, replicate}
 use mathlib.Core.List.{List}
 use native.Mathlib.Numerals.{add-one}
-use Rattle.happens_before.specs.Clock.{withRow, filledRow}
+use Rattle.happens_before.specs.Clock.{withCounts, filledRow}
 use Rattle.rows.proofs.Products.{block-before}
 use native.Mathlib.Omega.{arith}
 use denote.Ref.{now}
@@ -14,6 +14,7 @@ use Rattle.happens_before.proofs.Asking.{asked, left-filled, left-kept}
 use Rattle.happens_before.proofs.fill_counts.Statement.{statement}
 use Rattle.happens_before.proofs.fill_counts.Tie as tie
 
+-- The counts of the rows before row j are filled, and the rest of the slice is 0.
 abbrev Inv-loop : tie.InvT-loop
 Inv-loop rows n process-limit counts₀ first total processes j₀ counts j = (total ≡ n) × ((processes ≡ process-limit) × ((j ≤ n) × ((length counts ≡ length counts₀) × (counts ≡ filledTo n process-limit (length counts₀) rows j))))
 
@@ -94,7 +95,7 @@ loop-again c =
           omega (arith, c .before .before .before .before .loop-test .taken),
           (
             c .before .before .fill-row .kept .1 .1 .1 .0 ∙ l .inv .1 .1 .1 .0,
-            c .before .before .fill-row .ensures ∙ ap (λ (x : List ℕ). withRow (a .process-limit) x (l .j)
+            c .before .before .fill-row .ensures ∙ ap (λ (x : List ℕ). withCounts (a .process-limit) x (l .j)
                 (filledRow (a .process-limit) (now (a .rows)) x (l .j))) e
                 ∙ row-filled (a .n) (a .process-limit) s (now (a .rows)) (l .j) (c .before .before .before .before .loop-test .taken) room
                 ∙ ap (filledTo (a .n) (a .process-limit) s (now (a .rows))) (sym (add-one (l .j))),

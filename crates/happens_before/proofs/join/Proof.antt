@@ -12,6 +12,7 @@ use denote.Ref.{now}
 use Rattle.happens_before.proofs.join.Statement.{statement}
 use Rattle.happens_before.proofs.join.Tie as tie
 
+-- The counts of row j for the processes below p are joined with those of row k; all other numbers are as they were.
 abbrev Inv-loop : tie.InvT-loop
 Inv-loop counts₀ k j processes from to p₀ counts p =
     (p ≤ processes) × (length counts ≡ length counts₀) × (counts ≡ put (j * processes) p counts₀ (joinedRow processes counts₀ j k))

@@ -1,6 +1,6 @@
 -- `happens_before::join_sends` meets its contract.
 use borrow.Author.Needs.{needs}
-use Rattle.happens_before.specs.Clock.{withRow}
+use Rattle.happens_before.specs.Clock.{withCounts}
 use Rattle.happens_before.proofs.Joins.{sent, sends-first, sends-none, sends-skip, sends-join}
 use lib.ListN.{length}
 use mathlib.Core.Path.{_≡_, refl, ap, _∙_}
@@ -11,9 +11,10 @@ use denote.Ref.{now}
 use Rattle.happens_before.proofs.join_sends.Statement.{statement}
 use Rattle.happens_before.proofs.join_sends.Tie as tie
 
+-- The counts of row j are joined with those of the sends below row k that row j receives.
 abbrev Inv-loop : tie.InvT-loop
 Inv-loop rows j processes counts₀ at k₀ counts k =
-    (k ≤ j) × (length counts ≡ length counts₀) × (counts ≡ withRow processes counts₀ j (sent processes rows counts₀ j k))
+    (k ≤ j) × (length counts ≡ length counts₀) × (counts ≡ withCounts processes counts₀ j (sent processes rows counts₀ j k))
 
 abbrev μ-loop : tie.MeasureT-loop
 μ-loop rows j processes counts₀ at k₀ counts k = j - k
@@ -77,7 +78,7 @@ returns-2 c =
     let a = c .before .before .before .before .before .before .args in
     let l = c .before .loop in
     let e : l .k ≡ a .j = omega arith in
-    l .inv .2 ∙ (λ i. withRow (a .processes) (now (a .counts)) (a .j) (sent (a .processes) (now (a .rows)) (now (a .counts)) (a .j) (e i)))
+    l .inv .2 ∙ (λ i. withCounts (a .processes) (now (a .counts)) (a .j) (sent (a .processes) (now (a .rows)) (now (a .counts)) (a .j) (e i)))
 
 pub join-sends-spec : {M : Type 1} → statement M
 join-sends-spec =

@@ -10,6 +10,7 @@ use denote.Ref.{now}
 use Rattle.happens_before.proofs.last_of.Statement.{statement}
 use Rattle.happens_before.proofs.last_of.Tie as tie
 
+-- No row from index i up to row j is of the process, so the rows below i decide.
 abbrev Inv-loop : tie.InvT-loop
 Inv-loop rows j process i₀ i =
     let last = lastOf (λ k. rowIn rows k .process) process in

@@ -9,6 +9,7 @@ use denote.Ref.{now}
 use Rattle.happens_before.proofs.processes_in.Statement.{statement}
 use Rattle.happens_before.proofs.processes_in.Tie as tie
 
+-- Every row from index i on has a process below the limit, so the rows below i decide.
 abbrev Inv-loop : tie.InvT-loop
 Inv-loop rows n process-limit i₀ i = (i ≤ n) × (processesIn n process-limit rows ≡ processesIn i process-limit rows)
 

@@ -8,6 +8,7 @@ use denote.Ref.{now}
 use Rattle.print.proofs.put.Statement.{statement}
 use Rattle.print.proofs.put.Tie as tie
 
+-- The first i bytes lie in their places, and all other bytes are as they were.
 abbrev Inv-loop : tie.InvT-loop
 Inv-loop out₀ at bytes i₀ out i = Copying out₀ at bytes out i
 

@@ -7,6 +7,7 @@ use native.Mathlib.Omega.{arith}
 use Rattle.print.proofs.put_digits.Statement.{statement}
 use Rattle.print.proofs.put_digits.Tie as tie
 
+-- The digits from index i on lie in their places, and `rest` is the number without them.
 abbrev Inv-loop : tie.InvT-loop
 Inv-loop out₀ at n width i₀ rest₀ out i rest = Spelling out₀ at n width out i rest
 

@@ -5,6 +5,7 @@ use Rattle.print.proofs.Widths.{Going, start, again, stop}
 use Rattle.print.proofs.width_of.Statement.{statement}
 use Rattle.print.proofs.width_of.Tie as tie
 
+-- The digits that `width` counts and those of `rest` are the digits of n.
 abbrev Inv-loop : tie.InvT-loop
 Inv-loop n width₀ rest₀ width rest = Going n width rest (10 - width)
 

@@ -11,6 +11,7 @@ use denote.Ref.{now}
 use Rattle.rows.proofs.clear.Statement.{statement}
 use Rattle.rows.proofs.clear.Tie as tie
 
+-- The numbers before index i are 0, and those from i on are as they were lent.
 abbrev Inv-loop : tie.InvT-loop
 Inv-loop numbers₀ i₀ numbers i = (length numbers ≡ length numbers₀) × (numbers ≡ replicate i 0 ++ drop i numbers₀)
 

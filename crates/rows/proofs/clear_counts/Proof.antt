@@ -11,6 +11,7 @@ use denote.Ref.{now}
 use Rattle.rows.proofs.clear_counts.Statement.{statement}
 use Rattle.rows.proofs.clear_counts.Tie as tie
 
+-- The counts before index i are 0, and those from i on are as they were lent.
 abbrev Inv-loop : tie.InvT-loop
 Inv-loop counts₀ i₀ counts i = (length counts ≡ length counts₀) × (counts ≡ replicate i 0 ++ drop i counts₀)
 

@@ -8,6 +8,7 @@ use Rattle.streams.proofs.Outcomes.{took-some, sub-positive, within-res
 use Rattle.streams.proofs.read_all.Statement.{statement}
 use Rattle.streams.proofs.read_all.Tie as tie
 
+-- The bytes read so far lie within the buffer, whose length stays.
 abbrev Inv-loop : tie.InvT-loop
 Inv-loop fd buf₀ done₀ tries₀ buf done tries = (done ≤ length buf) × (length buf ≡ length buf₀)
 

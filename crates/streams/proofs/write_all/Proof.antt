@@ -8,6 +8,7 @@ use Rattle.streams.proofs.Outcomes.{took-some, sub-positive, within-res
 use Rattle.streams.proofs.write_all.Statement.{statement}
 use Rattle.streams.proofs.write_all.Tie as tie
 
+-- No more bytes are written than there are.
 abbrev Inv-loop : tie.InvT-loop
 Inv-loop fd bytes done₀ tries₀ done tries = (done ≤ length bytes)
 

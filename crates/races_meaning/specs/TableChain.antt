@@ -1,4 +1,4 @@
--- The chain of a model as the table of publish and refresh marks gives it; the law `table-chain` says that it is the chain of document 01.
+-- The chain of a model as the table of rows that publish and refresh gives it; the law `table-chain` says that it is the chain of document 01.
 use Prim.Native.Nat.{ℕ}
 use mathlib.Core.Bool.{Bool, cond, _&&_}
 use mathlib.Core.List.{List}
@@ -25,6 +25,6 @@ module _ (rows : List Row) (model : ℕ) where
       cond (refreshes model READ) (eqb o y)
       (ltb o y && (refreshes model (rowAt rows o .kind) && (sameFile (rowAt rows y) (rowAt rows o) && sameProcess (rowAt rows y) (rowAt rows o))))
 
-  -- a row that publishes X happens before a row that refreshes for Y
+  -- The chain of the table: a row that publishes X happens before a row that refreshes for Y.
   unfoldable pub tableChain : ℕ → ℕ → Bool
   tableChain x y = anyBelow (length rows) (λ c. publishedBy x c && anyBelow (length rows) (λ o. refreshedBy y o && hb (edge rows) c o))

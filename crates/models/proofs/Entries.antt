@@ -1,0 +1,98 @@
+-- The table in the code has the entry of specs/Table.antt for every model and kind, by one computed test.
+use Prim.Native.Nat.{ℕ, zero, suc, _+_, _*_, _/_, _%_, _≤_, _<_}
+use native.Mathlib.Omega.{arith}
+use mathlib.Core.Path.{_≡_, refl, sym, ap, _∙_}
+use mathlib.Core.Bool.{Bool, true, false, cond, _&&_, and-false, false≢true}
+use mathlib.Core.List.{List, [], _∷_}
+use lib.ListN.{length, getD}
+use lib.Dec.{eqb, leb}
+use borrow.Author.Tests.{ne-eqb, eqb-true}
+use Rattle.rows.specs.Limits.{MODELS}
+use Rattle.rows.specs.Kinds.{KINDS}
+use Rattle.models.specs.Table.{publishes, refreshes, tableEntry, ENTRY-NONE, ENTRY-PUBLISH, ENTRY-REFRESH, ENTRY-BOTH}
+
+-- A test passes at every number of a list with its place, counted from i.
+unfoldable every : (ℕ → ℕ → Bool) → ℕ → List ℕ → Bool
+every test i [] = true
+every test i (x ∷ xs) = test i x && every test (suc i) xs
+
+-- A test that passes at all passes at each.
+every-at : (test : ℕ → ℕ → Bool) (xs : List ℕ) (i : ℕ) → every test i xs ≡ true → (k : ℕ) → k < length xs → test (i + k) (getD xs k 0) ≡ true
+unfolding every
+every-at test [] i e k h = absurd (omega arith)
+every-at test (x ∷ xs) i e k h = go (test i x) refl e (every-at test xs (suc i)) k h
+  where
+    go : (b : Bool) → test i x ≡ b → b && every test (suc i) xs ≡ true →
+        (every test (suc i) xs ≡ true → (k : ℕ) → k < length xs → test (suc i + k) (getD xs k 0) ≡ true) →
+        (k : ℕ) → k < suc (length xs) → test (i + k) (getD (x ∷ xs) k 0) ≡ true
+    go false q f rest k h = absurd (false≢true f)
+    go true q f rest zero h = let z : i + 0 ≡ i = omega arith in rw z q
+    go true q f rest (suc k) h =
+        let z : i + suc k ≡ suc i + k = omega arith in
+        let l : k < length xs = omega arith in
+        rw z (rest f k l)
+
+-- The table as the code has it, models by kinds.
+abbrev pub table : List ℕ
+table =
+    2 ∷ 1 ∷ 0 ∷ 0 ∷ 0 ∷ 0 ∷ 0 ∷ 0  -- POSIX
+    ∷ 2 ∷ 0 ∷ 1 ∷ 0 ∷ 0 ∷ 0 ∷ 0 ∷ 0  -- commit
+    ∷ 0 ∷ 0 ∷ 0 ∷ 2 ∷ 1 ∷ 0 ∷ 0 ∷ 0  -- session
+    ∷ 0 ∷ 0 ∷ 0 ∷ 2 ∷ 1 ∷ 3 ∷ 0 ∷ 0  -- MPI-IO
+    ∷ []
+
+-- The entry at a place of the table is the one of the place's model and kind.
+right : ℕ → ℕ → Bool
+right k x = eqb x (tableEntry (k / KINDS) (k % KINDS))
+
+-- Within the table, the code reads the entry of the model and the kind.
+pub table-right : (model kind : ℕ) → model < MODELS → kind < KINDS → getD table (model * KINDS + kind) 0 ≡ tableEntry model kind
+unfolding every right publishes refreshes
+table-right model kind m k =
+    let i = model * KINDS + kind in
+    let l : i < 32 = omega arith in
+    let d : (0 + i) / KINDS ≡ model = omega arith in
+    let r : (0 + i) % KINDS ≡ kind = omega arith in
+    eqb-true (getD table i 0) (tableEntry ((0 + i) / KINDS) ((0 + i) % KINDS)) (every-at right table 0 refl i l) ∙ (λ j. tableEntry (d j) (r j))
+
+-- A number that is no model publishes nothing and refreshes nothing.
+pub no-model : (model kind : ℕ) → MODELS ≤ model → tableEntry model kind ≡ ENTRY-NONE
+unfolding publishes refreshes
+no-model model kind h =
+    simp (ne-eqb model 0 (λ e. omega arith), ne-eqb model 1 (λ e. omega arith), ne-eqb model 2 (λ e. omega arith), ne-eqb model 3 (λ e. omega arith))
+
+-- A number that is no kind publishes nothing and refreshes nothing.
+pub no-kind : (model kind : ℕ) → KINDS ≤ kind → tableEntry model kind ≡ ENTRY-NONE
+unfolding publishes refreshes
+no-kind model kind h =
+    simp
+    (ne-eqb kind 0 (λ e. omega arith), ne-eqb kind 1 (λ e. omega arith), ne-eqb kind 2 (λ e. omega arith), ne-eqb kind 3 (λ e. omega arith), ne-eqb kind 4 (λ e. omega arith), ne-eqb kind 5 (λ e. omega arith), and-false)
+
+-- A row whose entry is ENTRY-PUBLISH publishes.
+pub publish-entry : (model kind entry : ℕ) → entry ≡ tableEntry model kind → entry ≡ ENTRY-PUBLISH → true ≡ publishes model kind
+publish-entry model kind entry e q = go (publishes model kind) (refreshes model kind) (sym e ∙ q)
+  where
+    go : (a b : Bool) → cond a ENTRY-PUBLISH ENTRY-NONE + cond b ENTRY-REFRESH ENTRY-NONE ≡ ENTRY-PUBLISH → true ≡ a
+    go true b f = refl
+    go false true f = absurd (omega arith)
+    go false false f = absurd (omega arith)
+
+-- A row with any other entry publishes exactly where the entry is ENTRY-BOTH.
+pub both-entry : (model kind entry : ℕ) → entry ≡ tableEntry model kind → (entry ≡ ENTRY-PUBLISH → ⊥) → eqb entry ENTRY-BOTH ≡ publishes model kind
+both-entry model kind entry e n = ap (λ (x : ℕ). eqb x ENTRY-BOTH) e ∙ go (publishes model kind) (refreshes model kind) (λ q. n (e ∙ q))
+  where
+    go : (a b : Bool) → (cond a ENTRY-PUBLISH ENTRY-NONE + cond b ENTRY-REFRESH ENTRY-NONE ≡ ENTRY-PUBLISH → ⊥) → eqb (cond a ENTRY-PUBLISH ENTRY-NONE + cond b ENTRY-REFRESH ENTRY-NONE) ENTRY-BOTH ≡ a
+    go true true f = refl
+    go true false f = absurd (f refl)
+    go false true f = refl
+    go false false f = refl
+
+-- A row refreshes where its entry is ENTRY-REFRESH or more.
+pub refresh-entry : (model kind entry : ℕ) → entry ≡ tableEntry model kind → leb ENTRY-REFRESH entry ≡ refreshes model kind
+refresh-entry model kind entry e = ap (leb ENTRY-REFRESH) e ∙ go (publishes model kind) (refreshes model kind)
+  where
+    go : (a b : Bool) → leb ENTRY-REFRESH (cond a ENTRY-PUBLISH ENTRY-NONE + cond b ENTRY-REFRESH ENTRY-NONE) ≡ b
+    go true true = refl
+    go true false = refl
+    go false true = refl
+    go false false = refl
