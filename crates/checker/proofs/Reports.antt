@@ -18,7 +18,7 @@ use Rattle.trace.proofs.Whole.{refused-told}
 use Rattle.races.specs.declared.Found.{Found}
 use Rattle.races.specs.declared.Found.the-variants.{Free, Race, Refused}
 use Rattle.races_meaning.specs.Races.{Verdict, free, racing, verdictOf}
-use Rattle.races.specs.Answers.{judgeQuestions, foundOf, answerOf}
+use Rattle.races.specs.Answers.{judgeQuestions, verdictFound, foundOf}
 use Rattle.checker.specs.Report.{lineEnd, heading, posix, commit, session, mpiio, freeWords, raceWord, refusedWord, pair, verdictWords, modelLine, reportOf, readByProgram, reportLength, reportIn}
 use Rattle.checker.proofs.Lines.{pair-most, line-most, Laid, put-laid, laid-length, then}
 use Rattle.checker.proofs.Verdicts.{passes-other, outcome, told, rows-again}
@@ -26,17 +26,17 @@ use Rattle.checker.proofs.Verdicts.{passes-other, outcome, told, rows-a
 -- ---- A model's line
 
 -- an answer tells the verdict
-free-told : (v : Verdict) → Free ≡ foundOf v → v ≡ free
+free-told : (v : Verdict) → Free ≡ verdictFound v → v ≡ free
 free-told free e = refl
 free-told (racing earlier later) e = let z : _≡_ {A = ℕ} 0 1 = cc in absurd (omega arith)
 
 -- and its numbers
-race-told : (v : Verdict) {earlier later : ℕ} → Race earlier later ≡ foundOf v → v ≡ racing earlier later
+race-told : (v : Verdict) {earlier later : ℕ} → Race earlier later ≡ verdictFound v → v ≡ racing earlier later
 race-told free e = let z : _≡_ {A = ℕ} 0 1 = cc in absurd (omega arith)
 race-told (racing earlier later) e = cc
 
 -- no verdict's answer is a refusal
-never-refused : (v : Verdict) {k : ℕ} → Refused k ≡ foundOf v → ⊥
+never-refused : (v : Verdict) {k : ℕ} → Refused k ≡ verdictFound v → ⊥
 never-refused free e = let z : _≡_ {A = ℕ} 0 1 = cc in omega arith
 never-refused (racing earlier later) e = let z : _≡_ {A = ℕ} 0 1 = cc in omega arith
 
@@ -48,8 +48,8 @@ module _ (xs : List ℕ) (at : ℕ) (name rows : List ℕ) (n model L : ℕ)
   verdict = verdictOf (rowsIn n rows) model
 
   -- the answer, whatever it is called, is its answer
-  answer-told : {f g : Found} → f ≡ answerOf (firstNo (judgeQuestions n 8 model rows L)) rows n model → f ≡ g → g ≡ foundOf verdict
-  answer-told e h = sym h ∙ e ∙ ap (λ (first : ℕ). answerOf first rows n model) (pre .1)
+  answer-told : {f g : Found} → f ≡ foundOf (firstNo (judgeQuestions n 8 model rows L)) rows n model → f ≡ g → g ≡ verdictFound verdict
+  answer-told e h = sym h ∙ e ∙ ap (λ (first : ℕ). foundOf first rows n model) (pre .1)
 
   -- the name is laid
   named : Laid xs at name mid ys
@@ -61,7 +61,7 @@ module _ (xs : List ℕ) (at : ℕ) (name rows : List ℕ) (n model L : ℕ)
   line e l = let all = then named l in rw e (all .behind, all .whole)
 
   -- free
-  pub free-line : {f : Found} → f ≡ answerOf (firstNo (judgeQuestions n 8 model rows L)) rows n model → f ≡ Free → {end : ℕ} {zs : List ℕ} →
+  pub free-line : {f : Found} → f ≡ foundOf (firstNo (judgeQuestions n 8 model rows L)) rows n model → f ≡ Free → {end : ℕ} {zs : List ℕ} →
       (end ≡ putEnd ys mid (freeWords ++ lineEnd)) × (zs ≡ putIn ys mid (freeWords ++ lineEnd)) →
       (end ≡ at + length (modelLine name verdict)) × (zs ≡ lay xs at (modelLine name verdict))
   free-line e h p =
@@ -78,7 +78,7 @@ module _ (xs : List ℕ) (at : ℕ) (name rows : List ℕ) (n model L : ℕ)
     race-room = omega (arith, named .behind, laid-length named, raced .behind, laid-length raced)
 
     -- a race
-    pub race-line : {f : Found} → f ≡ answerOf (firstNo (judgeQuestions n 8 model rows L)) rows n model → {earlier later : ℕ} → f ≡ Race earlier later →
+    pub race-line : {f : Found} → f ≡ foundOf (firstNo (judgeQuestions n 8 model rows L)) rows n model → {earlier later : ℕ} → f ≡ Race earlier later →
         {end : ℕ} {ws : List ℕ} → (end ≡ word + length (pair earlier later)) × (ws ≡ lay zs word (pair earlier later)) →
         (end ≡ at + length (modelLine name verdict)) × (ws ≡ lay xs at (modelLine name verdict))
     race-line e {earlier} {later} h q =
@@ -87,7 +87,7 @@ module _ (xs : List ℕ) (at : ℕ) (name rows : List ℕ) (n model L : ℕ)
         (record { fit = omega (arith, race-room, pair-most earlier later); behind = q .0; whole = q .1 }))
 
   -- rows to judge are not refused
-  pub no-refusal : {f : Found} → f ≡ answerOf (firstNo (judgeQuestions n 8 model rows L)) rows n model → {k : ℕ} → f ≡ Refused k → ⊥
+  pub no-refusal : {f : Found} → f ≡ foundOf (firstNo (judgeQuestions n 8 model rows L)) rows n model → {k : ℕ} → f ≡ Refused k → ⊥
   no-refusal e h = never-refused verdict (answer-told e h)
 
 -- ---- The four lines

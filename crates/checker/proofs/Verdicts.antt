@@ -23,7 +23,7 @@ use Rattle.trace.proofs.Sounds.{sound-row}
 use Rattle.races.specs.declared.Found.{Found}
 use Rattle.races.specs.declared.Found.the-variants as found
 use Rattle.races_meaning.specs.Races.{Verdict, free, racing, verdictOf}
-use Rattle.races.specs.Answers.{judgeQuestions, foundOf, answerOf}
+use Rattle.races.specs.Answers.{judgeQuestions, verdictFound, foundOf}
 use Rattle.races.proofs.Whole.{same-first}
 use Rattle.checker.specs.declared.Judged.{Judged}
 use Rattle.checker.specs.declared.Judged.the-variants.{Free, Race, Refused}
@@ -46,7 +46,7 @@ judgedAs n (found.Race earlier later) = Race n earlier later
 judgedAs n (found.Refused k) = Refused k 0
 
 -- so a verdict's answer becomes what the whole call is to answer
-judged-found : (n : ℕ) (v : Verdict) → judgedAs n (foundOf v) ≡ judgedRows n v
+judged-found : (n : ℕ) (v : Verdict) → judgedAs n (verdictFound v) ≡ judgedRows n v
 judged-found n free = refl
 judged-found n (racing earlier later) = refl
 
@@ -111,14 +111,14 @@ module _ (text : List ℕ) (header model R P limit : ℕ) (xs us : List ℕ) whe
 
     -- with the verdict's answer, whatever it is called, and its counts the whole call decides
     pub decides : {f g : Found} {ws : List ℕ} →
-        (f ≡ answerOf (firstNo (judgeQuestions n P model ys (length vs))) ys n model)
+        (f ≡ foundOf (firstNo (judgeQuestions n P model ys (length vs))) ys n model)
         × (ws ≡ filledLeft (firstNo (judgeQuestions n P model ys (length vs))) n P ys vs) →
         f ≡ g →
         Decides model P outcome (judgedAs n g) xs ys us ws
     decides {f} {g} {ws} e h =
         let rows = told .0 in
-        let answer : g ≡ foundOf (verdictOf rows model) =
-        sym h ∙ e .0 ∙ ap (λ (first : ℕ). answerOf first ys n model) passes-again ∙ ap (λ (x : List Row). foundOf (verdictOf x model)) rows-again in
+        let answer : g ≡ verdictFound (verdictOf rows model) =
+        sym h ∙ e .0 ∙ ap (λ (first : ℕ). foundOf first ys n model) passes-again ∙ ap (λ (x : List Row). verdictFound (verdictOf x model)) rows-again in
         rw (told .1)
         (record {
           answered = (λ i. judgedAs (told .2 i) (answer i)) ∙ judged-found (length rows) (verdictOf rows model);

@@ -8,15 +8,16 @@ ghost use Rattle.races.specs.Answers.{judgeQuestions};
 ghost use Rattle.checker.specs.Report.{reportLength, reportIn};
 ghost use Rattle.machine_meaning.specs.Steps.{makingQuestions, plainMakingQuestions, stepOf, plainStepOf};
 ghost use Rattle.machine_state.specs.Replays.{replayOf, plainReplayOf};
-ghost use Rattle.kiqsaryn.specs.Packing.{Gives, JudgeGives, Fills, Judges, headed, rowed, Makes, StepGives, ReplayGives};
-use checker::Judged;
+ghost use Rattle.kiqsaryn.specs.Packing.{Gives, JudgeGives, Fills, Judges, NO-MODEL, headerFrom, rowFrom, Makes, StepGives, ReplayGives};
 use extents::Answer;
 use happens_before::Filled;
+use kiqsaryn_packing::UPPER;
 use machine::Made;
 use machine_state::Machine;
-use races::Found;
 use rows::Row;
-use trace::Checked;
+
+// The model of a plain file, which no call reads.
+const NO_MODEL: u32 = 0;
 
 // Checks a trace, as trace::check_trace does. The answer is the row count of an accepted trace, below 2^32, and of a refusal its number
 // times 2^32 plus its place.
@@ -35,7 +36,7 @@ pub extern "C" fn kiqsaryn_check_trace(
         (checkTrace (now (text .entry)) header model «row_limit» «process_limit» «byte_limit» (length (now (rows .entry))) (length (now (counts .entry))))
         r (now (rows .entry)) (now (rows .exit)) (now (counts .entry)) (now (counts .exit)) ⌝ }
 {
-    match trace::check_trace(
+    let answer = trace::check_trace(
         text,
         header,
         model,
@@ -44,13 +45,11 @@ pub extern "C" fn kiqsaryn_check_trace(
         byte_limit,
         rows,
         counts,
-    ) {
-        Checked::Accepted(n) => n as u64,
-        Checked::Refused(number, place) => number as u64 * 4294967296 + place as u64,
-    }
+    );
+    kiqsaryn_packing::pack_checked(answer)
 }
 
-// The whole call on a trace, as checker::judge does: its rows, their counts and the verdict under the model. The answer is four words of 16
+// Makes the whole call on a trace, as checker::judge does: its rows, their counts and the verdict under the model. The answer is four words of 16
 // bits. Of an accepted trace, from the lowest: the row count, the later and the earlier row of the first race, both 0 for free, and 0. Of a
 // refusal: its place in the lowest, its number in the highest, and 0 between.
 #[no_mangle]
@@ -68,7 +67,7 @@ pub extern "C" fn kiqsaryn_judge(
         (checkTrace (now (text .entry)) header model «row_limit» «process_limit» «byte_limit» (length (now (rows .entry))) (length (now (counts .entry))))
         r (now (rows .entry)) (now (rows .exit)) (now (counts .entry)) (now (counts .exit)) ⌝ }
 {
-    match checker::judge(
+    let answer = checker::judge(
         text,
         header,
         model,
@@ -77,13 +76,8 @@ pub extern "C" fn kiqsaryn_judge(
         byte_limit,
         rows,
         counts,
-    ) {
-        Judged::Free(n) => n as u64,
-        Judged::Race(n, earlier, later) => {
-            n as u64 + later as u64 * 65536 + earlier as u64 * 4294967296
-        }
-        Judged::Refused(number, place) => number as u64 * 281474976710656 + place as u64,
-    }
+    );
+    kiqsaryn_packing::pack_judged(answer)
 }
 
 // Fills the happens-before counts of the first n rows, as happens_before::fill_counts does. The answer is 0, and the number of a refusal.
@@ -103,7 +97,7 @@ pub extern "C" fn kiqsaryn_fill_counts(
     }
 }
 
-// The verdict on the first n rows under a model, as races::verdict gives it. The answer is 0 for a free trace, the earlier row's number times
+// Answers the verdict on the first n rows under a model, as races::verdict does. The answer is 0 for a free trace, the earlier row's number times
 // 2^32 plus the later row's for a race, whose low 32 bits are at least 2, and of a refusal its number times 2^32.
 #[no_mangle]
 pub extern "C" fn kiqsaryn_verdict(
@@ -116,14 +110,11 @@ pub extern "C" fn kiqsaryn_verdict(
     ensures { λ r. ⌜ Judges (judgeQuestions n «process_limit» model (now (rows .entry)) (length (now (counts .entry)))) n «process_limit» model r
         (now (rows .entry)) (now (counts .entry)) (now (counts .exit)) ⌝ }
 {
-    match races::verdict(rows, n, process_limit, model, counts) {
-        Found::Free => 0,
-        Found::Race(earlier, later) => earlier as u64 * 4294967296 + later as u64,
-        Found::Refused(number) => number as u64 * 4294967296,
-    }
+    let answer = races::verdict(rows, n, process_limit, model, counts);
+    kiqsaryn_packing::pack_found(answer)
 }
 
-// What the program verdict prints of a trace with header, put at the front of a slice of 256 bytes or more, as checker::report does. The
+// Puts what the program verdict prints of a trace with header at the front of a slice of 256 bytes or more, as checker::report does. The
 // answer is its length, and 0 for a shorter slice.
 #[no_mangle]
 pub extern "C" fn kiqsaryn_report(text: &[u8], out: &mut [u8]) -> usize
@@ -142,7 +133,7 @@ pub extern "C" fn kiqsaryn_make(
     map_space: u32,
     maps: &mut [u32],
 ) -> u32
-    ensures { λ r. ⌜ Makes (makingQuestions (headed model «process_limit» file «map_space») (length (now (maps .entry)))) (4 * «map_space» * («process_limit» + 1)) r
+    ensures { λ r. ⌜ Makes (makingQuestions (headerFrom model «process_limit» file «map_space») (length (now (maps .entry)))) (4 * «map_space» * («process_limit» + 1)) r
         (now (maps .entry)) (now (maps .exit)) ⌝ }
 {
     match machine::make(Machine::fresh(model, process_limit, file, map_space), maps) {
@@ -159,10 +150,13 @@ pub extern "C" fn kiqsaryn_make_plain(
     map_space: u32,
     map: &mut [u32],
 ) -> u32
-    ensures { λ r. ⌜ Makes (plainMakingQuestions (headed 0 «process_limit» file «map_space») (length (now (map .entry)))) (4 * «map_space») r
+    ensures { λ r. ⌜ Makes (plainMakingQuestions (headerFrom NO-MODEL «process_limit» file «map_space») (length (now (map .entry)))) (4 * «map_space») r
         (now (map .entry)) (now (map .exit)) ⌝ }
 {
-    match machine::make_plain(Machine::fresh(0, process_limit, file, map_space), map) {
+    match machine::make_plain(
+        Machine::fresh(NO_MODEL, process_limit, file, map_space),
+        map,
+    ) {
         Made::Made => 0,
         Made::Refused(number) => number,
     }
@@ -185,7 +179,7 @@ pub extern "C" fn kiqsaryn_step(
     number: u32,
     out: &mut [u32],
 ) -> u64
-    ensures { λ r. ⌜ StepGives (stepOf (headed model «process_limit» file «map_space») (now (maps .entry)) (rowed process kind «row_file» offset size) number (now (out .entry)))
+    ensures { λ r. ⌜ StepGives (stepOf (headerFrom model «process_limit» file «map_space») (now (maps .entry)) (rowFrom process kind «row_file» offset size) number (now (out .entry)))
         r (now (maps .exit)) (now (out .exit)) ⌝ }
 {
     let row = Row {
@@ -205,12 +199,12 @@ pub extern "C" fn kiqsaryn_step(
     ) {
         Answer::Done => 0,
         Answer::Listed(count) => count as u64,
-        Answer::Refused(k) => k as u64 * 4294967296,
+        Answer::Refused(k) => k as u64 * UPPER,
     }
 }
 
-// Puts a row to a plain file under a row number, as machine::step_plain does. The answer is the count of pieces, below 2^32, 0 for a row that is no
-// read, and of a refusal its number times 2^32.
+// Puts a row to a plain file under a row number, as machine::step_plain does. The answer is the count of pieces, below 2^32, 0 for a row that
+// is no read, and of a refusal its number times 2^32.
 #[no_mangle]
 pub extern "C" fn kiqsaryn_step_plain(
     process_limit: u32,
@@ -225,7 +219,7 @@ pub extern "C" fn kiqsaryn_step_plain(
     number: u32,
     out: &mut [u32],
 ) -> u64
-    ensures { λ r. ⌜ StepGives (plainStepOf (headed 0 «process_limit» file «map_space») (now (map .entry)) (rowed process kind «row_file» offset size) number (now (out .entry)))
+    ensures { λ r. ⌜ StepGives (plainStepOf (headerFrom NO-MODEL «process_limit» file «map_space») (now (map .entry)) (rowFrom process kind «row_file» offset size) number (now (out .entry)))
         r (now (map .exit)) (now (out .exit)) ⌝ }
 {
     let row = Row {
@@ -237,7 +231,7 @@ pub extern "C" fn kiqsaryn_step_plain(
         message: 0,
     };
     match machine::step_plain(
-        Machine::fresh(0, process_limit, file, map_space),
+        Machine::fresh(NO_MODEL, process_limit, file, map_space),
         map,
         row,
         number,
@@ -245,12 +239,12 @@ pub extern "C" fn kiqsaryn_step_plain(
     ) {
         Answer::Done => 0,
         Answer::Listed(count) => count as u64,
-        Answer::Refused(k) => k as u64 * 4294967296,
+        Answer::Refused(k) => k as u64 * UPPER,
     }
 }
 
-// Replays the rows behind the first ones, up to row n, as machine::replay does. The answer is how many rows it has gone through, those first ones
-// included, plus 2^32 times the number of the refusal that ended it, 0 for none.
+// Replays the rows behind the first ones, up to row n, as machine::replay does. The answer is how many rows the replay has gone through, those
+// first ones included, plus 2^32 times the number of the refusal that ended it, 0 for none.
 #[no_mangle]
 pub extern "C" fn kiqsaryn_replay(
     model: u32,
@@ -264,16 +258,16 @@ pub extern "C" fn kiqsaryn_replay(
     counts: &mut [u32],
     out: &mut [u32],
 ) -> u64
-    ensures { λ r. ⌜ ReplayGives (replayOf (headed model «process_limit» file «map_space») (now (rows .entry)) first n (now (maps .entry)) (now (counts .entry)) (now (out .entry)))
+    ensures { λ r. ⌜ ReplayGives (replayOf (headerFrom model «process_limit» file «map_space») (now (rows .entry)) first n (now (maps .entry)) (now (counts .entry)) (now (out .entry)))
         r (now (maps .exit)) (now (counts .exit)) (now (out .exit)) ⌝ }
 {
     let header = Machine::fresh(model, process_limit, file, map_space);
     let r = machine::replay(header, maps, rows, first, n, counts, out);
-    r.refusal as u64 * 4294967296 + r.rows as u64
+    r.refusal as u64 * UPPER + r.rows as u64
 }
 
-// Replays the rows behind the first ones, up to row n, as machine::replay_plain does. The answer is how many rows it has gone through, those first ones
-// included, plus 2^32 times the number of the refusal that ended it, 0 for none.
+// Replays the rows behind the first ones, up to row n, as machine::replay_plain does. The answer is how many rows the replay has gone through,
+// those first ones included, plus 2^32 times the number of the refusal that ended it, 0 for none.
 #[no_mangle]
 pub extern "C" fn kiqsaryn_replay_plain(
     process_limit: u32,
@@ -286,10 +280,10 @@ pub extern "C" fn kiqsaryn_replay_plain(
     counts: &mut [u32],
     out: &mut [u32],
 ) -> u64
-    ensures { λ r. ⌜ ReplayGives (plainReplayOf (headed 0 «process_limit» file «map_space») (now (rows .entry)) first n (now (map .entry)) (now (counts .entry)) (now (out .entry)))
+    ensures { λ r. ⌜ ReplayGives (plainReplayOf (headerFrom NO-MODEL «process_limit» file «map_space») (now (rows .entry)) first n (now (map .entry)) (now (counts .entry)) (now (out .entry)))
         r (now (map .exit)) (now (counts .exit)) (now (out .exit)) ⌝ }
 {
-    let header = Machine::fresh(0, process_limit, file, map_space);
+    let header = Machine::fresh(NO_MODEL, process_limit, file, map_space);
     let r = machine::replay_plain(header, map, rows, first, n, counts, out);
-    r.refusal as u64 * 4294967296 + r.rows as u64
+    r.refusal as u64 * UPPER + r.rows as u64
 }

@@ -21,53 +21,56 @@ use Rattle.rows.specs.Counting.{lastBelow}
 -- ---- The numbers of a row
 
 module _ (xs : List ℕ) (k : ℕ) where
-  -- each field is the number at its place
+  -- The kind of row k is its second number.
   pub kind-in : rowIn xs k .kind ≡ getD xs (k * 6 + 1) 0
   unfolding rowHere
   kind-in = getD-drop (k * 6) xs 1 0
 
+  -- The file of row k is its third number.
   pub file-in : rowIn xs k .file ≡ getD xs (k * 6 + 2) 0
   unfolding rowHere
   file-in = getD-drop (k * 6) xs 2 0
 
+  -- The offset of row k is its fourth number.
   pub offset-in : rowIn xs k .offset ≡ getD xs (k * 6 + 3) 0
   unfolding rowHere
   offset-in = getD-drop (k * 6) xs 3 0
 
+  -- The length of row k is its fifth number.
   pub length-in : rowIn xs k .length ≡ getD xs (k * 6 + 4) 0
   unfolding rowHere
   length-in = getD-drop (k * 6) xs 4 0
 
 -- ---- Conflicts
 
--- a read or a write, by its kind
+-- A kind is that of a data row.
 abbrev ofData : ℕ → Bool
 ofData k = eqb k READ || eqb k WRITE
 
--- kinds past 1 are neither
-no-data : {k : ℕ} → 1 < k → ofData k ≡ false
+-- A kind past WRITE is not that of a data row.
+no-data : {k : ℕ} → WRITE < k → ofData k ≡ false
 no-data {k} h = rw (ne-eqb k READ (λ e. omega arith), ne-eqb k WRITE (λ e. omega arith))
 
--- 0 and 1 are
-some-data : {k : ℕ} → k ≤ 1 → ofData k ≡ true
-some-data {k} h = go (ℕ-discrete k 0)
+-- A kind up to WRITE is that of a data row.
+some-data : {k : ℕ} → k ≤ WRITE → ofData k ≡ true
+some-data {k} h = go (ℕ-discrete k READ)
   where
-    go : Dec (k ≡ 0) → ofData k ≡ true
+    go : Dec (k ≡ READ) → ofData k ≡ true
     go (yes e) = rw (eq-eqb k READ e)
-    go (no n) = let e : k ≡ 1 = omega arith in rw (ne-eqb k READ n, eq-eqb k WRITE e)
+    go (no n) = let e : k ≡ WRITE = omega arith in rw (ne-eqb k READ n, eq-eqb k WRITE e)
 
--- the conflict of rows of kinds k and l, files f and g and processes p and q, with whether they share a byte
+-- Rows of kinds k and l, files f and g and processes p and q conflict; b says whether they share a byte.
 abbrev told : ℕ → ℕ → ℕ → ℕ → Bool → ℕ → ℕ → Bool
 told k l f g b p q = ofData k && (ofData l && (eqb f g && (b && (not (eqb p q) && (eqb k WRITE || eqb l WRITE)))))
 
--- the ranges of rows x and y share a byte
+-- The ranges of rows x and y share a byte.
 abbrev pub shared : List ℕ → ℕ → ℕ → Bool
 shared xs x y =
     ltb (max (getD xs (x * 6 + 3) 0) (getD xs (y * 6 + 3) 0))
     (min (getD xs (x * 6 + 3) 0 + getD xs (x * 6 + 4) 0) (getD xs (y * 6 + 3) 0 + getD xs (y * 6 + 4) 0))
 
 module _ (xs : List ℕ) (x y : ℕ) where
-  -- their kinds, files and processes
+  -- The kinds, files and processes of rows x and y.
   abbrev k : ℕ
   k = getD xs (x * 6 + 1) 0
 
@@ -86,7 +89,7 @@ module _ (xs : List ℕ) (x y : ℕ) where
   abbrev q : ℕ
   q = getD xs (y * 6) 0
 
-  -- the conflict, by the numbers
+  -- Rows x and y conflict where their numbers say so.
   cells : conflict (rowIn xs x) (rowIn xs y) ≡ told k l f g (shared xs x y) p q
   unfolding conflict shareByte
   cells i =
@@ -94,83 +97,93 @@ module _ (xs : List ℕ) (x y : ℕ) where
       (ltb (max (offset-in xs x i) (offset-in xs y i)) (min (offset-in xs x i + length-in xs x i) (offset-in xs y i + length-in xs y i)))
       (process-in xs x i) (process-in xs y i)
 
-  -- none: a row is no data row, the files differ, no byte is shared, or the processes are the same
-  pub no-first : 1 < k → false ≡ conflict (rowIn xs x) (rowIn xs y)
+  -- Rows do not conflict where the first is no data row.
+  pub no-first : WRITE < k → false ≡ conflict (rowIn xs x) (rowIn xs y)
   no-first h = sym (cells ∙ rw (no-data h))
 
-  pub no-second : 1 < l → false ≡ conflict (rowIn xs x) (rowIn xs y)
+  -- Rows do not conflict where the second is no data row.
+  pub no-second : WRITE < l → false ≡ conflict (rowIn xs x) (rowIn xs y)
   no-second h = sym (cells ∙ rw (no-data h) (and-false (ofData k)))
 
+  -- Rows of two files do not conflict.
   pub no-file : (f ≡ g → ⊥) → false ≡ conflict (rowIn xs x) (rowIn xs y)
   no-file n = sym (cells ∙ simp (ne-eqb f g n, and-false))
 
+  -- Rows that share no byte do not conflict.
   pub no-share : shared xs x y ≡ false → false ≡ conflict (rowIn xs x) (rowIn xs y)
   no-share e = sym (cells ∙ simp (e, and-false))
 
+  -- Rows of one process do not conflict.
   pub no-process : p ≡ q → false ≡ conflict (rowIn xs x) (rowIn xs y)
   no-process e = sym (cells ∙ simp (eq-eqb p q e, and-false))
 
-  -- else by the writes
-  module _ (a : k ≤ 1) (b : l ≤ 1) (e : f ≡ g) (s : shared xs x y ≡ true) (n : p ≡ q → ⊥) where
-    -- one of them is a write
+  -- Data rows of one file and two processes that share a byte.
+  module _ (a : k ≤ WRITE) (b : l ≤ WRITE) (e : f ≡ g) (s : shared xs x y ≡ true) (n : p ≡ q → ⊥) where
+    -- Such rows conflict where one of them is a write.
     by-writes : conflict (rowIn xs x) (rowIn xs y) ≡ (eqb k WRITE || eqb l WRITE)
     by-writes = cells ∙ rw (some-data a, some-data b, eq-eqb f g e, s, ne-eqb p q n)
 
-    pub first-writes : k ≡ 1 → true ≡ conflict (rowIn xs x) (rowIn xs y)
+    -- Such rows conflict where the first is a write.
+    pub first-writes : k ≡ WRITE → true ≡ conflict (rowIn xs x) (rowIn xs y)
     first-writes h = sym (by-writes ∙ rw (eq-eqb k WRITE h))
 
-    pub by-second : (k ≡ 1 → ⊥) → eqb l 1 ≡ conflict (rowIn xs x) (rowIn xs y)
+    -- Where the first is no write, the second decides.
+    pub by-second : (k ≡ WRITE → ⊥) → eqb l WRITE ≡ conflict (rowIn xs x) (rowIn xs y)
     by-second h = sym (by-writes ∙ rw (ne-eqb k WRITE h))
 
 -- ---- The last refresh
 
--- no number is left
+-- Below 0 no number passes.
 pub last-none : (test : ℕ → Bool) {i : ℕ} → i ≤ 0 → lastBelow i test ≡ 0
 unfolding lastBelow
 last-none test {i} h = let e : i ≡ 0 = omega arith in ap (λ (k : ℕ). lastBelow k test) e
 
 module _ (test : ℕ → Bool) (i : ℕ) (h : 0 < i) where
-  -- i is one more
+  -- The number i is one more than i - 1.
   split-last : i ≡ suc (i - 1)
   split-last = omega arith
 
-  -- i - 1 passes, or those before it decide
+  -- Where i - 1 passes, it is the last that passes.
   last-here : test (i - 1) ≡ true → lastBelow i test ≡ i
   unfolding lastBelow
   last-here e = ap (λ (k : ℕ). lastBelow k test) split-last ∙ rw e (sym split-last)
 
+  -- Where i - 1 does not pass, the numbers below i - 1 decide.
   last-before : test (i - 1) ≡ false → lastBelow i test ≡ lastBelow (i - 1) test
   unfolding lastBelow
   last-before e = ap (λ (k : ℕ). lastBelow k test) split-last ∙ rw e
 
 module _ (xs : List ℕ) (n model y : ℕ) where
-  -- whether a row refreshes for row y
+  -- Row k refreshes for row y.
   abbrev pub refreshing : ℕ → Bool
   refreshing k = isRefresh (rowsIn n xs) model (rowAt (rowsIn n xs) y) k
 
-  -- by the numbers
+  -- Row k refreshes for row y where their numbers say so.
   refresh-cells : (k : ℕ) → y < n → k < n →
       refreshing k
       ≡ (refreshes model (getD xs (k * 6 + 1) 0) && (eqb (getD xs (y * 6 + 2) 0) (getD xs (k * 6 + 2) 0) && eqb (getD xs (y * 6) 0) (getD xs (k * 6) 0)))
   refresh-cells k h l =
       rw (row-in n y xs h, row-in n k xs l, kind-in xs k, file-in xs k, file-in xs y, process-in xs k, process-in xs y)
 
-  -- what row i - 1 says
+  -- Whether row i - 1 refreshes for row y.
   module _ (i : ℕ) (h : y < n) (l : i ≤ y) (z : 0 < i) {b : Bool}
       (e : b
       ≡ (refreshes model (getD xs ((i - 1) * 6 + 1) 0)
       && (eqb (getD xs (y * 6 + 2) 0) (getD xs ((i - 1) * 6 + 2) 0) && eqb (getD xs (y * 6) 0) (getD xs ((i - 1) * 6) 0)))) where
+    -- Row i - 1 refreshes, and is the last that does.
     pub refresh-here : b ≡ true → lastBelow i refreshing ≡ i
     refresh-here q = last-here refreshing i z (refresh-cells (i - 1) h (omega arith) ∙ sym e ∙ q)
 
+    -- Row i - 1 does not refresh, and the rows before decide.
     pub refresh-before : b ≡ false → lastBelow i refreshing ≡ lastBelow (i - 1) refreshing
     refresh-before q = last-before refreshing i z (refresh-cells (i - 1) h (omega arith) ∙ sym e ∙ q)
 
-  -- row y itself refreshes, or an earlier row
+  -- Where a read refreshes, row y itself is the refresh.
   pub refresh-own : refreshes model READ ≡ true → suc y ≡ refreshAt (rowsIn n xs) model y
   unfolding refreshAt
   refresh-own e = rw e
 
+  -- Where a read does not refresh, the last earlier row that does is the refresh.
   pub refresh-earlier : refreshes model READ ≡ false → refreshAt (rowsIn n xs) model y ≡ lastBelow y refreshing
   unfolding refreshAt
   refresh-earlier e = rw e

@@ -11,7 +11,8 @@ use lib.ListN.{length, getD, set, replicate, length-set, length-append, length-r
 use lib.Seq.{getD-drop, getD-set-same, getD-set-other}
 use lib.Dec.{leb, ltb, eqb}
 use borrow.Author.Tests.{eq-eqb, ne-eqb, lt-ltb, le-ltb}
-use Rattle.rows.specs.Kinds.{READ}
+use Rattle.rows.specs.Kinds.{READ, WRITE}
+use Rattle.rows.specs.Limits.{PROCESSES}
 use Rattle.models.specs.Table.{publishes, refreshes}
 use Rattle.rows.specs.declared.Row.{Row}
 use Rattle.rows.specs.Rows.{rowsIn, rowHere, rowAt, rowIn}
@@ -33,7 +34,7 @@ module _ {n P model : ℕ} {xs counts : List ℕ} (g : Given n P model xs counts
   abbrev rows : List Row
   rows = rowsIn n xs
 
-  -- the numbers of a row
+  -- The process of row k is its first number.
   pub process-at : {k : ℕ} → k < n → rowAt rows k .process ≡ getD xs (k * 6) 0
   unfolding rowHere
   process-at {k} h =
@@ -47,11 +48,11 @@ module _ {n P model : ℕ} {xs counts : List ℕ} (g : Given n P model xs counts
   unfolding rowHere
   file-at {k} h = ap (λ (r : Row). r .file) (row-in n k xs h) ∙ getD-drop (k * 6) xs 2 0
 
-  -- a row's process is below the limit
+  -- A row's process is below the limit.
   pub process-low : {k : ℕ} → k < n → getD xs (k * 6) 0 < P
   process-low {k} h = rw (sym (ap (λ (r : Row). r .process) (row-in n k xs h)) ∙ process-at h) at (g .below k h)
 
-  -- a row's counts are within the slice
+  -- A row's counts are within the slice.
   pub room : {k : ℕ} → k < n → k * P + P ≤ length counts
   unfolding countsOf
   room {k} h =
@@ -65,38 +66,41 @@ module _ {n P model : ℕ} {xs counts : List ℕ} (g : Given n P model xs counts
         ap (λ (m : ℕ). m * P) (length-rows n xs),
       )
 
-  -- and they are its counts
+  -- The slice holds the counts of row k.
   pub cell : {k p : ℕ} → k < n → p < P → cellIn P counts k p ≡ count rows p k
   unfolding countsOf
   cell {k} {p} h l =
       ap (λ (x : List ℕ). cellIn P x k p) (g .counted)
       ∙ cell-done P (λ k p. count rows p k) (length rows) k p (g .rest) (omega (arith, length-rows n xs)) l
 
-  -- what a comparison of counts asks for, and what it tells
+  -- All that a comparison of counts asks for holds.
   pub asked : {k i j : ℕ} → k < n → i < n → j < n →
-      (getD xs (k * 6) 0 < P) × (i * P + P ≤ length counts) × (j * P + P ≤ length counts) × (P ≤ 64)
+      (getD xs (k * 6) 0 < P) × (i * P + P ≤ length counts) × (j * P + P ≤ length counts) × (P ≤ PROCESSES)
   asked h a b = (process-low h, room a, room b, g .few-processes)
 
+  -- A comparison of counts in the slice is one of the rows' counts.
   pub compared : {k i j : ℕ} {b : Bool} → k < n → i < n → j < n →
       b ≡ leb (cellIn P counts i (getD xs (k * 6) 0)) (cellIn P counts j (getD xs (k * 6) 0)) →
       b ≡ leb (count rows (rowAt rows k .process) i) (count rows (rowAt rows k .process) j)
   compared {k} {i} {j} h a b e = e ∙ ap₂ leb (cell a (process-low h)) (cell b (process-low h)) ∙ rw (process-at h)
 
-  -- a conflict of rows of the slice
+  -- Rows of the slice conflict where the rows of the trace do.
   pub conflict-in : {x y : ℕ} → x < n → y < n → conflict (rowIn xs x) (rowIn xs y) ≡ conflict (rowAt rows x) (rowAt rows y)
   conflict-in {x} {y} h l = sym (ap₂ conflict (row-in n x xs h) (row-in n y xs l))
 
   -- ---- A row that is noted
 
   module _ {y c : ℕ} (o : ℕ) (hy : y < n) (hc : c < n) where
-    -- it does not publish, is of another file, or the counts decide
+    -- A row that does not publish is not noted.
     pub no-publish : {b : Bool} → b ≡ publishes model (getD xs (c * 6 + 1) 0) → b ≡ false → false ≡ noted rows model y o c
     no-publish e q = rw (kind-at hc, sym e ∙ q)
 
     module _ {b : Bool} (e : b ≡ publishes model (getD xs (c * 6 + 1) 0)) (q : b ≡ true) where
+      -- A row of another file is not noted.
       pub other-file : (getD xs (y * 6 + 2) 0 ≡ getD xs (c * 6 + 2) 0 → ⊥) → false ≡ noted rows model y o c
       other-file f = rw (kind-at hc, sym e ∙ q, file-at hy, file-at hc, ne-eqb (getD xs (y * 6 + 2) 0) (getD xs (c * 6 + 2) 0) f)
 
+      -- Of a row that publishes the file, the counts decide.
       pub by-counts : {r : Bool} → getD xs (y * 6 + 2) 0 ≡ getD xs (c * 6 + 2) 0 →
           r ≡ leb (count rows (rowAt rows c .process) c) (count rows (rowAt rows c .process) o) → r ≡ noted rows model y o c
       by-counts f t = t ∙ sym (rw (kind-at hc, sym e ∙ q, file-at hy, file-at hc, eq-eqb (getD xs (y * 6 + 2) 0) (getD xs (c * 6 + 2) 0) f))
@@ -104,35 +108,36 @@ module _ {n P model : ℕ} {xs counts : List ℕ} (g : Given n P model xs counts
   -- ---- A row that is in order
 
   module _ {x : ℕ} (y : ℕ) (hx : x < n) where
-    -- no write: by the counts
-    pub order-read : {b : Bool} → (getD xs (x * 6 + 1) 0 ≡ 1 → ⊥) →
+    -- A row that is no write is in order by the counts.
+    pub order-read : {b : Bool} → (getD xs (x * 6 + 1) 0 ≡ WRITE → ⊥) →
         b ≡ leb (count rows (rowAt rows x .process) x) (count rows (rowAt rows x .process) y) → b ≡ inOrder rows model x y
     unfolding inOrder
-    order-read f t = t ∙ sym (rw (kind-at hx, ne-eqb (getD xs (x * 6 + 1) 0) 1 f))
+    order-read f t = t ∙ sym (rw (kind-at hx, ne-eqb (getD xs (x * 6 + 1) 0) WRITE f))
 
-    module _ {refresh : ℕ} (w : getD xs (x * 6 + 1) 0 ≡ 1) (e : refresh ≡ refreshAt rows model y) where
-      -- a write with no refresh
+    module _ {refresh : ℕ} (w : getD xs (x * 6 + 1) 0 ≡ WRITE) (e : refresh ≡ refreshAt rows model y) where
+      -- A write with no refresh is not in order.
       pub order-none : refresh ≡ 0 → false ≡ inOrder rows model x y
       unfolding inOrder
-      order-none z = sym (rw (kind-at hx, eq-eqb (getD xs (x * 6 + 1) 0) 1 w, sym e ∙ z))
+      order-none z = sym (rw (kind-at hx, eq-eqb (getD xs (x * 6 + 1) 0) WRITE w, sym e ∙ z))
 
-      module _ (l : 0 < refresh) {b : Bool} (d : b ≡ publishes model 1) where
-        -- a write that publishes, or that a noted row follows
+      module _ (l : 0 < refresh) {b : Bool} (d : b ≡ publishes model WRITE) where
+        -- A write that publishes is in order by the counts at the refresh.
         pub order-own : {r : Bool} → b ≡ true →
             r ≡ leb (count rows (rowAt rows x .process) x) (count rows (rowAt rows x .process) (refresh - 1)) → r ≡ inOrder rows model x y
         unfolding inOrder
-        order-own q t = t ∙ sym (rw (kind-at hx, eq-eqb (getD xs (x * 6 + 1) 0) 1 w, sym e, lt-ltb 0 refresh l, sym d ∙ q))
+        order-own q t = t ∙ sym (rw (kind-at hx, eq-eqb (getD xs (x * 6 + 1) 0) WRITE w, sym e, lt-ltb 0 refresh l, sym d ∙ q))
 
+        -- A write that does not publish is in order where a noted row follows.
         pub order-noted : {last : ℕ} → b ≡ false → last ≡ lastNoted rows model y (refresh - 1) (rowAt rows x .process) y →
             ltb (x + 1) last ≡ inOrder rows model x y
         unfolding inOrder
         order-noted q t =
             let one : x + 1 ≡ suc x = omega arith in
-            (λ i. ltb (one i) (t i)) ∙ sym (rw (kind-at hx, eq-eqb (getD xs (x * 6 + 1) 0) 1 w, sym e, lt-ltb 0 refresh l, sym d ∙ q))
+            (λ i. ltb (one i) (t i)) ∙ sym (rw (kind-at hx, eq-eqb (getD xs (x * 6 + 1) 0) WRITE w, sym e, lt-ltb 0 refresh l, sym d ∙ q))
 
 -- ---- The refresh
 
--- the last number below a bound that passes, and one, is at most the bound
+-- The last number below a bound that passes, plus one, is at most the bound.
 last-most : (test : ℕ → Bool) (k : ℕ) → lastBelow k test ≤ k
 unfolding lastBelow
 last-most test zero = omega arith
@@ -142,7 +147,7 @@ last-most test (suc k) = go (test k) (last-most test k)
     go true h = omega arith
     go false h = omega arith
 
--- the refresh is y or before it
+-- The refresh is y or stands before y.
 pub refresh-most : (rows : List Row) (model y : ℕ) → refreshAt rows model y ≤ suc y
 unfolding refreshAt
 refresh-most rows model y = go (refreshes model READ) (last-most (isRefresh rows model (rowAt rows y)) y)
@@ -154,14 +159,14 @@ refresh-most rows model y = go (refreshes model READ) (last-most (isRefresh rows
 
 -- ---- The pass that notes
 
--- The rows below c are looked at: each process's last noted row is held.
+-- The slice `last` holds, for each process, its last noted row below c.
 pub record Noting (rows : List Row) (model y refresh : ℕ) (last : List ℕ) (c : ℕ) : Type 0 where
   pub low : c ≤ y
   pub refreshed : refresh ≡ refreshAt rows model y
-  pub many : length last ≡ 64
-  pub held : 0 < refresh → (p : ℕ) → p < 64 → getD last p 0 ≡ lastNoted rows model y (refresh - 1) p c
+  pub many : length last ≡ PROCESSES
+  pub held : 0 < refresh → (p : ℕ) → p < PROCESSES → getD last p 0 ≡ lastNoted rows model y (refresh - 1) p c
 
--- the last noted row with one row more, by the row's process and whether it is noted
+-- One row more is the last noted row of its process, if it is noted.
 last-next : (rows : List Row) (model y o p c : ℕ) {b d : Bool} → eqb (rowAt rows c .process) p ≡ d → b ≡ noted rows model y o c →
     lastNoted rows model y o p (c + 1) ≡ cond (d && b) (suc c) (lastNoted rows model y o p c)
 unfolding lastNoted lastBelow
@@ -169,20 +174,20 @@ last-next rows model y o p c f t =
     let one : c + 1 ≡ suc c = omega arith in
     ap (lastNoted rows model y o p) one ∙ (λ i. cond (f i && sym t i) (suc c) (lastNoted rows model y o p c))
 
--- no row is looked at
+-- Before the first row, no process has a noted row.
 pub noting-start : (rows : List Row) (model y : ℕ) {refresh : ℕ} → refresh ≡ refreshAt rows model y →
-    Noting rows model y refresh (replicate 64 0) 0
+    Noting rows model y refresh (replicate PROCESSES 0) 0
 unfolding lastNoted lastBelow
 noting-start rows model y e =
-    record { low = omega arith; refreshed = e; many = length-replicate {A = ℕ} 64 0; held = λ l p h. zeros 64 p }
+    record { low = omega arith; refreshed = e; many = length-replicate {A = ℕ} PROCESSES 0; held = λ l p h. zeros PROCESSES p }
 
 module _ {rows : List Row} {model y refresh : ℕ} {last : List ℕ} {c : ℕ} (k : Noting rows model y refresh last c) where
-  -- the refresh is below as many rows as y is
+  -- The refresh lies within the rows.
   pub refresh-in : {n : ℕ} → y < n → refresh ≤ n
   refresh-in h = omega (arith, k .refreshed, refresh-most rows model y)
 
-  -- one row more: it is stored as its process's, or is none
-  pub noting-next : {after : List ℕ} {b : Bool} {q : ℕ} → c < y → q < 64 → rowAt rows c .process ≡ q →
+  -- Row c is stored for its process, or is not noted.
+  pub noting-next : {after : List ℕ} {b : Bool} {q : ℕ} → c < y → q < PROCESSES → rowAt rows c .process ≡ q →
       (0 < refresh → b ≡ noted rows model y (refresh - 1) c) →
       ((b ≡ true) × (after ≡ set last q (c + 1))) ⊎ ((b ≡ false) × (after ≡ last)) → Noting rows model y refresh after (c + 1)
   noting-next {after} {b} {q} h l e t (inl w) =
@@ -193,7 +198,7 @@ module _ {rows : List Row} {model y refresh : ℕ} {last : List ℕ} {c : ℕ} (
         held = λ r p m. ap (λ (x : List ℕ). getD x p 0) (w .1) ∙ go r p m (ℕ-discrete p q);
       }
     where
-      go : 0 < refresh → (p : ℕ) → p < 64 → Dec (p ≡ q) → getD (set last q (c + 1)) p 0 ≡ lastNoted rows model y (refresh - 1) p (c + 1)
+      go : 0 < refresh → (p : ℕ) → p < PROCESSES → Dec (p ≡ q) → getD (set last q (c + 1)) p 0 ≡ lastNoted rows model y (refresh - 1) p (c + 1)
       go r p m (yes d) =
           let one : c + 1 ≡ suc c = omega arith in
           rw d (getD-set-same last q (c + 1) 0 (omega (arith, k .many)) ∙ one
@@ -211,15 +216,15 @@ module _ {rows : List Row} {model y refresh : ℕ} {last : List ℕ} {c : ℕ} (
             ∙ ap (λ (x : Bool). cond x (suc c) (lastNoted rows model y (refresh - 1) p c)) (and-false (eqb (rowAt rows c .process) p)));
       }
 
-  -- all rows below y are looked at: the one held is that of a row's process
-  pub noting-done : {p q : ℕ} → y ≤ c → q < 64 → p ≡ q → 0 < refresh → getD last q 0 ≡ lastNoted rows model y (refresh - 1) p y
+  -- After all rows below y, the slice holds the last noted row of each process.
+  pub noting-done : {p q : ℕ} → y ≤ c → q < PROCESSES → p ≡ q → 0 < refresh → getD last q 0 ≡ lastNoted rows model y (refresh - 1) p y
   noting-done {p} {q} h l e r =
       let d : c ≡ y = omega (arith, k .low) in
       k .held r q l ∙ (λ i. lastNoted rows model y (refresh - 1) (sym e i) (d i))
 
 -- ---- The pass over the earlier rows
 
--- row x races with row y
+-- Row x races with row y.
 abbrev pub races : List Row → ℕ → ℕ → ℕ → Bool
 races rows model y x = conflict (rowAt rows x) (rowAt rows y) && not (inOrder rows model x y)
 
@@ -228,49 +233,50 @@ pub record Looking (rows : List Row) (model y x : ℕ) : Type 0 where
   pub low : x ≤ y
   pub least : leastFrom y 0 (races rows model y) ≡ leastFrom (y - x) x (races rows model y)
 
--- nothing passes
+-- Where no number passes, the smallest is the bound.
 least-none : (test : ℕ → Bool) (n s : ℕ) → ((k : ℕ) → test k ≡ false) → leastFrom n s test ≡ s + n
 unfolding leastFrom
 least-none test zero s e = sym (add-zero s)
 least-none test (suc n) s e = let q : suc s + n ≡ s + suc n = omega arith in rw (e s) (least-none test n (suc s) e ∙ q)
 
--- the first that passes, or the bound
+-- Where the smallest row that races is below y, the answer is that row, plus one.
 race-some : (rows : List Row) (model y : ℕ) {x : ℕ} → leastFrom y 0 (races rows model y) ≡ x → x < y → x + 1 ≡ raceAt rows model y
 unfolding raceAt
 race-some rows model y {x} e h =
     let one : x + 1 ≡ suc x = omega arith in
     one ∙ sym (ap (λ (l : ℕ). cond (ltb l y) (suc l) 0) e ∙ rw (lt-ltb x y h))
 
+-- Where no row below y races, the answer is 0.
 race-none : (rows : List Row) (model y : ℕ) → leastFrom y 0 (races rows model y) ≡ y → 0 ≡ raceAt rows model y
 unfolding raceAt
 race-none rows model y e = sym (ap (λ (l : ℕ). cond (ltb l y) (suc l) 0) e ∙ rw (le-ltb y y (omega arith)))
 
--- row y is no read and no write
-pub no-data : (rows : List Row) (model y : ℕ) → 1 < rowAt rows y .kind → 0 ≡ raceAt rows model y
+-- A row that is no data row races with none.
+pub no-data : (rows : List Row) (model y : ℕ) → WRITE < rowAt rows y .kind → 0 ≡ raceAt rows model y
 unfolding conflict
 no-data rows model y h = let z : 0 + y ≡ y = omega arith in race-none rows model y (least-none (races rows model y) y 0 none ∙ z)
   where
     none : (x : ℕ) → races rows model y x ≡ false
     none x =
         rw (
-          ne-eqb (rowAt rows y .kind) 0 (λ e. omega (arith, h)),
-          ne-eqb (rowAt rows y .kind) 1 (λ e. omega (arith, h)),
+          ne-eqb (rowAt rows y .kind) READ (λ e. omega (arith, h)),
+          ne-eqb (rowAt rows y .kind) WRITE (λ e. omega (arith, h)),
           and-false (isData (rowAt rows x)),
         )
 
--- no row is looked at
+-- Before the first row, none has been passed over.
 pub looking-start : (rows : List Row) (model y : ℕ) → Looking rows model y 0
 looking-start rows model y =
     let e : y ≡ y - 0 = omega arith in
     record { low = omega arith; least = ap (λ (k : ℕ). leastFrom k 0 (races rows model y)) e }
 
 module _ {rows : List Row} {model y x : ℕ} (k : Looking rows model y x) where
-  -- row x decides, or the rows behind it do
+  -- Row x decides, or the rows behind row x do.
   step : x < y → leastFrom y 0 (races rows model y) ≡ cond (races rows model y x) x (leastFrom (y - suc x) (suc x) (races rows model y))
   unfolding leastFrom
   step h = let e : y - x ≡ suc (y - suc x) = omega arith in k .least ∙ ap (λ (m : ℕ). leastFrom m x (races rows model y)) e
 
-  -- row x does not conflict with row y, or is in order
+  -- Row x does not conflict with row y, or is in order.
   module _ {b : Bool} (h : x < y) (e : b ≡ conflict (rowAt rows x) (rowAt rows y)) where
     pub looking-next : (b ≡ false) ⊎ (inOrder rows model x y ≡ true) → Looking rows model y (x + 1)
     looking-next w =
@@ -286,11 +292,11 @@ module _ {rows : List Row} {model y x : ℕ} (k : Looking rows model y x) where
         go (inl q) = rw (sym e ∙ q)
         go (inr q) = rw (q, and-false)
 
-    -- it is the first that races
+    -- Row x is the first that races.
     pub looking-found : b ≡ true → inOrder rows model x y ≡ false → x + 1 ≡ raceAt rows model y
     looking-found q t = race-some rows model y (step h ∙ rw (sym e ∙ q, t)) h
 
-  -- no row races
+  -- After all rows below y, no row races.
   pub looking-none : y ≤ x → 0 ≡ raceAt rows model y
   unfolding leastFrom
   looking-none h =

@@ -1,4 +1,4 @@
-// The verdict on a trace under a model: free, or its first race.
+// Finds the verdict on rows under a model: free, or the first race.
 ghost use mathlib.Core.Path.{_≡_};
 ghost use Prim.Native.Nat.{max, min, _+_, _*_, _-_, _<_, _≤_};
 ghost use lib.ListN.{length};
@@ -12,11 +12,11 @@ ghost use Rattle.happens_before.specs.Filling.{filledLeft};
 ghost use Rattle.races_meaning.specs.Races.{conflict, verdictOf};
 ghost use Rattle.races_meaning.specs.Search.{refreshAt};
 ghost use Rattle.races_meaning.specs.Scan.{noted, lastNoted, inOrder, raceAt};
-ghost use Rattle.races.specs.Answers.{judgeQuestions, foundOf, answerOf};
+ghost use Rattle.races.specs.Answers.{judgeQuestions, verdictFound, foundOf};
 ghost use Rattle.races.specs.Given.{Given};
 use happens_before::Filled;
 use rows::refusal;
-ghost use Rattle.rows.specs.Limits.{PROCESSES};
+ghost use Rattle.rows.specs.Limits.{PROCESSES, FIELDS};
 
 // One noted row for each process.
 const NOTES: usize = 64;
@@ -28,10 +28,10 @@ pub enum Found {
     Refused(u32),
 }
 
-// The verdict on the first n rows under a model; the call fills their counts on the way. A refusal changes nothing: 1 for a slice that is too
+// Answers the verdict on the first n rows under a model and fills their counts. A refusal changes nothing: 1 for a slice that is too
 // short, 2 for the model or a limit out of its range, 10 for a row whose process is not below the process limit.
 pub fn verdict(rows: &[u32], n: u32, process_limit: u32, model: u32, counts: &mut [u16]) -> Found
-    ensures answer { λ r. ⌜ r ≡ answerOf (firstNo (judgeQuestions n «process_limit» model (now (rows .entry)) (length (now (counts .entry))))) (now (rows .entry)) n model ⌝ }
+    ensures answer { λ r. ⌜ r ≡ foundOf (firstNo (judgeQuestions n «process_limit» model (now (rows .entry)) (length (now (counts .entry))))) (now (rows .entry)) n model ⌝ }
     ensures left { λ r. ⌜ now (counts .exit) ≡ filledLeft (firstNo (judgeQuestions n «process_limit» model (now (rows .entry)) (length (now (counts .entry))))) n «process_limit» (now (rows .entry)) (now (counts .entry)) ⌝ }
 {
     if rows::MODELS <= model {
@@ -46,10 +46,10 @@ pub fn verdict(rows: &[u32], n: u32, process_limit: u32, model: u32, counts: &mu
     }
 }
 
-// The first race of the rows, by their counts.
+// Answers the first race of the rows, by their counts.
 fn first_race(rows: &[u32], n: usize, processes: usize, model: u32, counts: &[u16]) -> Found
     requires { ⌜ Given n processes model (now rows) (now counts) ⌝ }
-    ensures { λ r. ⌜ r ≡ foundOf (verdictOf (rowsIn n (now (rows .entry))) model) ⌝ }
+    ensures { λ r. ⌜ r ≡ verdictFound (verdictOf (rowsIn n (now (rows .entry))) model) ⌝ }
 {
     let mut y = 0;
     while y < n {
@@ -62,9 +62,9 @@ fn first_race(rows: &[u32], n: usize, processes: usize, model: u32, counts: &[u1
     Found::Free
 }
 
-// Two data rows of one file and two processes that share a byte, one of them a write.
+// Rows x and y conflict: two data rows of one file and two processes that share a byte, one of them a write.
 fn is_conflict(rows: &[u32], x: usize, y: usize) -> bool
-    requires { ⌜ (x * 6 + 6 ≤ length (now rows)) × (y * 6 + 6 ≤ length (now rows)) ⌝ }
+    requires { ⌜ (x * FIELDS + FIELDS ≤ length (now rows)) × (y * FIELDS + FIELDS ≤ length (now rows)) ⌝ }
     ensures { λ r. ⌜ r ≡ conflict (rowIn (now (rows .entry)) x) (rowIn (now (rows .entry)) y) ⌝ }
 {
     let a = x * rows::FIELDS;
@@ -118,9 +118,9 @@ fn smaller(a: u64, b: u64) -> u64
     if a < b { a } else { b }
 }
 
-// The last row that refreshes for y, as its place and one; 0 where none does.
+// Answers the index of the last row that refreshes for y, plus one; 0 where none does.
 fn refresh_at(rows: &[u32], n: usize, model: u32, y: usize) -> usize
-    requires { ⌜ (y < n) × (n * 6 ≤ length (now rows)) ⌝ }
+    requires { ⌜ (y < n) × (n * FIELDS ≤ length (now rows)) ⌝ }
     ensures { λ r. ⌜ r ≡ refreshAt (rowsIn n (now (rows .entry))) model y ⌝ }
 {
     if models::is_refresh(model, rows::READ) {
@@ -147,7 +147,7 @@ fn refresh_at(rows: &[u32], n: usize, model: u32, y: usize) -> usize
     0
 }
 
-// A row of this kind, file and process refreshes the file for the process.
+// A row of this kind refreshes, and its file and process are the ones asked for.
 fn refreshes_file(
     model: u32,
     kind: u32,
@@ -177,7 +177,16 @@ fn counts_before(counts: &[u16], processes: usize, p: usize, i: usize, j: usize)
     counts[from] <= counts[to]
 }
 
-// The smallest row that races with y, as its place and one; 0 where none does.
+// A later row y of the first n rows under a model, and the index of the last row that refreshes for y, plus one; 0 where none does.
+struct Later {
+    n: usize,
+    processes: usize,
+    model: u32,
+    y: usize,
+    refresh: usize,
+}
+
+// Answers the smallest index of a row that races with y, plus one; 0 where none does.
 fn race_at(rows: &[u32], n: usize, processes: usize, model: u32, counts: &[u16], y: usize) -> usize
     requires { ⌜ Given n processes model (now rows) (now counts) ⌝ }
     requires { ⌜ y < n ⌝ }
@@ -188,10 +197,17 @@ fn race_at(rows: &[u32], n: usize, processes: usize, model: u32, counts: &[u16],
         return 0;
     }
     let refresh = refresh_at(rows, n, model, y);
+    let later = Later {
+        n: n,
+        processes: processes,
+        model: model,
+        y: y,
+        refresh: refresh,
+    };
     let mut last = [0usize; NOTES];
     let mut c = 0;
     while c < y {
-        if is_noted(rows, n, processes, model, counts, y, refresh, c) {
+        if is_noted(rows, counts, later, c) {
             let at = c * rows::FIELDS;
             let p = rows[at] as usize;
             last[p] = c + 1;
@@ -204,7 +220,7 @@ fn race_at(rows: &[u32], n: usize, processes: usize, model: u32, counts: &[u16],
             let at = x * rows::FIELDS;
             let p = rows[at] as usize;
             let noted = last[p];
-            if !is_in_order(rows, n, processes, model, counts, y, refresh, x, noted) {
+            if !is_in_order(rows, counts, later, x, noted) {
                 return x + 1;
             }
         }
@@ -213,62 +229,49 @@ fn race_at(rows: &[u32], n: usize, processes: usize, model: u32, counts: &[u16],
     0
 }
 
-// Row c publishes the file of row y and happens before the refresh.
-fn is_noted(
-    rows: &[u32],
-    n: usize,
-    processes: usize,
-    model: u32,
-    counts: &[u16],
-    y: usize,
-    refresh: usize,
-    c: usize,
-) -> bool
-    requires { ⌜ Given n processes model (now rows) (now counts) ⌝ }
-    requires { ⌜ (y < n) × (c < n) × (refresh ≤ n) ⌝ }
-    ensures { λ r. ⌜ (0 < refresh → r ≡ noted (rowsIn n (now (rows .entry))) model y (refresh - 1) c) ⌝ }
+// Row c publishes the later row's file and happens before the refresh.
+fn is_noted(rows: &[u32], counts: &[u16], later: Later, c: usize) -> bool
+    requires { ⌜ Given (later .n) (later .processes) (later .model) (now rows) (now counts) ⌝ }
+    requires { ⌜ (later .y < later .n) × (c < later .n) × (later .refresh ≤ later .n) ⌝ }
+    ensures { λ r. ⌜ (0 < later .refresh → r ≡ noted (rowsIn (later .n) (now (rows .entry))) (later .model) (later .y) (later .refresh - 1) c) ⌝ }
 {
-    if refresh == 0 {
+    if later.refresh == 0 {
         return false;
     }
     let at = c * rows::FIELDS;
-    let to = y * rows::FIELDS;
-    if !models::is_publish(model, rows[at + rows::KIND_AT]) {
+    let to = later.y * rows::FIELDS;
+    if !models::is_publish(later.model, rows[at + rows::KIND_AT]) {
         return false;
     }
     if rows[to + rows::FILE_AT] != rows[at + rows::FILE_AT] {
         return false;
     }
-    counts_before(counts, processes, rows[at] as usize, c, refresh - 1)
+    counts_before(
+        counts,
+        later.processes,
+        rows[at] as usize,
+        c,
+        later.refresh - 1,
+    )
 }
 
-// Row x before row y is properly synchronized; `last` is its process's last noted row.
-fn is_in_order(
-    rows: &[u32],
-    n: usize,
-    processes: usize,
-    model: u32,
-    counts: &[u16],
-    y: usize,
-    refresh: usize,
-    x: usize,
-    last: usize,
-) -> bool
-    requires { ⌜ Given n processes model (now rows) (now counts) ⌝ }
-    requires { ⌜ (y < n) × (x < n) × (refresh ≡ refreshAt (rowsIn n (now rows)) model y) × (refresh ≤ n) ⌝ }
-    requires { ⌜ (0 < refresh → last ≡ lastNoted (rowsIn n (now rows)) model y (refresh - 1) (rowAt (rowsIn n (now rows)) x .process) y) ⌝ }
-    ensures { λ r. ⌜ r ≡ inOrder (rowsIn n (now (rows .entry))) model x y ⌝ }
+// Row x before the later row is properly synchronized; `last` is the index of the last noted row of the process of x, plus one.
+fn is_in_order(rows: &[u32], counts: &[u16], later: Later, x: usize, last: usize) -> bool
+    requires { ⌜ Given (later .n) (later .processes) (later .model) (now rows) (now counts) ⌝ }
+    requires { ⌜ (later .y < later .n) × (x < later .n) × (later .refresh ≡ refreshAt (rowsIn (later .n) (now rows)) (later .model) (later .y)) × (later .refresh ≤ later .n) ⌝ }
+    requires { ⌜ (0 < later .refresh → last ≡ lastNoted (rowsIn (later .n) (now rows)) (later .model) (later .y) (later .refresh - 1) (rowAt (rowsIn (later .n) (now rows)) x .process) (later .y)) ⌝ }
+    ensures { λ r. ⌜ r ≡ inOrder (rowsIn (later .n) (now (rows .entry))) (later .model) x (later .y) ⌝ }
 {
     let at = x * rows::FIELDS;
     let p = rows[at] as usize;
     if rows[at + rows::KIND_AT] != rows::WRITE {
-        return counts_before(counts, processes, p, x, y);
+        return counts_before(counts, later.processes, p, x, later.y);
     }
-    if refresh == 0 {
+    if later.refresh == 0 {
         return false;
     }
-    if models::is_publish(model, rows::WRITE) {
-        return counts_before(counts, processes, p, x, refresh - 1);
+    if models::is_publish(later.model, rows::WRITE) {
+        return counts_before(counts, later.processes, p, x, later.refresh - 1);
     }
     x + 1 < last
 }

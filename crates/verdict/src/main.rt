@@ -6,12 +6,15 @@ const STDIN: i32 = 0;
 
 const STDOUT: i32 = 1;
 
+// Room for every report.
+const REPORT: usize = 256;
+
 fn main() {
-    let mut input = [0u8; 8193];
+    let mut input = [0u8; checker::INPUT];
     match streams::read_all(STDIN, &mut input) {
         Read::Failed => os::fail(b"verdict: standard input"),
         Read::Whole(n) => {
-            let mut lines = [0u8; 256];
+            let mut lines = [0u8; REPORT];
             let m = checker::report_input(&input, n, &mut lines);
             if !streams::write_all(STDOUT, &lines[..m]) {
                 os::fail(b"verdict: standard output");

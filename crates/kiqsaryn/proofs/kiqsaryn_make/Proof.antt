@@ -1,3 +1,4 @@
+-- `kiqsaryn::kiqsaryn_make` meets its contract.
 use borrow.Author.Needs.{needs}
 use Rattle.kiqsaryn.proofs.kiqsaryn_make.Statement.{statement}
 use Rattle.kiqsaryn.proofs.kiqsaryn_make.Tie as tie

@@ -1,3 +1,4 @@
+-- `kiqsaryn::kiqsaryn_make_plain` meets its contract.
 use borrow.Author.Needs.{needs}
 use Rattle.kiqsaryn.proofs.kiqsaryn_make_plain.Statement.{statement}
 use Rattle.kiqsaryn.proofs.kiqsaryn_make_plain.Tie as tie

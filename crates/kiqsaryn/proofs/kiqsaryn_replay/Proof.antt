@@ -1,3 +1,4 @@
+-- `kiqsaryn::kiqsaryn_replay` meets its contract.
 use borrow.Author.Needs.{needs}
 use Rattle.kiqsaryn.proofs.kiqsaryn_replay.Statement.{statement}
 use Rattle.kiqsaryn.proofs.kiqsaryn_replay.Tie as tie

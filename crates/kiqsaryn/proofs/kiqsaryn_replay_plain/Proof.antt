@@ -1,3 +1,4 @@
+-- `kiqsaryn::kiqsaryn_replay_plain` meets its contract.
 use borrow.Author.Needs.{needs}
 use Rattle.kiqsaryn.proofs.kiqsaryn_replay_plain.Statement.{statement}
 use Rattle.kiqsaryn.proofs.kiqsaryn_replay_plain.Tie as tie

@@ -1,3 +1,4 @@
+-- `kiqsaryn::kiqsaryn_step` meets its contract.
 use borrow.Author.Needs.{needs}
 use Rattle.kiqsaryn.proofs.kiqsaryn_step.Statement.{statement}
 use Rattle.kiqsaryn.proofs.kiqsaryn_step.Tie as tie
@@ -8,7 +9,7 @@ use Rattle.machine_layered.proofs.step.Reads as step-reads
 use denote.Ref.{now}
 use Rattle.machine_meaning.specs.States.{Header}
 use Rattle.machine_meaning.specs.Steps.{stepOf}
-use Rattle.kiqsaryn.specs.Packing.{rowed}
+use Rattle.kiqsaryn.specs.Packing.{rowFrom}
 use Rattle.kiqsaryn.proofs.Packs.{packs-step}
 
 fresh-requires : tie.Need-fresh-requires
@@ -42,7 +43,7 @@ same-length-2 : tie.Need-same-length-2
 same-length-2 c = search needs
 
 returns : tie.Need-returns
-returns c = packs-step (λ (h : Header). stepOf h (now (c .before .before .before .before .before .before .before .before .before .before .before .before .args .maps)) (rowed (c .before .before .before .before .before .before .before .before .before .before .before .before .args .process) (c .before .before .before .before .before .before .before .before .before .before .before .before .args .kind) (c .before .before .before .before .before .before .before .before .before .before .before .before .args .row-file) (c .before .before .before .before .before .before .before .before .before .before .before .before .args .offset) (c .before .before .before .before .before .before .before .before .before .before .before .before .args .size)) (c .before .before .before .before .before .before .before .before .before .before .before .before .args .number) (now (c .before .before .before .before .before .before .before .before .before .before .before .before .args .out))) (c .before .before .before .before .before .before .before .before .before .fresh .ensures) (c .before .before .before .before .before .before .step .ensures) (c .enum-told .given .1)
+returns c = packs-step (λ (h : Header). stepOf h (now (c .before .before .before .before .before .before .before .before .before .before .before .before .args .maps)) (rowFrom (c .before .before .before .before .before .before .before .before .before .before .before .before .args .process) (c .before .before .before .before .before .before .before .before .before .before .before .before .args .kind) (c .before .before .before .before .before .before .before .before .before .before .before .before .args .row-file) (c .before .before .before .before .before .before .before .before .before .before .before .before .args .offset) (c .before .before .before .before .before .before .before .before .before .before .before .before .args .size)) (c .before .before .before .before .before .before .before .before .before .before .before .before .args .number) (now (c .before .before .before .before .before .before .before .before .before .before .before .before .args .out))) (c .before .before .before .before .before .before .before .before .before .fresh .ensures) (c .before .before .before .before .before .before .step .ensures) (c .enum-told .given .1)
 
 same-length-3 : tie.Need-same-length-3
 same-length-3 c = search needs
@@ -51,7 +52,7 @@ same-length-4 : tie.Need-same-length-4
 same-length-4 c = search needs
 
 returns-2 : tie.Need-returns-2
-returns-2 c = packs-step (λ (h : Header). stepOf h (now (c .before .before .before .before .before .before .before .before .before .before .before .before .before .args .maps)) (rowed (c .before .before .before .before .before .before .before .before .before .before .before .before .before .args .process) (c .before .before .before .before .before .before .before .before .before .before .before .before .before .args .kind) (c .before .before .before .before .before .before .before .before .before .before .before .before .before .args .row-file) (c .before .before .before .before .before .before .before .before .before .before .before .before .before .args .offset) (c .before .before .before .before .before .before .before .before .before .before .before .before .before .args .size)) (c .before .before .before .before .before .before .before .before .before .before .before .before .before .args .number) (now (c .before .before .before .before .before .before .before .before .before .before .before .before .before .args .out))) (c .before .before .before .before .before .before .before .before .before .before .fresh .ensures) (c .before .before .before .before .before .before .before .step .ensures) (c .before .count .given .1)
+returns-2 c = packs-step (λ (h : Header). stepOf h (now (c .before .before .before .before .before .before .before .before .before .before .before .before .before .args .maps)) (rowFrom (c .before .before .before .before .before .before .before .before .before .before .before .before .before .args .process) (c .before .before .before .before .before .before .before .before .before .before .before .before .before .args .kind) (c .before .before .before .before .before .before .before .before .before .before .before .before .before .args .row-file) (c .before .before .before .before .before .before .before .before .before .before .before .before .before .args .offset) (c .before .before .before .before .before .before .before .before .before .before .before .before .before .args .size)) (c .before .before .before .before .before .before .before .before .before .before .before .before .before .args .number) (now (c .before .before .before .before .before .before .before .before .before .before .before .before .before .args .out))) (c .before .before .before .before .before .before .before .before .before .before .fresh .ensures) (c .before .before .before .before .before .before .before .step .ensures) (c .before .count .given .1)
 
 same-length-5 : tie.Need-same-length-5
 same-length-5 c = search needs
@@ -60,7 +61,7 @@ same-length-6 : tie.Need-same-length-6
 same-length-6 c = search needs
 
 returns-3 : tie.Need-returns-3
-returns-3 c = packs-step (λ (h : Header). stepOf h (now (c .before .before .before .before .before .before .before .before .before .before .before .before .before .args .maps)) (rowed (c .before .before .before .before .before .before .before .before .before .before .before .before .before .args .process) (c .before .before .before .before .before .before .before .before .before .before .before .before .before .args .kind) (c .before .before .before .before .before .before .before .before .before .before .before .before .before .args .row-file) (c .before .before .before .before .before .before .before .before .before .before .before .before .before .args .offset) (c .before .before .before .before .before .before .before .before .before .before .before .before .before .args .size)) (c .before .before .before .before .before .before .before .before .before .before .before .before .before .args .number) (now (c .before .before .before .before .before .before .before .before .before .before .before .before .before .args .out))) (c .before .before .before .before .before .before .before .before .before .before .fresh .ensures) (c .before .before .before .before .before .before .before .step .ensures) (c .before .k .given .1)
+returns-3 c = packs-step (λ (h : Header). stepOf h (now (c .before .before .before .before .before .before .before .before .before .before .before .before .before .args .maps)) (rowFrom (c .before .before .before .before .before .before .before .before .before .before .before .before .before .args .process) (c .before .before .before .before .before .before .before .before .before .before .before .before .before .args .kind) (c .before .before .before .before .before .before .before .before .before .before .before .before .before .args .row-file) (c .before .before .before .before .before .before .before .before .before .before .before .before .before .args .offset) (c .before .before .before .before .before .before .before .before .before .before .before .before .before .args .size)) (c .before .before .before .before .before .before .before .before .before .before .before .before .before .args .number) (now (c .before .before .before .before .before .before .before .before .before .before .before .before .before .args .out))) (c .before .before .before .before .before .before .before .before .before .before .fresh .ensures) (c .before .before .before .before .before .before .before .step .ensures) (c .before .k .given .1)
 
 pub kiqsaryn-step-spec : {M : Type 1} → statement M
 kiqsaryn-step-spec =

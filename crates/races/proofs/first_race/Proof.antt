@@ -10,6 +10,7 @@ use Rattle.races.proofs.Whole.{answer-free, answer-race, race-bound, be
 use Rattle.races.proofs.first_race.Statement.{statement}
 use Rattle.races.proofs.first_race.Tie as tie
 
+-- No row below y is the later row of a race.
 abbrev Inv-loop : tie.InvT-loop
 Inv-loop rows n processes model counts y₀ y = (y ≤ n) × ((k : ℕ) → k < y → raceAt (rowsIn n rows) model k ≡ 0)
 

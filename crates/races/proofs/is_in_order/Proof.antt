@@ -42,14 +42,14 @@ returns : tie.Need-returns
 returns c =
     let a = c .before .before .before .before .before .before .args in
     let given = c .before .before .before .before .before .before .pre in
-    order-read (given .0) (a .y) (given .1 .0 .1) (c .before .if1 .taken)
+    order-read (given .0) (a .later .y) (given .1 .0 .1) (c .before .if1 .taken)
     (compared (given .0) (given .1 .0 .1) (given .1 .0 .1) (given .1 .0 .0) (c .counts-before .ensures))
 
 returns-2 : tie.Need-returns-2
 returns-2 c =
-    let a = c .before .before .before .before .before .before .args in
-    let given = c .before .before .before .before .before .before .pre in
-    order-none (given .0) (a .y) (given .1 .0 .1) (c .before .if1 .left) (given .1 .0 .2) (c .if2 .taken)
+    let a = c .before .before .before .before .before .before .before .args in
+    let given = c .before .before .before .before .before .before .before .pre in
+    order-none (given .0) (a .later .y) (given .1 .0 .1) (c .before .before .if1 .left) (given .1 .0 .2) (c .if2 .taken)
 
 is-publish-requires : tie.Need-is-publish-requires
 is-publish-requires c κs = search needs
@@ -59,19 +59,19 @@ sub-counts-before c = search needs
 
 counts-before-requires-2 : tie.Need-counts-before-requires-2
 counts-before-requires-2 c κs =
-    let a = c .before .before .before .before .before .before .before .before .args in
-    let given = c .before .before .before .before .before .before .before .before .pre in
-    let o : a .refresh - 1 < a .n = omega (arith, c .before .before .if2 .left, given .1 .0 .3) in
+    let a = c .before .before .before .before .before .before .before .before .before .before .args in
+    let given = c .before .before .before .before .before .before .before .before .before .before .pre in
+    let o : a .later .refresh - 1 < a .later .n = omega (arith, c .before .before .before .if2 .left, given .1 .0 .3) in
     asked (given .0) (given .1 .0 .1) (given .1 .0 .1) o
 
 returns-3 : tie.Need-returns-3
 returns-3 c =
-    let a = c .before .before .before .before .before .before .before .before .before .args in
-    let given = c .before .before .before .before .before .before .before .before .before .pre in
-    let l : 0 < a .refresh = omega (arith, c .before .before .before .if2 .left) in
-    let o : a .refresh - 1 < a .n = omega (arith, l, given .1 .0 .3) in
-    order-own (given .0) (a .y) (given .1 .0 .1) (c .before .before .before .before .if1 .left) (given .1 .0 .2) l
-    (c .before .before .is-publish .ensures) (c .before .if3 .taken)
+    let a = c .before .before .before .before .before .before .before .before .before .before .before .args in
+    let given = c .before .before .before .before .before .before .before .before .before .before .before .pre in
+    let l : 0 < a .later .refresh = omega (arith, c .before .before .before .before .if2 .left) in
+    let o : a .later .refresh - 1 < a .later .n = omega (arith, l, given .1 .0 .3) in
+    order-own (given .0) (a .later .y) (given .1 .0 .1) (c .before .before .before .before .before .before .if1 .left) (given .1 .0 .2) l
+    (c .before .before .before .is-publish .ensures) (c .before .before .if3 .taken)
     (compared (given .0) (given .1 .0 .1) (given .1 .0 .1) o (c .counts-before2 .ensures))
 
 add-result : tie.Need-add-result
@@ -79,10 +79,10 @@ add-result c = search needs
 
 returns-4 : tie.Need-returns-4
 returns-4 c =
-    let a = c .before .before .before .before .before .before .before .before .args in
-    let given = c .before .before .before .before .before .before .before .before .pre in
-    let l : 0 < a .refresh = omega (arith, c .before .before .if2 .left) in
-    order-noted (given .0) (a .y) (given .1 .0 .1) (c .before .before .before .if1 .left) (given .1 .0 .2) l
+    let a = c .before .before .before .before .before .before .before .before .before .args in
+    let given = c .before .before .before .before .before .before .before .before .before .pre in
+    let l : 0 < a .later .refresh = omega (arith, c .before .before .if2 .left) in
+    order-noted (given .0) (a .later .y) (given .1 .0 .1) (c .before .before .before .before .if1 .left) (given .1 .0 .2) l
     (c .before .is-publish .ensures) (c .if3 .left) (given .1 .1 l)
 
 pub is-in-order-spec : {M : Type 1} → statement M

@@ -34,9 +34,9 @@ is-publish-requires c κs = search needs
 
 returns-2 : tie.Need-returns-2
 returns-2 c =
-    let a = c .before .before .before .before .before .before .args in
-    let given = c .before .before .before .before .before .before .pre in
-    λ h. no-publish (given .0) (a .refresh - 1) (given .1 .0) (given .1 .1) (c .before .is-publish .ensures)
+    let a = c .before .before .before .before .before .before .before .before .args in
+    let given = c .before .before .before .before .before .before .before .before .pre in
+    λ h. no-publish (given .0) (a .later .refresh - 1) (given .1 .0) (given .1 .1) (c .before .is-publish .ensures)
     (not-true (c .before .is-publish .result) (c .if2 .taken))
 
 add-if3 : tie.Need-add-if3
@@ -59,10 +59,10 @@ shared-slice-read-if3-2 c = search needs
 
 returns-3 : tie.Need-returns-3
 returns-3 c =
-    let a = c .before .before .before .before .before .before .before .before .before .args in
-    let given = c .before .before .before .before .before .before .before .before .before .pre in
+    let a = c .before .before .before .before .before .before .before .before .before .before .before .args in
+    let given = c .before .before .before .before .before .before .before .before .before .before .before .pre in
     let called = c .before .before .before .before .is-publish in
-    λ h. other-file (given .0) (a .refresh - 1) (given .1 .0) (given .1 .1) (called .ensures)
+    λ h. other-file (given .0) (a .later .refresh - 1) (given .1 .0) (given .1 .1) (called .ensures)
     (not-false (called .result) (c .before .before .before .if2 .left)) (c .if3 .taken)
 
 mul-counts-before : tie.Need-mul-counts-before
@@ -73,7 +73,7 @@ shared-slice-read-counts-before c = search needs
 
 cast-counts-before : tie.Need-cast-counts-before
 cast-counts-before c =
-    let given = c .before .before .before .before .before .before .before .before .before .before .pre in
+    let given = c .before .before .before .before .before .before .before .before .before .before .before .before .pre in
     omega (arith, process-low (given .0) (given .1 .1), given .0 .few-processes)
 
 sub-counts-before : tie.Need-sub-counts-before
@@ -81,20 +81,20 @@ sub-counts-before c = search needs
 
 counts-before-requires : tie.Need-counts-before-requires
 counts-before-requires c κs =
-    let a = c .before .before .before .before .before .before .before .before .before .before .args in
-    let given = c .before .before .before .before .before .before .before .before .before .before .pre in
-    let o : a .refresh - 1 < a .n = omega (arith, c .before .before .before .before .before .before .before .if1 .left, given .1 .2) in
+    let a = c .before .before .before .before .before .before .before .before .before .before .before .before .before .args in
+    let given = c .before .before .before .before .before .before .before .before .before .before .before .before .before .pre in
+    let o : a .later .refresh - 1 < a .later .n = omega (arith, c .before .before .before .before .before .before .before .before .before .if1 .left, given .1 .2) in
     asked (given .0) (given .1 .1) (given .1 .1) o
 
 returns-4 : tie.Need-returns-4
 returns-4 c =
-    let a = c .before .before .before .before .before .before .before .before .before .before .before .args in
-    let given = c .before .before .before .before .before .before .before .before .before .before .before .pre in
-    let called = c .before .before .before .before .before .before .is-publish in
+    let a = c .before .before .before .before .before .before .before .before .before .before .before .before .before .before .args in
+    let given = c .before .before .before .before .before .before .before .before .before .before .before .before .before .before .pre in
+    let called = c .before .before .before .before .before .before .before .is-publish in
     λ h.
-    let o : a .refresh - 1 < a .n = omega (arith, h, given .1 .2) in
-    by-counts (given .0) (a .refresh - 1) (given .1 .0) (given .1 .1) (called .ensures)
-    (not-false (called .result) (c .before .before .before .before .before .if2 .left)) (c .before .before .if3 .left)
+    let o : a .later .refresh - 1 < a .later .n = omega (arith, h, given .1 .2) in
+    by-counts (given .0) (a .later .refresh - 1) (given .1 .0) (given .1 .1) (called .ensures)
+    (not-false (called .result) (c .before .before .before .before .before .before .if2 .left)) (c .before .before .before .if3 .left)
     (compared (given .0) (given .1 .1) (given .1 .1) o (c .counts-before .ensures))
 
 pub is-noted-spec : {M : Type 1} → statement M

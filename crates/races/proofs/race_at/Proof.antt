@@ -7,6 +7,7 @@ use Prim.Native.Nat.{_-_, _*_, _<_}
 use lib.ListN.{getD}
 use mathlib.Core.Logic.{⊎-elim, inl, inr}
 use mathlib.Core.Path.{sym, _∙_}
+use Rattle.rows.specs.Limits.{PROCESSES}
 use Rattle.rows.specs.Rows.{rowsIn}
 use Rattle.races.proofs.Passes.{process-at, kind-at, process-low, conflict-in, Noting, noting-start, refresh-in, noting-next, noting-done, no-data, Looking, looking-start, looking-next, looking-found, looking-none}
 use Rattle.races.proofs.race_at.Statement.{statement}
@@ -18,17 +19,19 @@ use Rattle.races.proofs.is_in_order.Reads as is-in-order-reads
 use Rattle.races.proofs.is_noted.Reads as is-noted-reads
 use Rattle.races.proofs.refresh_at.Reads as refresh-at-reads
 
+-- Of the rows below c, `last` holds each process's last noted row.
 abbrev Inv-loop : tie.InvT-loop
-Inv-loop rows n processes model counts y to refresh last₀ c₀ last c = Noting (rowsIn n rows) model y refresh last c
+Inv-loop rows n processes model counts y to refresh later last₀ c₀ last c = Noting (rowsIn n rows) model y refresh last c
 
 abbrev μ-loop : tie.MeasureT-loop
-μ-loop rows n processes model counts y to refresh last₀ c₀ last c = y - c
+μ-loop rows n processes model counts y to refresh later last₀ c₀ last c = y - c
 
+-- No row below x races with row y.
 abbrev Inv-loop2 : tie.InvT-loop2
-Inv-loop2 rows n processes model counts y to refresh last c x₀ x = Looking (rowsIn n rows) model y x
+Inv-loop2 rows n processes model counts y to refresh later last c x₀ x = Looking (rowsIn n rows) model y x
 
 abbrev μ-loop2 : tie.MeasureT-loop2
-μ-loop2 rows n processes model counts y to refresh last c x₀ x = y - x
+μ-loop2 rows n processes model counts y to refresh later last c x₀ x = y - x
 
 mul-to : tie.Need-mul-to Inv-loop μ-loop Inv-loop2 μ-loop2
 mul-to c = search needs
@@ -114,7 +117,7 @@ loop-again c =
     let given = c .before .before .before .before .before .before .before .before .before .pre in
     let noting = c .before .before .before .loop in
     let h : noting .c < a .n = omega (arith, c .before .before .loop-test .taken, given .1) in
-    let l : getD (now (a .rows)) (noting .c * 6) 0 < 64 = omega (arith, process-low (given .0) h, given .0 .few-processes) in
+    let l : getD (now (a .rows)) (noting .c * 6) 0 < PROCESSES = omega (arith, process-low (given .0) h, given .0 .few-processes) in
     noting-next (noting .inv) (c .before .before .loop-test .taken) l (process-at (given .0) h) (c .before .is-noted .ensures)
     (⊎-elim (λ w. inl (w .0 .taken, w .2)) (λ w. inr (w .0 .left, w .1)) (c .if2 .came))
 
@@ -168,7 +171,7 @@ is-in-order-requires c κs =
     let noting = c .before .before .before .before .before .before .loop in
     let looking = c .before .before .before .before .loop2 in
     let h : looking .x < a .n = omega (arith, c .before .before .before .loop2-test .taken, given .1) in
-    let l : getD (now (a .rows)) (looking .x * 6) 0 < 64 = omega (arith, process-low (given .0) h, given .0 .few-processes) in (
+    let l : getD (now (a .rows)) (looking .x * 6) 0 < PROCESSES = omega (arith, process-low (given .0) h, given .0 .few-processes) in (
       given .0,
       (
         (given .1, h, noting .inv .refreshed, refresh-in (noting .inv) (given .1)),

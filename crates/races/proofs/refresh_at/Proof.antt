@@ -10,6 +10,7 @@ use denote.Ref.{now}
 use Rattle.races.proofs.refresh_at.Statement.{statement}
 use Rattle.races.proofs.refresh_at.Tie as tie
 
+-- No row from index i up to row y refreshes for row y, so the rows below i decide.
 abbrev Inv-loop : tie.InvT-loop
 Inv-loop rows n model y to process file i₀ i =
     let test = refreshing rows n model y in

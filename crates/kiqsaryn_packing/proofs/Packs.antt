@@ -1,0 +1,121 @@
+-- Laws of packing: what the code packs is the definition's number, and every answer is read back from its number.
+use Prim.Native.Nat.{ℕ, _+_, _*_, _/_, _%_, _<_}
+use native.Mathlib.Omega.{arith}
+use mathlib.Core.Path.{_≡_, refl, sym, ap, subst, _∙_}
+use mathlib.Core.Bool.{Bool, true, false, cond}
+use mathlib.Core.List.{List}
+use lib.ListN.{length}
+use lib.Dec.{eqb}
+use borrow.Author.Tests.{ne-eqb, eqb-true}
+use Rattle.rows.specs.Questions.{firstNo}
+use Rattle.rows.specs.Rows.{rowsIn}
+use Rattle.rows.specs.declared.Row.{Row}
+use Rattle.rows.proofs.Slices.{length-rows}
+use Rattle.races_meaning.specs.Races.{Verdict, free, racing, verdictOf}
+use Rattle.races_meaning.proofs.Verdicts.{race-out, racing-iff}
+use Rattle.races.specs.declared.Found.{Found}
+use Rattle.races.specs.declared.Found.the-variants as found
+use Rattle.races.specs.Answers.{judgeQuestions, verdictFound, foundOf}
+use Rattle.races.proofs.Whole.{few-judged}
+use Rattle.trace.specs.Questions.{checkTrace}
+use Rattle.checker.specs.declared.Judged.{Judged}
+use Rattle.checker.specs.declared.Judged.the-variants as judged
+use Rattle.checker.specs.Judging.{judgedOf}
+use Rattle.checker.proofs.Sizes.{Small, judged-small}
+use Rattle.kiqsaryn_packing.specs.Packing.{UPPER, WORD, WORD-3, WORD-4, packedJudged, FitsWords, unpackedJudged, packedFound, unpackedFound}
+
+-- ---- The whole call
+
+-- A small answer has 16 bits in every number.
+pub small-fits : (j : Judged) → Small j → FitsWords j
+small-fits (judged.Free n) s = omega arith
+small-fits (judged.Race n earlier later) s = (omega arith, omega arith, omega arith)
+small-fits (judged.Refused number place) s = (omega arith, omega arith)
+
+-- The code's number for a free trace is the definition's.
+pub packs-free : {j : Judged} {n a : ℕ} → j ≡ judged.Free n → a ≡ n % WORD → FitsWords j → a ≡ packedJudged j
+packs-free {j} {n} {a} q d f =
+    let g : n < WORD = subst FitsWords q f in
+    let s : a ≡ n = omega arith in
+    s ∙ sym (ap packedJudged q)
+
+-- The code's number for a race is the definition's.
+pub packs-race : {j : Judged} {n earlier later a b c : ℕ} → j ≡ judged.Race n earlier later → a ≡ n % WORD → b ≡ later % WORD →
+    c ≡ earlier % WORD → FitsWords j → a + b * WORD + c * WORD-3 ≡ packedJudged j
+packs-race {j} {n} {earlier} {later} {a} {b} {c} q d e h f =
+    let g : (n < WORD) × (earlier < WORD) × (later < WORD) = subst FitsWords q f in
+    let s : a + b * WORD + c * WORD-3 ≡ n + later * WORD + earlier * WORD-3 = omega arith in
+    s ∙ sym (ap packedJudged q)
+
+-- The code's number for a refusal of the whole call is the definition's.
+pub packs-refused : {j : Judged} {number place a b : ℕ} → j ≡ judged.Refused number place → a ≡ number % WORD → b ≡ place % WORD →
+    FitsWords j → a * WORD-4 + b ≡ packedJudged j
+packs-refused {j} {number} {place} {a} {b} q d e f =
+    let g : (number < WORD) × (place < WORD) = subst FitsWords q f in
+    let s : a * WORD-4 + b ≡ number * WORD-4 + place = omega arith in
+    s ∙ sym (ap packedJudged q)
+
+-- Four words of 16 bits in one number are read back.
+words : (low later earlier number answer : ℕ) → answer ≡ low + later * WORD + earlier * WORD-3 + number * WORD-4 → low < WORD → later < WORD →
+    earlier < WORD →
+    unpackedJudged answer
+    ≡ cond (eqb number 0) (cond (eqb later 0) (judged.Free low) (judged.Race low earlier later)) (judged.Refused number low)
+words low later earlier number answer e h i j =
+    let a : answer / WORD-4 ≡ number = omega arith in
+    let b : answer / WORD-3 % WORD ≡ earlier = omega arith in
+    let c : answer / WORD % WORD ≡ later = omega arith in
+    let d : answer % WORD ≡ low = omega arith in
+    λ k. cond (eqb (a k) 0) (cond (eqb (c k) 0) (judged.Free (d k)) (judged.Race (d k) (b k) (c k))) (judged.Refused (a k) (d k))
+
+-- A small answer is read back from its number.
+read-back : (j : Judged) → Small j → unpackedJudged (packedJudged j) ≡ j
+read-back (judged.Free n) s = words n 0 0 0 n (omega arith) (omega arith) (omega arith) (omega arith)
+read-back (judged.Race n earlier later) s =
+    words n later earlier 0 (n + later * WORD + earlier * WORD-3) (omega arith) (omega arith) (omega arith) (omega arith)
+    ∙ rw (ne-eqb later 0 (λ z. omega arith))
+read-back (judged.Refused number place) s =
+    words place 0 0 number (number * WORD-4 + place) (omega arith) (omega arith) (omega arith) (omega arith)
+    ∙ rw (ne-eqb number 0 (λ z. omega arith))
+
+-- Every answer of the whole call is read back from its number.
+pub judged-back : (text : List ℕ) (header model R P limit a b : ℕ) →
+    unpackedJudged (packedJudged (judgedOf model (checkTrace text header model R P limit a b))) ≡ judgedOf model (checkTrace text header model R P limit a b)
+judged-back text header model R P limit a b = read-back _ (judged-small text header model R P limit a b)
+
+-- ---- Verdicts
+
+-- Two halves of 32 bits in one number are read back.
+halves : (high low answer : ℕ) → answer ≡ high * UPPER + low → low < UPPER →
+    unpackedFound answer ≡ cond (eqb low 0) (cond (eqb high 0) found.Free (found.Refused high)) (found.Race high low)
+halves high low answer e h =
+    let a : answer / UPPER ≡ high = omega arith in
+    let b : answer % UPPER ≡ low = omega arith in
+    λ k. cond (eqb (b k) 0) (cond (eqb (a k) 0) found.Free (found.Refused (a k))) (found.Race (a k) (b k))
+
+-- A verdict on fewer than 2^32 rows is read back from its number.
+verdict-back : (rows : List Row) (model : ℕ) → length rows < UPPER →
+    unpackedFound (packedFound (verdictFound (verdictOf rows model))) ≡ verdictFound (verdictOf rows model)
+verdict-back rows model h = go (verdictOf rows model) refl
+  where
+    go : (v : Verdict) → verdictOf rows model ≡ v → unpackedFound (packedFound (verdictFound v)) ≡ verdictFound v
+    go free e = refl
+    go (racing earlier later) e =
+        let (x, y, p, q, f) = racing-iff rows model earlier later .0 e in
+        let o = race-out rows model x y (f .is-race) in
+        halves earlier later (earlier * UPPER + later) refl (omega arith) ∙ rw (ne-eqb later 0 (λ z. omega arith))
+
+-- Every answer of a verdict is read back from its number.
+pub found-back : (n P model : ℕ) (xs : List ℕ) (L : ℕ) →
+    unpackedFound (packedFound (foundOf (firstNo (judgeQuestions n P model xs L)) xs n model))
+    ≡ foundOf (firstNo (judgeQuestions n P model xs L)) xs n model
+found-back n P model xs L = go (eqb first 0) refl
+  where
+    first : ℕ
+    first = firstNo (judgeQuestions n P model xs L)
+
+    answer : Bool → Found
+    answer b = cond b (verdictFound (verdictOf (rowsIn n xs) model)) (found.Refused first)
+
+    go : (b : Bool) → eqb first 0 ≡ b → unpackedFound (packedFound (answer b)) ≡ answer b
+    go true e = verdict-back (rowsIn n xs) model (omega (arith, length-rows n xs, few-judged n P model xs L (eqb-true first 0 e)))
+    go false e = halves first 0 (first * UPPER) (omega arith) (omega arith) ∙ rw e

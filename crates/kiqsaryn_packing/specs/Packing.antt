@@ -1,0 +1,67 @@
+-- How the answers of a check, of a whole call and of a verdict are packed into one number each, and read back.
+use Prim.Native.Nat.{ℕ, _+_, _*_, _/_, _%_, _<_}
+use mathlib.Core.Bool.{cond}
+use lib.Dec.{eqb}
+use Rattle.races.specs.declared.Found.{Found}
+use Rattle.races.specs.declared.Found.the-variants as found
+use Rattle.trace.specs.declared.Checked.{Checked}
+use Rattle.trace.specs.declared.Checked.the-variants as checked
+use Rattle.checker.specs.declared.Judged.{Judged}
+use Rattle.checker.specs.declared.Judged.the-variants as judged
+
+-- The factor of the upper half of a number, which has 32 bits.
+abbrev pub UPPER : ℕ
+UPPER = 4294967296
+
+-- The factor of the second word of a number, which has 16 bits.
+abbrev pub WORD : ℕ
+WORD = 65536
+
+-- The factor of the third word.
+abbrev pub WORD-3 : ℕ
+WORD-3 = 4294967296
+
+-- The factor of the fourth word.
+abbrev pub WORD-4 : ℕ
+WORD-4 = 281474976710656
+
+-- A check's answer: the row count, or the refusal's number in the upper half and its place in the lower.
+abbrev pub packed : Checked → ℕ
+packed (checked.Accepted n) = n
+packed (checked.Refused number place) = number * UPPER + place
+
+-- The whole call's answer, in four words of 16 bits. Of an accepted trace, from the lowest: the row count, the later and the earlier row of the
+-- first race, both 0 for free, and 0. Of a refusal: its place in the lowest, its number in the highest, and 0 between.
+abbrev pub packedJudged : Judged → ℕ
+packedJudged (judged.Free n) = n
+packedJudged (judged.Race n earlier later) = n + later * WORD + earlier * WORD-3
+packedJudged (judged.Refused number place) = number * WORD-4 + place
+
+-- Every number of the whole call's answer has 16 bits.
+abbrev pub FitsWords : Judged → Type 0
+FitsWords (judged.Free n) = n < WORD
+FitsWords (judged.Race n earlier later) = (n < WORD) × (earlier < WORD) × (later < WORD)
+FitsWords (judged.Refused number place) = (number < WORD) × (place < WORD)
+
+-- The whole call's answer that such a number tells. The later row of a race is not 0.
+abbrev pub unpackedJudged : ℕ → Judged
+unpackedJudged answer =
+    let number = answer / WORD-4 in
+    let earlier = answer / WORD-3 % WORD in
+    let later = answer / WORD % WORD in
+    let low = answer % WORD in
+    cond (eqb number 0) (cond (eqb later 0) (judged.Free low) (judged.Race low earlier later)) (judged.Refused number low)
+
+-- A verdict: 0 for free, the earlier row's number in the upper half and the later row's in the lower for a race, and of a refusal its number in
+-- the upper half.
+abbrev pub packedFound : Found → ℕ
+packedFound found.Free = 0
+packedFound (found.Race earlier later) = earlier * UPPER + later
+packedFound (found.Refused number) = number * UPPER
+
+-- The verdict that such a number tells. The later row of a race is not 0.
+abbrev pub unpackedFound : ℕ → Found
+unpackedFound answer =
+    let high = answer / UPPER in
+    let low = answer % UPPER in
+    cond (eqb low 0) (cond (eqb high 0) found.Free (found.Refused high)) (found.Race high low)

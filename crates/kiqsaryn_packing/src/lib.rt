@@ -1,0 +1,58 @@
+// Packs the answers of a check, of a whole call and of a verdict into one number each, for C.
+ghost use mathlib.Core.Path.{_≡_};
+ghost use Prim.Native.Nat.{_%_};
+ghost use Rattle.kiqsaryn_packing.specs.Packing.{WORD, packed, FitsWords, packedJudged, packedFound};
+use checker::Judged;
+use races::Found;
+use trace::Checked;
+
+// The factor of the upper half of a number, which has 32 bits.
+pub const UPPER: u64 = 4294967296;
+
+// The factors of the second, third and fourth word of a number, which have 16 bits each.
+const WORD: u64 = 65536;
+
+const WORD_3: u64 = 4294967296;
+
+const WORD_4: u64 = 281474976710656;
+
+// Packs what a check answers: the row count of an accepted trace, and of a refusal its number in the upper half and its place in the lower.
+pub fn pack_checked(answer: Checked) -> u64
+    ensures { λ r. ⌜ r ≡ packed answer ⌝ }
+{
+    match answer {
+        Checked::Accepted(n) => n as u64,
+        Checked::Refused(number, place) => number as u64 * UPPER + place as u64,
+    }
+}
+
+// The lowest 16 bits of a number.
+fn word(n: u32) -> u64
+    ensures { λ r. ⌜ r ≡ n % WORD ⌝ }
+{
+    n as u64 % WORD
+}
+
+// Packs what the whole call answers into four words of 16 bits. Of an accepted trace, from the lowest: the row count, the later and the earlier
+// row of the first race, both 0 for free, and 0. Of a refusal: its place in the lowest, its number in the highest, and 0 between.
+pub fn pack_judged(answer: Judged) -> u64
+    ensures { λ r. ⌜ (FitsWords answer → r ≡ packedJudged answer) ⌝ }
+{
+    match answer {
+        Judged::Free(n) => word(n),
+        Judged::Race(n, earlier, later) => { word(n) + word(later) * WORD + word(earlier) * WORD_3 }
+        Judged::Refused(number, place) => word(number) * WORD_4 + word(place),
+    }
+}
+
+// Packs a verdict: 0 for free, the earlier row's number in the upper half and the later row's in the lower for a race, and of a refusal its
+// number in the upper half.
+pub fn pack_found(answer: Found) -> u64
+    ensures { λ r. ⌜ r ≡ packedFound answer ⌝ }
+{
+    match answer {
+        Found::Free => 0,
+        Found::Race(earlier, later) => earlier as u64 * UPPER + later as u64,
+        Found::Refused(number) => number as u64 * UPPER,
+    }
+}
