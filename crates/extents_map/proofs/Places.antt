@@ -9,7 +9,7 @@ use lib.ListN.{length, getD, take, drop}
 use lib.Seq.{split-at, length-take-le, getD-drop}
 use Rattle.rows.specs.Limits.{ROWS, OFFSET-MAX}
 use Rattle.extents_meaning.specs.Cells.{numberIn}
-use Rattle.extents_meaning.specs.Runs.{Run, runOf, Numbered}
+use Rattle.extents_meaning.specs.Runs.{Run, runOf, NumbersLegal}
 use Rattle.extents_meaning.specs.Maps.{spaceIn, runs, lawful}
 use Rattle.extents_meaning.proofs.Trips.{map-none, lawful-map, rest-at, run-at}
 use Rattle.rows.proofs.Zeros.{zeros}
@@ -17,7 +17,7 @@ use Rattle.extents_map.specs.Beside.{endOf, runNo}
 use Rattle.extents_map.proofs.Parted.{next-at}
 
 -- every run has a row number
-number-at : (rs : List Run) → Numbered rs → (i : ℕ) → i < length rs → numberIn (runNo rs i .cell) ≤ ROWS
+number-at : (rs : List Run) → NumbersLegal rs → (i : ℕ) → i < length rs → numberIn (runNo rs i .cell) ≤ ROWS
 number-at [] n i h = absurd (omega arith)
 number-at (r ∷ rs) n zero h = n .1
 number-at (r ∷ rs) n (suc i) h = number-at rs (n .2) i (omega arith)

@@ -15,7 +15,7 @@ use lib.Bits.{bitOr, or-zero-r, or-add-and, and-le-l}
 use borrow.Author.Tests.{not-true, not-false, eq-eqb, ne-eqb}
 use Rattle.rows.specs.Limits.{ROWS, OFFSET-MAX}
 use Rattle.extents_meaning.specs.Cells.{numberIn}
-use Rattle.extents_meaning.specs.Runs.{Run, cellAt, Rising, Numbered}
+use Rattle.extents_meaning.specs.Runs.{Run, cellAt, Rising, NumbersLegal}
 use Rattle.extents_meaning.specs.Maps.{runsIn, spaceIn, runs, allZero, lawfulFrom, lawful, noMarks}
 use Rattle.extents_meaning.proofs.Longest.{cell-first, cell-behind, mean-first}
 use Rattle.extents_meaning.proofs.Trips.{May, may-out, runAt, followsAt, runs-step, runs-stop, read-stop, read-on, scan-stop, scan-bad, scan-on, lawful-map}
@@ -156,7 +156,7 @@ rising-drop top end c [] g (suc i) = (end, c, tt)
 rising-drop top end c (r ∷ rs) g (suc i) = rising-drop top (r .start + r .length) (r .cell) rs (g .1) i
 
 -- and have row numbers
-numbered-drop : (rs : List Run) → Numbered rs → (i : ℕ) → Numbered (drop i rs)
+numbered-drop : (rs : List Run) → NumbersLegal rs → (i : ℕ) → NumbersLegal (drop i rs)
 numbered-drop rs g zero = g
 numbered-drop [] g (suc i) = tt
 numbered-drop (r ∷ rs) g (suc i) = numbered-drop rs (g .2) i
@@ -178,7 +178,7 @@ here xs i e l h f =
     let k : i < length (runs xs) = omega (arith, ap length q, length-drop i (runs xs)) in
     let s = q ∙ ap (λ (rs : List Run). runAt i xs ∷ rs) (sym (runs-drop (i + 1) (spaceIn xs) xs (omega arith))) in
     let g = rising-drop OFFSET-MAX 0 0 (runs xs) (m .in-order) i in
-    let n : Numbered (runAt i xs ∷ drop (i + 1) (runs xs)) = rw s at (numbered-drop (runs xs) (m .numbered) i) in
+    let n : NumbersLegal (runAt i xs ∷ drop (i + 1) (runs xs)) = rw s at (numbered-drop (runs xs) (m .numbered) i) in
     record { end = g .0; c = g .1; more = k; split = s; in-order = rw s at (g .2); high = n .1 }
 
 -- ---- What stands at a byte

@@ -7,7 +7,7 @@ ghost use lib.Dec.{eqb};
 ghost use Rattle.extents_meaning.specs.Cells.{inRange};
 ghost use Rattle.extents_meaning.specs.Runs.{runsFrom};
 ghost use Rattle.extents_meaning.specs.Maps.{runs, bytesOf, allZero, follows, lawful, noMarks, lawfulPublished};
-ghost use Rattle.extents_map.specs.Mixes.{mixed as Mixes·mixed, mix};
+ghost use Rattle.extents_map.specs.Mixes.{mixed as Mixes·mixed, mixIn};
 ghost use Rattle.extents_map.specs.Cursors.{Passed, Seen};
 ghost use Rattle.rows.specs.Limits.{OFFSET-MAX, ROWS};
 
@@ -168,20 +168,28 @@ pub fn seek(map: &[u32], x: u32) -> usize
     crate::splice::first_past(map, all, x)
 }
 
-// How many runs a mix of two maps and a range has from a byte to another.
-pub fn count(
-    map: &[u32],
-    below: &[u32],
-    mode: u32,
-    from: u32,
-    to: u32,
-    start: u32,
-    end: u32,
-    cell: u32,
-) -> usize
+// What a mix makes of the cells of two maps, a view and the published map.
+pub enum Mode {
+    Publish,
+    MarkPublished,
+    Refresh,
+    ReadMap,
+    ReadFresh,
+}
+
+// A mix of two maps and a range that has a cell of its own.
+pub struct Mix {
+    pub mode: Mode,
+    pub start: u32,
+    pub end: u32,
+    pub cell: u32,
+}
+
+// How many runs a mix of two maps has from one byte to another.
+pub fn count(map: &[u32], below: &[u32], mix: Mix, from: u32, to: u32) -> usize
     requires { ⌜ (lawful (now map) ≡ true) × (lawful (now below) ≡ true) ⌝ }
-    requires { ⌜ (from ≤ to) × (start ≤ end) ⌝ }
-    ensures { λ r. ⌜ r ≡ length (runsFrom (to - from) from (mix mode start (end - start) cell (bytesOf (now (map .entry))) (bytesOf (now (below .entry))))) ⌝ }
+    requires { ⌜ (from ≤ to) × (mix .start ≤ mix .end) ⌝ }
+    ensures { λ r. ⌜ r ≡ length (runsFrom (to - from) from (mixIn mix (bytesOf (now (map .entry))) (bytesOf (now (below .entry))))) ⌝ }
 {
     let mut x = from;
     let mut n = 0;
@@ -191,48 +199,54 @@ pub fn count(
     while x < to {
         let v = see(map, i, x);
         let w = see(below, j, x);
-        let here = mixed(mode, is_inside(start, end, x), cell, v.cell, w.cell);
+        let here = mixed(mix, is_inside(mix.start, mix.end, x), v.cell, w.cell);
         n += begins(here, last);
         last = here;
         i = v.at;
         j = w.at;
-        x = least(least(v.next, w.next), least(edge(start, end, x), to));
+        x = least(
+            least(v.next, w.next),
+            least(edge(mix.start, mix.end, x), to),
+        );
     }
     n
 }
 
-// What a mode makes of a byte.
-fn mixed(mode: u32, inside: bool, c: u32, v: u32, w: u32) -> u32
-    ensures { λ r. ⌜ r ≡ Mixes·mixed mode inside c v w ⌝ }
+// What a mix makes of one byte, in its range or not, where the two maps have cells v and w.
+fn mixed(mix: Mix, inside: bool, v: u32, w: u32) -> u32
+    ensures { λ r. ⌜ r ≡ Mixes·mixed (mix .mode) inside (mix .cell) v w ⌝ }
 {
-    if mode == 0 {
-        if inside {
-            return c;
+    let mode = mix.mode;
+    match mode {
+        Mode::Publish => {
+            if inside {
+                return mix.cell;
+            }
+            if v % 2 == 1 {
+                return v / 2 * 2;
+            }
+            w
         }
-        if v % 2 == 1 {
-            return v / 2 * 2;
+        Mode::MarkPublished => {
+            if inside {
+                return mix.cell;
+            }
+            v / 2 * 2
         }
-        return w;
-    }
-    if mode == 1 {
-        if inside {
-            return c;
+        Mode::Refresh => {
+            if v % 2 == 1 {
+                return v;
+            }
+            w
         }
-        return v / 2 * 2;
-    }
-    if mode == 2 {
-        if v % 2 == 1 {
-            return v;
+        Mode::ReadMap => v / 2 + 1,
+        Mode::ReadFresh => {
+            if v % 2 == 1 {
+                return v / 2 + 1;
+            }
+            w / 2 + 1
         }
-        return w;
     }
-    if mode == 3 {
-        return v / 2 + 1;
-    }
-    if v % 2 == 1 {
-        return v / 2 + 1;
-    }
-    w / 2 + 1
 }
 
 // 1 where a cell other than 0 differs from the one before it.

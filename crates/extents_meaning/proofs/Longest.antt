@@ -10,7 +10,7 @@ use lib.Dec.{leb, eqb}
 use borrow.Author.Tests.{le-leb, lt-leb, lt-ltb, le-ltb, eqb-true, eqb-false}
 use Rattle.rows.specs.Limits.{ROWS, OFFSET-MAX}
 use Rattle.extents_meaning.specs.Cells.{Bytes, numberIn, inRange}
-use Rattle.extents_meaning.specs.Runs.{Run, runOf, cellAt, joined, runsFrom, runsOf, piecesOf, Rising, Numbered, Lawful}
+use Rattle.extents_meaning.specs.Runs.{Run, runOf, cellAt, joined, runsFrom, runsOf, piecesOf, Rising, NumbersLegal, Lawful}
 
 -- ---- Ranges
 
@@ -271,7 +271,7 @@ fine-number c h (inl e) = absurd (omega arith)
 fine-number c h (inr f) = f
 
 -- the runs of fine cells have row numbers
-fine-numbered : (top end c : ℕ) (rs : List Run) → Rising top end c rs → ((b : ℕ) → end ≤ b → b < top → Fine (cellAt rs b)) → Numbered rs
+fine-numbered : (top end c : ℕ) (rs : List Run) → Rising top end c rs → ((b : ℕ) → end ≤ b → b < top → Fine (cellAt rs b)) → NumbersLegal rs
 fine-numbered top end c [] g h = tt
 fine-numbered top end c (r ∷ rs) g h =
     let n = g .0 in
@@ -298,7 +298,7 @@ lawful-fine rs l b = go rs (l .numbered)
     either true c d p q = p
     either false c d p q = q
 
-    go : (qs : List Run) → Numbered qs → Fine (cellAt qs b)
+    go : (qs : List Run) → NumbersLegal qs → Fine (cellAt qs b)
     go [] n = inl refl
     go (q ∷ qs) n = either (inRange (q .start) (q .length) b) (q .cell) (cellAt qs b) (inr (n .0, n .1)) (go qs (n .2))
 

@@ -13,7 +13,7 @@ use lib.Dec.{leb, eqb}
 use borrow.Author.Tests.{leb-true, eqb-true, eqb-false, not-true, le-leb, lt-ltb, le-ltb, eq-eqb, ne-eqb}
 use Rattle.rows.specs.Limits.{ROWS, OFFSET-MAX}
 use Rattle.extents_meaning.specs.Cells.{cellOf, numberIn, markIn, unpublished, inRange}
-use Rattle.extents_meaning.specs.Runs.{Run, runOf, cellAt, Next, Rising, Numbered, Lawful}
+use Rattle.extents_meaning.specs.Runs.{Run, runOf, cellAt, Next, Rising, NumbersLegal, Lawful}
 use Rattle.extents_meaning.specs.Maps.{fours, mapOf, runHere, runsIn, spaceIn, runs, bytesOf, allZero, follows, mayFollow, lawfulFrom, lawful, noMarks}
 use Rattle.extents_meaning.proofs.Longest.{cell-first, cell-behind, mean-before, lawful-unique}
 use Rattle.rows.proofs.Bools.{and-out, not-passed, not-both}
@@ -200,7 +200,7 @@ pub map-back : (space : ℕ) (rs : List Run) → Lawful rs → length rs ≤ spa
 map-back space rs w h = ap (λ (n : ℕ). runsIn n (mapOf space rs)) (space-map space rs h) ∙ read-back space rs OFFSET-MAX 0 0 (w .in-order) h
 
 -- lawful behind a run
-written-lawful : (space : ℕ) (rs : List Run) (end c : ℕ) → Rising OFFSET-MAX end c rs → Numbered rs → length rs ≤ space →
+written-lawful : (space : ℕ) (rs : List Run) (end c : ℕ) → Rising OFFSET-MAX end c rs → NumbersLegal rs → length rs ≤ space →
     lawfulFrom space end c (mapOf space rs) ≡ true
 unfolding lawfulFrom
 written-lawful zero [] end c t w h = refl
@@ -232,7 +232,7 @@ map-lawful space rs w h =
 -- runs that were read from a slice with space for n, behind a run that ends at `end` with cell c
 record Read (n end c : ℕ) (xs : List ℕ) (rs : List Run) : Type 0 where
   in-order : Rising OFFSET-MAX end c rs
-  numbered : Numbered rs
+  numbered : NumbersLegal rs
   fit : length rs ≤ n
   whole : xs ≡ mapOf n rs
 

@@ -11,7 +11,7 @@ use lib.Dec.{eqb}
 use borrow.Author.Tests.{eq-eqb}
 use Rattle.rows.specs.Limits.{OFFSET-MAX}
 use Rattle.extents_meaning.specs.Cells.{numberIn, markIn, cleared, inRange, asPublished}
-use Rattle.extents_meaning.specs.Runs.{Run, runOf, cellAt, Rising, Numbered, Lawful}
+use Rattle.extents_meaning.specs.Runs.{Run, runOf, cellAt, Rising, NumbersLegal, Lawful}
 use Rattle.extents_meaning.specs.Maps.{fours, mapOf, mapFor, spaceIn, runs, bytesOf, lawful}
 use Rattle.extents_meaning.proofs.Longest.{runs-same, runs-back}
 use Rattle.extents_meaning.proofs.Trips.{length-fours, map-back, map-lawful, lawful-map}
@@ -71,7 +71,7 @@ clear-mean (r ∷ rs) (suc i) b = go (inRange (r .start) (r .length) b) (clear-m
     go false e = e
 
 -- row numbers stay
-clear-numbered : (rs : List Run) (i : ℕ) → Numbered rs → Numbered (clearAt rs i)
+clear-numbered : (rs : List Run) (i : ℕ) → NumbersLegal rs → NumbersLegal (clearAt rs i)
 unfolding clearAt
 clear-numbered [] i n = tt
 clear-numbered (r ∷ rs) zero n = (omega (arith, n .0), omega (arith, n .1), n .2)
@@ -86,7 +86,7 @@ rising-cell top end c d (r ∷ rs) g h =
     (record { rising = n .rising; filled = n .filled; inside = n .inside; written = n .written; longest = h (omega arith) }, g .1)
 
 -- the list rises still, where the run is apart from both neighbours
-clear-rising : (top end c : ℕ) (rs : List Run) (i : ℕ) → i < length rs → Rising top end c rs → Numbered rs →
+clear-rising : (top end c : ℕ) (rs : List Run) (i : ℕ) → i < length rs → Rising top end c rs → NumbersLegal rs →
     (i ≡ 0 → end ≡ getD rs 0 noRun .start → numberIn c ≡ numberIn (getD rs 0 noRun .cell) → ⊥) →
     ((j : ℕ) → suc j ≡ i → Meet rs j → ⊥) → (Meet rs i → ⊥) → Rising top end c (clearAt rs i)
 unfolding clearAt

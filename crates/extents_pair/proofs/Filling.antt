@@ -13,11 +13,11 @@ use borrow.Author.Tests.{eqb-true, eqb-false, not-true}
 use Rattle.rows.specs.Limits.{OFFSET-MAX}
 use Rattle.extents_meaning.specs.Cells.{Bytes, markIn, unpublished}
 use Rattle.extents_meaning.specs.Runs.{Run, runOf, runsOf, runsFrom, cellAt}
-use Rattle.extents_meaning.specs.Maps.{fours, mapOf, mapFor, spaceIn, runs, lawful, noMarks}
+use Rattle.extents_meaning.specs.Maps.{fours, mapOf, mapFor, spaceIn, runs, lawful, noMarks, partAt, withPart}
 use Rattle.extents_meaning.proofs.Longest.{mean-first}
 use Rattle.extents_meaning.proofs.Trips.{length-fours, fours-append, lawful-map}
 use Rattle.rows.proofs.Bools.{and-out}
-use Rattle.extents_pair.specs.Packing.{partAt, withPart, packedIn, mergedOf, Packed}
+use Rattle.extents_pair.specs.Packing.{packedIn, mergedOf, Packed}
 use Rattle.extents_pair.proofs.Spots.{Here, here-behind, here-at, here-same, noRun, putAt, put-behind, put-after, outside, zeroed, zeroed-twice}
 use Rattle.extents_pair.proofs.Rests.{rest, rest-none}
 use Rattle.extents_pair.proofs.Ahead.{Ahead, gapOf, gap-high, gap-low, ahead-take, ahead-skip, ahead-pass, ahead-part, ahead-fewer}
@@ -35,9 +35,9 @@ pub record Filling (space v w first : ℕ) (xs₀ xs : List ℕ) (j n i x : ℕ)
   pub room : length mid + 4 * n ≡ 4 * j
   pub kept : (q : ℕ) → 4 * n ≤ q → getD xs (v + q) 0 ≡ getD xs₀ (v + q) 0
   pub within : x ≤ OFFSET-MAX
-  pub passed : i ≤ length (runs (partAt space w xs₀))
+  pub passed : i ≤ length (runs (partAt w (4 * space) xs₀))
   pub result : runsOf (mergedOf space v w first xs₀) ≡ done ++ rest OFFSET-MAX (mergedOf space v w first xs₀) x
-  pub ahead : Ahead OFFSET-MAX (mergedOf space v w first xs₀) x us (drop i (runs (partAt space w xs₀)))
+  pub ahead : Ahead OFFSET-MAX (mergedOf space v w first xs₀) x us (drop i (runs (partAt w (4 * space) xs₀)))
 
 -- what is told of the gap
 abbrev pub Told : ℕ → ℕ → List ℕ → ℕ → ℕ → Type 0
@@ -92,7 +92,7 @@ module _ {space v w all others first : ℕ} {xs₀ : List ℕ} (p : Packed space
 
   -- the published runs
   abbrev ws : List Run
-  ws = runs (partAt space w xs₀)
+  ws = runs (partAt w (4 * space) xs₀)
 
   -- what stands behind the part at v
   abbrev tail : List ℕ
@@ -103,16 +103,16 @@ module _ {space v w all others first : ℕ} {xs₀ : List ℕ} (p : Packed space
   front-length = length-take-le v xs₀ (omega (arith, p .inside))
 
   -- a part has its length
-  part-length : (q : ℕ) → q + 4 * space ≤ length xs₀ → length (partAt space q xs₀) ≡ 4 * space
+  part-length : (q : ℕ) → q + 4 * space ≤ length xs₀ → length (partAt q (4 * space) xs₀) ≡ 4 * space
   part-length q h = length-take-le (4 * space) (drop q xs₀) (omega (arith, length-drop q xs₀))
 
   -- the published map is lawful
-  below-lawful : lawful (partAt space w xs₀) ≡ true
-  below-lawful = and-out (lawful (partAt space w xs₀)) (noMarks ws) (p .below-law) .0
+  below-lawful : lawful (partAt w (4 * space) xs₀) ≡ true
+  below-lawful = and-out (lawful (partAt w (4 * space) xs₀)) (noMarks ws) (p .below-law) .0
 
   -- the published runs fit
   below-fit : length ws ≤ space
-  below-fit = let m = lawful-map (partAt space w xs₀) below-lawful in omega (arith, m .fit, part-length w (p .below-inside))
+  below-fit = let m = lawful-map (partAt w (4 * space) xs₀) below-lawful in omega (arith, m .fit, part-length w (p .below-inside))
 
   -- ---- The start
 
@@ -120,7 +120,7 @@ module _ {space v w all others first : ℕ} {xs₀ : List ℕ} (p : Packed space
   pub fill-start : Filling space v w first xs₀ xs₀ first 0 0 0
   unfolding fours
   fill-start =
-      let part = partAt space v xs₀ in
+      let part = partAt v (4 * space) xs₀ in
       let ys = packedIn space v first xs₀ in
       let m = lawful-map ys (p .own) in
       let l = part-length v (p .inside) in
@@ -147,8 +147,8 @@ module _ {space v w all others first : ℕ} {xs₀ : List ℕ} (p : Packed space
             record {
               own = m .lawful-runs .in-order;
               own-marked = p .own-marked;
-              others = lawful-map (partAt space w xs₀) below-lawful .lawful-runs .in-order;
-              others-plain = and-out (lawful (partAt space w xs₀)) (noMarks ws) (p .below-law) .1;
+              others = lawful-map (partAt w (4 * space) xs₀) below-lawful .lawful-runs .in-order;
+              others-plain = and-out (lawful (partAt w (4 * space) xs₀)) (noMarks ws) (p .below-law) .1;
               means = λ b h l. refl;
             };
       }
@@ -203,7 +203,7 @@ module _ {space v w all others first : ℕ} {xs₀ : List ℕ} (p : Packed space
 
     -- the next published run
     next-here : i < length ws → Here xs (w + i * 4) (getD ws i noRun)
-    next-here h = here-same (here-at (partAt space w xs₀) below-lawful i h) there
+    next-here h = here-same (here-at (partAt w (4 * space) xs₀) below-lawful i h) there
       where
         part : List ℕ
         part = fours (k .done) ++ (k .mid ++ fours (k .us))
@@ -221,7 +221,7 @@ module _ {space v w all others first : ℕ} {xs₀ : List ℕ} (p : Packed space
               k .room,
             )
 
-        there : (q : ℕ) → q < 4 → getD xs (w + i * 4 + q) 0 ≡ getD (partAt space w xs₀) (4 * i + q) 0
+        there : (q : ℕ) → q < 4 → getD xs (w + i * 4 + q) 0 ≡ getD (partAt w (4 * space) xs₀) (4 * i + q) 0
         there q l =
             let e : w + i * 4 + q ≡ w + (4 * i + q) = omega arith in
             let o : 4 * i + q < 4 * space = omega (arith, below-fit, h, l) in
@@ -244,7 +244,7 @@ module _ {space v w all others first : ℕ} {xs₀ : List ℕ} (p : Packed space
     next-inside h =
         let o : i < length ws = omega (arith, p .below-all) in
         let e = next-here o in
-        omega (arith, e .start, e .size, next-at OFFSET-MAX 0 0 ws i (lawful-map (partAt space w xs₀) below-lawful .lawful-runs .in-order) o)
+        omega (arith, e .start, e .size, next-at OFFSET-MAX 0 0 ws i (lawful-map (partAt w (4 * space) xs₀) below-lawful .lawful-runs .in-order) o)
 
     -- the gap that is told is where the next unpublished run starts
     fill-gap : {gap : ℕ} → Told space v xs j gap → gap ≡ gapOf OFFSET-MAX (k .us)
@@ -486,7 +486,7 @@ module _ {space v w all others first : ℕ} {xs₀ : List ℕ} (p : Packed space
     -- ---- The end
 
     -- at the top the runs done are all, and the rest of the part is 0
-    fill-all : OFFSET-MAX ≤ x → {zs : List ℕ} → zs ≡ zeroed xs (v + n * 4) (v + space * 4) → zs ≡ withPart space v (mapFor space f) xs₀
+    fill-all : OFFSET-MAX ≤ x → {zs : List ℕ} → zs ≡ zeroed xs (v + n * 4) (v + space * 4) → zs ≡ withPart v (4 * space) (mapFor space f) xs₀
     unfolding mapOf
     fill-all h {zs} q =
         let done = k .done in
@@ -516,7 +516,7 @@ module _ {space v w all others first : ℕ} {xs₀ : List ℕ} (p : Packed space
 
     -- it is where 0 is put in the places of the first `all` runs and of the packed ones
     pub fill-end : OFFSET-MAX ≤ x → {ys zs : List ℕ} {a b : ℕ} → a ≡ max n all → b ≡ max n first →
-        ys ≡ zeroed xs (v + n * 4) (v + a * 4) → zs ≡ zeroed ys (v + b * 4) (v + space * 4) → zs ≡ withPart space v (mapFor space f) xs₀
+        ys ≡ zeroed xs (v + n * 4) (v + a * 4) → zs ≡ zeroed ys (v + b * 4) (v + space * 4) → zs ≡ withPart v (4 * space) (mapFor space f) xs₀
     fill-end h {ys} {zs} {a} {b} ea eb y z =
         let r = fill-room in
         fill-all h

@@ -10,7 +10,7 @@ use lib.Seq.{length-take-le, take-take, take-at, drop-at, drop-cons, getD-take}
 use borrow.Author.Tests.{eq-eqb, ne-eqb, eqb-false}
 use Rattle.rows.specs.Limits.{OFFSET-MAX}
 use Rattle.extents_meaning.specs.Cells.{Bytes, markIn, unpublished, published, asPublished, refreshed}
-use Rattle.extents_meaning.specs.Runs.{Run, cellAt, Rising, Numbered, Lawful}
+use Rattle.extents_meaning.specs.Runs.{Run, cellAt, Rising, NumbersLegal, Lawful}
 use Rattle.extents_meaning.specs.Maps.{fours, spaceIn, runs, lawful}
 use Rattle.extents_meaning.proofs.Longest.{cell-first, cell-before, cell-behind, mean-before}
 use Rattle.extents_meaning.proofs.Trips.{lawful-map}
@@ -69,12 +69,12 @@ marked-rising top end c e k (r ∷ rs) g h s =
     go false kept gone = gone
 
 -- they have row numbers
-marked-numbered : (rs : List Run) → Numbered rs → Numbered (marked rs)
+marked-numbered : (rs : List Run) → NumbersLegal rs → NumbersLegal (marked rs)
 unfolding marked
 marked-numbered [] n = tt
 marked-numbered (r ∷ rs) n = go (unpublished (r .cell)) (marked-numbered rs (n .2))
   where
-    go : (t : Bool) → Numbered (marked rs) → Numbered (cond t (r ∷ marked rs) (marked rs))
+    go : (t : Bool) → NumbersLegal (marked rs) → NumbersLegal (cond t (r ∷ marked rs) (marked rs))
     go true m = (n .0, n .1, m)
     go false m = m
 

@@ -10,11 +10,11 @@ use borrow.Rule.Slice.PartMut.{putMid}
 use Rattle.rows.specs.Limits.{OFFSET-MAX}
 use Rattle.extents_meaning.specs.Cells.{Bytes, unpublished, cleared, overwrite, published}
 use Rattle.extents_meaning.specs.Runs.{Run, runOf, cellAt, runsOf, Lawful}
-use Rattle.extents_meaning.specs.Maps.{mapFor, spaceIn, runs, bytesOf}
+use Rattle.extents_meaning.specs.Maps.{mapFor, spaceIn, runs, bytesOf, partAt}
 use Rattle.extents_meaning.proofs.Longest.{Fine, runs-same, runs-back}
 use Rattle.extents_meaning.proofs.Trips.{lawful-map}
 use Rattle.extents_pair.specs.declared.share.RangeWrite.{RangeWrite}
-use Rattle.extents_pair.specs.RangeWrites.{rangeWriteOf, rangeWrite, partAt, withBytes, Two}
+use Rattle.extents_pair.specs.RangeWrites.{rangeWriteOf, rangeWrite, withBytes, MapsApart}
 use Rattle.extents_pair.specs.Packing.{marked}
 use Rattle.extents_pair.proofs.Sweeps.{Good, Fits, good-over, over-same}
 use Rattle.extents_pair.proofs.Overwriting.{clear-fine}
@@ -38,7 +38,7 @@ fewer-later zero rs = omega arith
 fewer-later (suc i) [] = omega arith
 fewer-later (suc i) (r ∷ rs) = omega (arith, fewer-later i rs, marked-first r rs)
 
-module _ (size v w : ℕ) (xs : List ℕ) (t : Two size v w xs) where
+module _ (size v w : ℕ) (xs : List ℕ) (t : MapsApart size v w xs) where
   -- the view's runs
   abbrev rs : List Run
   rs = runs (partAt v size xs)

@@ -14,10 +14,10 @@ use borrow.Rule.Slice.PartMut.{putMid}
 use Rattle.rows.specs.Limits.{OFFSET-MAX}
 use Rattle.extents_meaning.specs.Cells.{Bytes, overwrite}
 use Rattle.extents_meaning.specs.Runs.{Run, cellAt, runsOf, Lawful}
-use Rattle.extents_meaning.specs.Maps.{mapOf, mapFor, spaceIn, runs, bytesOf, lawful}
+use Rattle.extents_meaning.specs.Maps.{mapOf, mapFor, spaceIn, runs, bytesOf, lawful, partAt, withPart}
 use Rattle.extents_meaning.proofs.Longest.{mean-behind, runs-mean, runs-same, runs-lawful, runs-back, lawful-fine}
 use Rattle.extents_meaning.proofs.Trips.{length-map, map-back, map-lawful, lawful-map}
-use Rattle.extents_pair.specs.RangeWrites.{rangeWriteOf, filled, downs, partAt, withPart, withBytes, Two}
+use Rattle.extents_pair.specs.RangeWrites.{rangeWriteOf, filled, downs, withBytes, MapsApart}
 use Rattle.extents_pair.proofs.Sweeps.{over-none, Fits, downs-fits}
 
 -- ---- A part lent and home again
@@ -139,7 +139,7 @@ map-same space f g h = ap (mapOf space) (runs-same f g (λ b _. h b))
 
 -- ---- Two maps in a slice
 
-module _ {size v w : ℕ} {xs : List ℕ} (t : Two size v w xs) where
+module _ {size v w : ℕ} {xs : List ℕ} (t : MapsApart size v w xs) where
   -- the published map fills its part
   two-length : length (partAt w size xs) ≡ size
   two-length = part-length w size xs (t .below-in)
@@ -164,7 +164,7 @@ holds-same {size} {w} {xs} {ys} {f} g a e k =
     record { fits = a; same = k .same ∙ ap (λ (m : List ℕ). withPart w size m xs) (map-same (size / 4) f g e) }
 
 -- a slice holds the bytes of its own map
-pub holds-start : {size v w : ℕ} {xs : List ℕ} → Two size v w xs → Holds size w xs (bytesOf (partAt w size xs)) xs
+pub holds-start : {size v w : ℕ} {xs : List ℕ} → MapsApart size v w xs → Holds size w xs (bytesOf (partAt w size xs)) xs
 holds-start {size} {v} {w} {xs} t =
     let m = partAt w size xs in
     record {
@@ -174,7 +174,7 @@ holds-start {size} {v} {w} {xs} t =
           ∙ ap (λ (l : List ℕ). withPart w size l xs) (sym (bytes-map m (t .below)) ∙ (λ i. mapFor (two-space t i) (bytesOf m)));
     }
 
-module _ {size v w : ℕ} {xs : List ℕ} (t : Two size v w xs) {f : Bytes} {ys : List ℕ} (k : Holds size w xs f ys) where
+module _ {size v w : ℕ} {xs : List ℕ} (t : MapsApart size v w xs) {f : Bytes} {ys : List ℕ} (k : Holds size w xs f ys) where
   -- the map of the bytes
   abbrev map : List ℕ
   map = mapFor (size / 4) f
@@ -200,7 +200,7 @@ module _ {size v w : ℕ} {xs : List ℕ} (t : Two size v w xs) {f : Bytes} {ys 
   holds-bytes b = ap (λ (m : List ℕ). bytesOf m b) holds-below ∙ fits-back (size / 4) f (k .fits) b
 
   -- both maps are lawful still
-  pub holds-two : Two size v w ys
+  pub holds-two : MapsApart size v w ys
   holds-two =
       record {
         view-in = omega (arith, t .view-in, holds-length);

@@ -10,11 +10,11 @@ use borrow.Rule.Slice.PartMut.{putMid}
 use Rattle.rows.specs.Limits.{OFFSET-MAX}
 use Rattle.extents_meaning.specs.Cells.{Bytes, unpublished, overwrite}
 use Rattle.extents_meaning.specs.Runs.{Run, runOf, cellAt, runsOf, Lawful}
-use Rattle.extents_meaning.specs.Maps.{mapFor, spaceIn, runs, bytesOf, lawful}
+use Rattle.extents_meaning.specs.Maps.{mapFor, spaceIn, runs, bytesOf, lawful, partAt, withPart}
 use Rattle.extents_meaning.proofs.Longest.{Fine, runs-same}
 use Rattle.extents_meaning.proofs.Trips.{lawful-map}
 use Rattle.extents_pair.specs.declared.share.RangeWrite.{RangeWrite}
-use Rattle.extents_pair.specs.RangeWrites.{rangeWrite, rangeWrites, filled, downs, partAt, withPart, withBytes, Two, passedDown, passedUp, Ready}
+use Rattle.extents_pair.specs.RangeWrites.{rangeWrite, rangeWrites, filled, downs, withBytes, MapsApart, passedDown, passedUp, PassUpReady}
 use Rattle.extents_pair.proofs.Sweeps.{over-none, over-same, fill-same, Fits, Rises, Drawn, downs-fits, up-step, rises-later, overwritten-later}
 use Rattle.extents_pair.proofs.Overwriting.{clear-fine, taken-none, range-writes-later, range-write-empty, downs-none, pass-rises, taken-good, taken-overwritten}
 use Rattle.extents_pair.proofs.Parts.{bytes-fit, map-same, Holds, holds-same, holds-start, holds-next, lent-view, lent-space, lent-bytes, lent-next}
@@ -80,7 +80,7 @@ module _ (lo hi : ℕ) (rs : List Run) where
 -- ---- The slice after a part of a pass
 
 -- a run of the view can be read
-pub lent-run : {size v w : ℕ} {xs : List ℕ} → Two size v w xs → {f : Bytes} {ys : List ℕ} → Holds size w xs f ys → (i : ℕ) →
+pub lent-run : {size v w : ℕ} {xs : List ℕ} → MapsApart size v w xs → {f : Bytes} {ys : List ℕ} → Holds size w xs f ys → (i : ℕ) →
     i < length (runs (partAt v size xs)) →
     (lawful (take (v + size - v) (drop v ys)) ≡ true) × (i < length (runs (take (v + size - v) (drop v ys))))
     × (i * 4 + 4 ≤ length (take (v + size - v) (drop v ys)))
@@ -88,7 +88,7 @@ lent-run {size} {v} {w} {xs} t k i h =
     subst (λ (l : List ℕ). (lawful l ≡ true) × (i < length (runs l)) × (i * 4 + 4 ≤ length l)) (sym (lent-view t k))
     (t .view, h, there (partAt v size xs) i (t .view) h .room)
 
-module _ (size v w lo hi : ℕ) (xs : List ℕ) (t : Two size v w xs) (a : lo ≤ hi) (b : hi ≤ OFFSET-MAX) where
+module _ (size v w lo hi : ℕ) (xs : List ℕ) (t : MapsApart size v w xs) (a : lo ≤ hi) (b : hi ≤ OFFSET-MAX) where
   -- the view's runs
   abbrev rs : List Run
   rs = runs (partAt v size xs)
@@ -164,7 +164,7 @@ module _ (size v w lo hi : ℕ) (xs : List ℕ) (t : Two size v w xs) (a : lo �
       holds-start t .same
       ∙ ap (λ (m : List ℕ). withPart w size m xs) (map-same (size / 4) old new (λ x. sym (taken-none lo hi (cellAt rs) old h x)))
 
-  module _ (y : Ready size v w lo hi xs) where
+  module _ (y : PassUpReady size v w lo hi xs) where
     -- the bytes fit on the way
     up-fits : (i : ℕ) → Fits (size / 4) (state lo hi rs new i)
     up-fits =

@@ -16,7 +16,8 @@ use Rattle.extents_meaning.specs.Points.{starts}
 use Rattle.extents_meaning.proofs.Longest.{runs-back}
 use Rattle.extents_meaning.proofs.Trips.{lawful-map}
 use Rattle.extents_meaning.proofs.Points.{begins, begins-same, begins-one, begins-most, count-starts}
-use Rattle.extents_map.specs.Mixes.{REFRESH, READ-MAP, READ-FRESH, mixed, mix}
+use Rattle.extents_map.specs.Mixes.{mixed, mix}
+use Rattle.extents_map.specs.declared.scan.Mode.the-variants.{Refresh, ReadMap, ReadFresh}
 
 -- the pieces of the same range, said by its end
 pub pieces-there : (f : Bytes) (start n : ℕ) → piecesOf f start (start + n - start) ≡ piecesOf f start n
@@ -82,17 +83,17 @@ module _ (s n : ℕ) where
       room-enough (bytesOf xs) s n room h (omega (arith, e, m)) l
 
   -- and for those of a view after a refresh, whose runs the mix has
-  pub fresh-enough : (v w : Bytes) (room : ℕ) {k : ℕ} → s + n ≤ OFFSET-MAX → length (runsOf (mix REFRESH 0 0 0 v w)) ≤ k → 2 * k + 1 ≤ room →
+  pub fresh-enough : (v w : Bytes) (room : ℕ) {k : ℕ} → s + n ≤ OFFSET-MAX → length (runsOf (mix Refresh 0 0 0 v w)) ≤ k → 2 * k + 1 ≤ room →
       false ≡ ltb room (length (piecesOf (refreshed v w) s n))
   unfolding mixed
   fresh-enough v w room = room-enough (refreshed v w) s n room
 
   -- the walk counts the pieces
-  pub map-counted : (v w : Bytes) {r : ℕ} → r ≡ length (runsFrom n s (mix READ-MAP 0 0 0 v w)) → r ≡ length (piecesOf v s n)
+  pub map-counted : (v w : Bytes) {r : ℕ} → r ≡ length (runsFrom n s (mix ReadMap 0 0 0 v w)) → r ≡ length (piecesOf v s n)
   unfolding mixed piecesOf
   map-counted v w e = e
 
-  pub fresh-counted : (v w : Bytes) {r : ℕ} → r ≡ length (runsFrom n s (mix READ-FRESH 0 0 0 v w)) → r ≡ length (piecesOf (refreshed v w) s n)
+  pub fresh-counted : (v w : Bytes) {r : ℕ} → r ≡ length (runsFrom n s (mix ReadFresh 0 0 0 v w)) → r ≡ length (piecesOf (refreshed v w) s n)
   unfolding mixed piecesOf
   fresh-counted v w e = e
 

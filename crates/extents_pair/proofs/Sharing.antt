@@ -14,15 +14,16 @@ use borrow.Rule.Slice.PartMut.{putMid}
 use Rattle.rows.specs.Limits.{ROWS, OFFSET-MAX}
 use Rattle.extents_meaning.specs.Cells.{Bytes, cellOf, overwrite, published}
 use Rattle.extents_meaning.specs.Runs.{Run, cellAt, runsOf, Lawful}
-use Rattle.extents_meaning.specs.Maps.{mapFor, spaceIn, runs, bytesOf, lawful, mapAt, withMap}
+use Rattle.extents_meaning.specs.Maps.{mapFor, spaceIn, runs, bytesOf, lawful, mapAt, withMap, partAt, withPart}
 use Rattle.extents_meaning.proofs.Longest.{Fine, runs-same}
 use Rattle.extents_meaning.proofs.Trips.{lawful-map}
 use Rattle.rows.proofs.Bools.{and-out}
 use Rattle.extents_pair.specs.declared.share.RangeWrite.{RangeWrite}
-use Rattle.extents_map.specs.Mixes.{PUBLISH, mixed, mix}
+use Rattle.extents_map.specs.Mixes.{mixed, mix}
+use Rattle.extents_map.specs.declared.scan.Mode.the-variants.{Publish}
 use Rattle.extents_meaning.specs.Pairs.{twoMaps, viewOf, belowOf}
 use Rattle.extents_pair.specs.Packing.{marked}
-use Rattle.extents_pair.specs.RangeWrites.{rangeWriteOf, rangeWrites, filled, downs, taken, partAt, withPart, Two, passedDown, passedUp, withBytes, Ready}
+use Rattle.extents_pair.specs.RangeWrites.{rangeWriteOf, rangeWrites, filled, downs, taken, MapsApart, passedDown, passedUp, withBytes, PassUpReady}
 use Rattle.extents_pair.proofs.Gathering.{published-none}
 use Rattle.extents_pair.proofs.Sweeps.{over-at, over-same, fill-same, Fits, Rises, Drawn, downs-fits, downs-overwritten, downs-same, up-step}
 use Rattle.extents_pair.proofs.Overwriting.{taken-back, goal, lefts, rights, others, goal-good, rights-rise, others-rise, lefts-rise, rights-overwritten, lefts-overwritten}
@@ -31,7 +32,7 @@ use Rattle.extents_pair.proofs.Parts.{lent, lent-below, Holds, holds-st
 
 -- ---- A pass down and a pass up, in a slice that holds some bytes
 
-module _ (size v w lo hi : ℕ) (xs : List ℕ) (t : Two size v w xs) (a : lo ≤ hi) (b : hi ≤ OFFSET-MAX) where
+module _ (size v w lo hi : ℕ) (xs : List ℕ) (t : MapsApart size v w xs) (a : lo ≤ hi) (b : hi ≤ OFFSET-MAX) where
   -- the view's runs
   abbrev rs : List Run
   rs = runs (partAt v size xs)
@@ -64,7 +65,7 @@ module _ (size v w lo hi : ℕ) (xs : List ℕ) (t : Two size v w xs) (a : lo �
           ∙ taken-back lo hi rs law a b d g below e (λ y. holds-bytes t k y ∙ z y) x
 
       -- it is ready
-      ready-up : Ready size v w lo hi ys
+      ready-up : PassUpReady size v w lo hi ys
       ready-up =
           record {
             fit = omega (arith, n .few, ap length (runs-same (passedUp size v w lo hi ys) g (λ x _. up-goal x)));
@@ -81,7 +82,7 @@ module _ (size v w lo hi : ℕ) (xs : List ℕ) (t : Two size v w xs) (a : lo �
 
 -- what they rely on: two maps, a range, a fine cell, and a map at the end that fits
 pub record Shared (size v w start end c : ℕ) (xs : List ℕ) : Type 0 where
-  pub two : Two size v w xs
+  pub two : MapsApart size v w xs
   pub order : start ≤ end
   pub inside : end ≤ OFFSET-MAX
   pub fine : Fine c
@@ -217,7 +218,7 @@ module _ {size v w start end c : ℕ} {xs : List ℕ} (s : Shared size v w start
 
   module _ {ys : List ℕ} (k : Holds size w xs (downs left (downs other old)) ys) where
     -- the fourth: up on the left, which is ready
-    pub ready-left : Ready size v w 0 start ys
+    pub ready-left : PassUpReady size v w 0 start ys
     ready-left = ready-up size v w 0 start xs (s .two) (omega arith) left-end k (downs other old) (downs other new) left-overwritten left-level left-fits
 
     -- and leaves that
@@ -254,7 +255,7 @@ module _ {size v w start end c : ℕ} {xs : List ℕ} (s : Shared size v w start
 
   module _ {ys : List ℕ} (k : Holds size w xs (downs right new) ys) where
     -- the sixth: up on the right, which is ready
-    pub ready-right : Ready size v w end OFFSET-MAX ys
+    pub ready-right : PassUpReady size v w end OFFSET-MAX ys
     ready-right = ready-up size v w end OFFSET-MAX xs (s .two) (s .inside) (omega arith) k old new right-overwritten (λ b. refl) new-fits
 
     -- and leaves the bytes at the end
@@ -284,7 +285,7 @@ map-part space k xs = let e : 4 * space ≡ space * 4 = omega arith in λ i. par
 
 -- two maps stand apart in the slice
 pub two-parts : (space view below : ℕ) (xs : List ℕ) → twoMaps space view below xs ≡ true →
-    Two (space * 4) (view * (space * 4)) (below * (space * 4)) xs
+    MapsApart (space * 4) (view * (space * 4)) (below * (space * 4)) xs
 two-parts space view below xs e =
     let e1 = and-out (not (eqb view below)) _ e in
     let e2 = and-out (leb ((view + 1) * (4 * space)) (length xs)) _ (e1 .1) in
@@ -309,7 +310,7 @@ module _ (space view below start end number : ℕ) (xs : List ℕ) where
 
   -- what the contract says
   abbrev to : Bytes
-  to = mix PUBLISH start (end - start) (cellOf number 0) (viewOf space view below xs) (belowOf space view below xs)
+  to = mix Publish start (end - start) (cellOf number 0) (viewOf space view below xs) (belowOf space view below xs)
 
   -- they are the same
   mix-part : from ≡ to

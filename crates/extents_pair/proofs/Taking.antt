@@ -9,7 +9,7 @@ use lib.ListN.{length, take, drop, getD}
 use lib.Seq.{length-take-le, split-at}
 use Rattle.rows.specs.Limits.{ROWS, OFFSET-MAX}
 use Rattle.extents_meaning.specs.Cells.{numberIn, markIn, unpublished, cleared}
-use Rattle.extents_meaning.specs.Runs.{Run, runOf, Rising, Numbered}
+use Rattle.extents_meaning.specs.Runs.{Run, runOf, Rising, NumbersLegal}
 use Rattle.extents_meaning.specs.Maps.{runs, lawful}
 use Rattle.extents_meaning.proofs.Longest.{Fine}
 use Rattle.extents_meaning.proofs.Trips.{lawful-map, run-at}
@@ -26,7 +26,7 @@ inside-at (r ∷ rs) zero e c t = t .0 .inside
 inside-at (r ∷ rs) (suc i) e c t = inside-at rs i (r .start + r .length) (r .cell) (t .1)
 
 -- its cell is fine
-pub fine-at : (rs : List Run) (i : ℕ) → Numbered rs → Fine (runAmong rs i .cell)
+pub fine-at : (rs : List Run) (i : ℕ) → NumbersLegal rs → Fine (runAmong rs i .cell)
 fine-at [] i n = inl refl
 fine-at (r ∷ rs) zero n = inr (n .0, n .1)
 fine-at (r ∷ rs) (suc i) n = fine-at rs i (n .2)

@@ -16,12 +16,12 @@ use borrow.Author.Tests.{leb-true, eqb-false, not-true}
 use borrow.Rule.Slice.PartMut.{putMid}
 use Rattle.extents_meaning.specs.Cells.{refreshed}
 use Rattle.extents_meaning.specs.Runs.{Run, runsOf, cellAt, Lawful}
-use Rattle.extents_meaning.specs.Maps.{fours, mapOf, mapFor, spaceIn, runs, bytesOf, lawful, lawfulPublished, mapAt, withMap}
+use Rattle.extents_meaning.specs.Maps.{fours, mapOf, mapFor, spaceIn, runs, bytesOf, lawful, lawfulPublished, mapAt, withMap, partAt, withPart}
 use Rattle.extents_meaning.proofs.Longest.{runs-same}
 use Rattle.extents_meaning.proofs.Trips.{lawful-map, map-back, map-lawful}
 use Rattle.rows.proofs.Bools.{and-out}
 use Rattle.extents_meaning.specs.Pairs.{twoMaps, viewOf, belowOf}
-use Rattle.extents_pair.specs.Packing.{marked, Marked, partAt, withPart, packedIn, mergedOf, Packed}
+use Rattle.extents_pair.specs.Packing.{marked, Marked, packedIn, mergedOf, Packed}
 use Rattle.extents_pair.proofs.Spots.{outside, zero-behind}
 use Rattle.extents_pair.proofs.Gathering.{marked-all, marked-lawful, marked-refresh, refreshed-none}
 use Rattle.extents_pair.proofs.Filling.{beside}
@@ -55,7 +55,7 @@ next-place k size = ap (λ (n : ℕ). n * size) (add-one k) ∙ suc-mul k size
 -- ---- Two maps
 
 -- both maps: apart, within the slice, and lawful
-pub record Two (space view below : ℕ) (xs : List ℕ) : Type 0 where
+pub record ViewAndBelow (space view below : ℕ) (xs : List ℕ) : Type 0 where
   pub apart : (placeOf space below + 4 * space ≤ placeOf space view) ⊎ (placeOf space view + 4 * space ≤ placeOf space below)
   pub view-in : placeOf space view + space * 4 ≤ length xs
   pub below-in : placeOf space below + space * 4 ≤ length xs
@@ -63,7 +63,7 @@ pub record Two (space view below : ℕ) (xs : List ℕ) : Type 0 where
   pub below-law : lawfulPublished (mapAt space below xs) ≡ true
 
 -- so where the test passes
-pub two-maps : (space view below : ℕ) (xs : List ℕ) → twoMaps space view below xs ≡ true → Two space view below xs
+pub two-maps : (space view below : ℕ) (xs : List ℕ) → twoMaps space view below xs ≡ true → ViewAndBelow space view below xs
 two-maps space view below xs t =
     let a = and-out (not (eqb view below)) _ t in
     let b = and-out (leb ((view + 1) * (4 * space)) (length xs)) _ (a .1) in
@@ -125,7 +125,7 @@ beside-same xs v w size part h k l a =
         ∙ outside xs v size part (w + i) h l (beside size a (omega arith) (omega (arith, q)))
         ∙ sym (getD-drop w xs i 0) ∙ sym (getD-take size (drop w xs) i 0 q)
 
-module _ {space view below : ℕ} {xs : List ℕ} (m : Two space view below xs) (first all others : ℕ) (last : List ℕ)
+module _ {space view below : ℕ} {xs : List ℕ} (m : ViewAndBelow space view below xs) (first all others : ℕ) (last : List ℕ)
     (tells : (first + length (marked (runs (lent space view xs))) ≡ spaceIn (lent space view xs))
     × (drop (4 * first) last ≡ fours (marked (runs (lent space view xs)))) × (take (4 * first) last ≡ take (4 * first) (lent space view xs)))
     (kept : length last ≡ length (lent space view xs)) (own : all ≡ length (runs (lent space view xs)))
@@ -220,9 +220,9 @@ module _ {space view below : ℕ} {xs : List ℕ} (m : Two space view below xs) 
       ∙ zero-behind (mapAt space view xs) (m .view-law) q (omega (arith, own-all, h))
 
   -- the published map is as it was
-  below-is : partAt space w ms ≡ mapAt space below xs
+  below-is : partAt w (4 * space) ms ≡ mapAt space below xs
   below-is =
-      ap (λ (q : List ℕ). partAt space w q) parts
+      ap (λ (q : List ℕ). partAt w (4 * space) q) parts
       ∙ beside-same xs v w (4 * space) last (omega (arith, m .view-in)) (omega (arith, m .below-in)) last-length (m .apart)
       ∙ ap (λ (q : ℕ). take (4 * space) (drop q xs)) (place-is space below)
 
@@ -254,7 +254,7 @@ module _ {space view below : ℕ} {xs : List ℕ} (m : Two space view below xs) 
       }
 
   -- and the slice with it is what a refresh leaves
-  pub view-refreshed : {zs : List ℕ} → zs ≡ withPart space v (mapFor space (mergedOf space v w first ms)) ms →
+  pub view-refreshed : {zs : List ℕ} → zs ≡ withPart v (4 * space) (mapFor space (mergedOf space v w first ms)) ms →
       zs ≡ withMap space view (mapFor space (refreshed (viewOf space view below xs) (belowOf space view below xs))) xs
   view-refreshed q =
       let a : take v ms ≡ take v xs = ap (take v) parts ∙ take-at (take v xs) (last ++ drop (v + 4 * space) xs) v front-length in

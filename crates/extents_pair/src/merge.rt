@@ -7,9 +7,9 @@ ghost use lib.ListN.{length, getD, take, drop, replicate};
 ghost use lib.Dec.{eqb};
 ghost use Rattle.extents_meaning.specs.Cells.{asPublished, refreshed};
 ghost use Rattle.extents_meaning.specs.Runs.{runsOf};
-ghost use Rattle.extents_meaning.specs.Maps.{fours, mapFor, spaceIn, runs, bytesOf, lawful, mapAt, withMap};
+ghost use Rattle.extents_meaning.specs.Maps.{fours, mapFor, spaceIn, runs, bytesOf, lawful, mapAt, withMap, withPart};
 ghost use Rattle.extents_meaning.specs.Pairs.{twoMaps, viewOf, belowOf};
-ghost use Rattle.extents_pair.specs.Packing.{marked, Meet, Alone, withPart, mergedOf, Packed};
+ghost use Rattle.extents_pair.specs.Packing.{marked, Meet, Alone, mergedOf, Packed};
 ghost use Rattle.rows.specs.Limits.{OFFSET-MAX};
 
 // Marks the unpublished runs of a map published, of which there are `own`: a mark is put to 0 where no neighbour touches the run with the same
@@ -182,7 +182,7 @@ fn interleave(
     first: usize,
 )
     requires { ⌜ Packed space v w all others first (now maps) ⌝ }
-    ensures { λ _. ⌜ now (maps .exit) ≡ withPart space v (mapFor space (mergedOf space v w first (now (maps .entry)))) (now (maps .entry)) ⌝ }
+    ensures { λ _. ⌜ now (maps .exit) ≡ withPart v (4 * space) (mapFor space (mergedOf space v w first (now (maps .entry)))) (now (maps .entry)) ⌝ }
 {
     let mut j = first;
     let mut n = 0;

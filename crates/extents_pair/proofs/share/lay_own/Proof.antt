@@ -7,9 +7,8 @@ use mathlib.Core.List.{List}
 use lib.ListN.{length, drop}
 use denote.Ref.{now}
 use Rattle.extents_meaning.specs.Cells.{cleared}
-use Rattle.extents_meaning.specs.Maps.{runs, bytesOf}
+use Rattle.extents_meaning.specs.Maps.{runs, bytesOf, partAt}
 use Rattle.extents_pair.specs.Packing.{marked}
-use Rattle.extents_pair.specs.RangeWrites.{partAt}
 use Rattle.extents_pair.proofs.Bounds.{laid}
 use Rattle.extents_pair.proofs.Parts.{Holds, holds-start, holds-length, lent-view, lent-lawful, lent-below}
 use Rattle.extents_pair.proofs.Passing.{lent-run}

@@ -6,8 +6,8 @@ use mathlib.Core.Path.{_≡_, refl, sym, ap, _∙_}
 use mathlib.Core.List.{List}
 use lib.ListN.{length}
 use denote.Ref.{now}
-use Rattle.extents_meaning.specs.Maps.{runs, bytesOf}
-use Rattle.extents_pair.specs.RangeWrites.{partAt, withBytes}
+use Rattle.extents_meaning.specs.Maps.{runs, bytesOf, partAt}
+use Rattle.extents_pair.specs.RangeWrites.{withBytes}
 use Rattle.extents_pair.proofs.Parts.{Holds, holds-start, holds-length, lent-view, lent-lawful, lent-below}
 use Rattle.extents_pair.proofs.Passing.{state, lent-run, down-start, down-next, down-skip, down-none}
 use Rattle.extents_pair.proofs.share.pass_down.Statement.{statement}
