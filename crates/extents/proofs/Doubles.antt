@@ -46,11 +46,11 @@ module _ (f g : Bytes) (same : (b : ℕ) → f b ≡ g b) (space : ℕ) {r : Boo
   unfolding runsOf
   told-of = e ∙ ap (λ (l : List Run). leb (length l) space) (same-from 4294967295 0 f g (λ b l k. same b))
 
-  -- they do
+  -- The runs fit.
   enough : not r ≡ false → length (runsOf g) ≤ space
   enough q = leb-true (length (runsOf g)) space (sym told-of ∙ not-false r q)
 
-  -- they do not
+  -- The runs do not fit.
   short : not r ≡ true → space < length (runsOf g)
   short q = leb-false (length (runsOf g)) space (sym told-of ∙ not-true r q)
 
@@ -192,7 +192,7 @@ module _ (space view below : ℕ) (xs : List ℕ) where
         pub view-law-after : lawful (mapAt space view ys) ≡ true
         view-law-after = ap lawful view-after ∙ told two .view-law
 
-        -- it has as many unpublished runs
+        -- The view has as many unpublished runs as before.
         pub own-after : {k : ℕ} → k ≡ length (marked (runs (mapAt space view xs))) → k ≡ length (marked (runs (mapAt space view ys)))
         own-after e = e ∙ ap (λ (m : List ℕ). length (marked (runs m))) (sym view-after)
 
@@ -292,7 +292,7 @@ module _ (space view below : ℕ) (xs : List ℕ) where
         pub view-law-fresh : lawful (mapAt space view ys) ≡ true
         view-law-fresh = ap lawful view-fresh ∙ map-lawful space (runsOf (refreshed own base)) fresh-lawful fit
 
-        -- its pieces are those of the refreshed bytes
+        -- The pieces of the refreshed map are those of the refreshed bytes.
         pub pieces-fresh : (start n : ℕ) → start + n ≤ OFFSET-MAX →
             piecesOf (bytesOf (mapAt space view ys)) start (start + n - start) ≡ piecesOf (refreshed own base) start n
         pieces-fresh start n end =
@@ -472,7 +472,7 @@ module _ (space view below : ℕ) (xs : List ℕ) where
                 pub view-law-written-through : lawful (mapAt space view ys) ≡ true
                 view-law-written-through = ap lawful view-written-through ∙ told two .view-law
 
-                -- as many unpublished runs
+                -- The view has as many unpublished runs as before.
                 pub own-written-through : {k : ℕ} → k ≡ length (marked (runs (mapAt space view xs))) → k ≡ length (marked (runs (mapAt space view ys)))
                 own-written-through e = e ∙ ap (λ (m : List ℕ). length (marked (runs m))) (sym view-written-through)
 

@@ -116,7 +116,7 @@ module _ (space view below : ℕ) (xs : List ℕ) where
   abbrev pub PublishEntry : Answer → List ℕ → Type 0
   PublishEntry = Entry publishRefusal Done publishedMaps xs
 
-  -- refresh it
+  -- refresh the view
   unfoldable pub refreshRefusal : ℕ
   refreshRefusal = firstNo (asksLaw (twoMaps space view below xs) ∷ asksBoth (refreshed own base) base)
 

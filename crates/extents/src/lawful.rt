@@ -40,6 +40,7 @@ pub fn write(map: &mut [u32], start: u32, length: u32, number: u32, unpublished:
     }
 }
 
+// The cell of a row number with its mark.
 fn cell_of(number: u32, unpublished: bool) -> u32
     requires { ⌜ number ≤ ROWS ⌝ }
     ensures { λ r. ⌜ r ≡ cellOf number (markBit unpublished) ⌝ }
@@ -65,8 +66,8 @@ pub fn list_range(map: &[u32], start: u32, length: u32, out: &mut [u32]) -> Answ
     Answer::Listed(n as u32)
 }
 
-// Has a range of a map more pieces than there is room for? A range has at most two for each run of the map, and one more: they are counted only
-// where the room may lack.
+// Has a range of a map more pieces than there is room for? A range has at most two for each run of the map, and one more: the walk counts them
+// only where the room may lack.
 fn lacks(map: &[u32], from: u32, to: u32, room: usize) -> bool
     requires { ⌜ (lawful (now map) ≡ true) × (from ≤ to) ⌝ }
     ensures { λ r. ⌜ r ≡ ltb room (length (piecesOf (bytesOf (now (map .entry))) from (to - from))) ⌝ }

@@ -88,7 +88,7 @@ module _ {map below : List ℕ} {mix : Mix} {from to x n last i j : ℕ} (k : Co
     further : x < y
     further = omega (arith, a .on, b .on, d .0 (omega (arith, a .on, a .most)))
 
-    -- so fewer bytes are left
+    -- Fewer bytes are left from y on than from x on.
     pub count-less : to - y < to - x
     count-less = omega (arith, further)
 
@@ -102,7 +102,7 @@ module _ {map below : List ℕ} {mix : Mix} {from to x n last i j : ℕ} (k : Co
           let g = sym (b .cells z o (omega arith)) in
           sym (m ∙ (λ t. mixed (mix .mode) ((q ∙ i) t) (mix .cell) (f t) (g t)))
 
-      -- and the runs before y are counted
+      -- The turn counts the runs before y.
       pub count-next : Counted map below mix from to y (n + new) here (v .at) (w .at)
       count-next =
           let f : x ≤ y = omega (arith, further) in

@@ -32,7 +32,7 @@ pub record Here (xs : List ℕ) (i : ℕ) : Type 0 where
   pub low : runNo (runs xs) i .cell ≤ 8193
   pub filled : 1 ≤ getD xs (i * 4 + 1) 0
 
--- it is that run
+-- At the place of run i stands run i.
 pub here : (xs : List ℕ) (i : ℕ) → lawful xs ≡ true → i < length (runs xs) → Here xs i
 here xs i e h =
     let m = lawful-map xs e in
@@ -66,7 +66,7 @@ module _ (xs : List ℕ) (e : lawful xs ≡ true) (i : ℕ) where
       ∙ ap (λ (ys : List ℕ). getD ys k 0) (rest-at xs e (runs xs) [] n (sym (append-nil (runs xs))) refl ∙ map-none (spaceIn xs - n))
       ∙ zeros (4 * (spaceIn xs - n)) k
 
-  -- so a run stands where the length is another
+  -- A run stands where the length is other than 0.
   pub count-some : (getD xs (i * 4 + 1) 0 ≡ 0 → ⊥) → i < length (runs xs)
   count-some f = go (decLt i (length (runs xs)))
     where
@@ -74,7 +74,7 @@ module _ (xs : List ℕ) (e : lawful xs ≡ true) (i : ℕ) where
       go (yes h) = h
       go (no h) = absurd (f (length-none (omega arith)))
 
-  -- and none where it is 0
+  -- No run stands where the length is 0.
   pub count-none : getD xs (i * 4 + 1) 0 ≡ 0 → length (runs xs) ≤ i
   count-none z = go (decLt i (length (runs xs)))
     where

@@ -1,4 +1,4 @@
-// Reading maps: whether one is lawful, what stands at a byte, and how many runs a mix of two maps has.
+// Reading maps: whether a map is lawful, which cell a byte has, and how many runs a mix of two maps has.
 ghost use Prim.Native.Nat.{ℕ, _+_, _*_, _-_, _≤_, _<_, min, max};
 ghost use mathlib.Core.Path.{_≡_};
 ghost use mathlib.Core.Bool.{true, cond, not, _&&_};
@@ -11,14 +11,14 @@ ghost use Rattle.extents_map.specs.Mixes.{mixed as Mixes·mixed, mixIn};
 ghost use Rattle.extents_map.specs.Cursors.{Passed, Seen};
 ghost use Rattle.rows.specs.Limits.{OFFSET-MAX, ROWS};
 
-// What stands at a byte: its cell, the next byte that may have another, and the run to go on from.
+// The cell of a byte, the next byte that may have another cell, and the run to go on from.
 pub struct Look {
     pub cell: u32,
     pub next: u32,
     pub at: usize,
 }
 
-// Runs in rising order, longest, with row numbers 1 to 4,096 and marks 0 or 1, then 0.
+// Does the map hold longest runs in rising order, with row numbers 1 to 4,096 and marks 0 or 1, and then 0?
 pub fn is_lawful(map: &[u32]) -> bool
     ensures { λ r. ⌜ r ≡ lawful (now (map .entry)) ⌝ }
 {
@@ -48,7 +48,7 @@ pub fn is_lawful(map: &[u32]) -> bool
     true
 }
 
-// Only 0 from a place on: all bits together.
+// Are all numbers from a place on 0? The loop gathers their bits.
 fn is_zero(map: &[u32], from: usize) -> bool
     ensures { λ r. ⌜ r ≡ allZero (drop from (now (map .entry))) ⌝ }
 {
@@ -61,7 +61,7 @@ fn is_zero(map: &[u32], from: usize) -> bool
     bits == 0
 }
 
-// A run may follow one that ends at `end` with a cell.
+// May a run follow one that ends at `end` with the cell `cell`?
 fn may_follow(end: u32, cell: u32, start: u32, length: u32, number: u32, mark: u32) -> bool
     ensures { λ r. ⌜ r ≡ follows end cell start length number mark ⌝ }
 {
@@ -89,7 +89,7 @@ fn may_follow(end: u32, cell: u32, start: u32, length: u32, number: u32, mark: u
     true
 }
 
-// A lawful map whose marks are all 0.
+// Is the map lawful, with every mark 0?
 pub fn is_published(map: &[u32]) -> bool
     ensures { λ r. ⌜ r ≡ lawfulPublished (now (map .entry)) ⌝ }
 {
@@ -99,6 +99,7 @@ pub fn is_published(map: &[u32]) -> bool
     has_no_marks(map)
 }
 
+// Is every mark of a map 0?
 fn has_no_marks(map: &[u32]) -> bool
     ensures { λ r. ⌜ r ≡ noMarks (runs (now (map .entry))) ⌝ }
 {
@@ -117,7 +118,7 @@ fn has_no_marks(map: &[u32]) -> bool
     true
 }
 
-// What stands at byte x, from a run on before which all end at x or earlier.
+// The cell at byte x. All runs before index `from` end at or before x.
 pub fn see(map: &[u32], from: usize, x: u32) -> Look
     requires { ⌜ lawful (now map) ≡ true ⌝ }
     requires { ⌜ Passed (runs (now map)) from x × (x < OFFSET-MAX) ⌝ }
@@ -159,7 +160,7 @@ pub fn see(map: &[u32], from: usize, x: u32) -> Look
     }
 }
 
-// A run from which on byte x can be seen: all before it end at x or earlier.
+// An index of a run from which `see` may look for byte x: all runs before it end at or before x.
 pub fn seek(map: &[u32], x: u32) -> usize
     requires { ⌜ lawful (now map) ≡ true ⌝ }
     ensures { λ r. ⌜ Passed (runs (now (map .entry))) r x ⌝ }
@@ -249,7 +250,7 @@ fn mixed(mix: Mix, inside: bool, v: u32, w: u32) -> u32
     }
 }
 
-// 1 where a cell other than 0 differs from the one before it.
+// 1 where a cell is neither 0 nor the cell of the byte before, else 0.
 fn begins(here: u32, last: u32) -> usize
     ensures { λ r. ⌜ r ≡ cond (not (eqb here 0) && not (eqb here last)) 1 0 ⌝ }
 {
@@ -262,6 +263,7 @@ fn begins(here: u32, last: u32) -> usize
     1
 }
 
+// Does byte x lie in a range?
 fn is_inside(start: u32, end: u32, x: u32) -> bool
     requires { ⌜ start ≤ end ⌝ }
     ensures { λ r. ⌜ r ≡ inRange start (end - start) x ⌝ }
@@ -272,7 +274,7 @@ fn is_inside(start: u32, end: u32, x: u32) -> bool
     x < end
 }
 
-// The next end of a range behind x.
+// The next byte behind x at which a range starts or ends.
 fn edge(start: u32, end: u32, x: u32) -> u32
     ensures { λ r. ⌜ (x < OFFSET-MAX → x < r) × ((b : ℕ) → x ≤ b → b < r → inRange start (end - start) b ≡ inRange start (end - start) x) ⌝ }
 {

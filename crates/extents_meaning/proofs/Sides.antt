@@ -90,7 +90,7 @@ module _ (space k : ℕ) (m xs : List ℕ) (size : length m ≡ 4 * space) (fit 
           (omega (arith, length-drop (k * (4 * space)) (withMap space k m xs), with-length, fit))
           ∙ sym size
 
-  -- its numbers are there
+  -- The numbers of the map stand at its place.
   pub with-in : (i : ℕ) → i < 4 * space → getD (withMap space k m xs) (k * (4 * space) + i) 0 ≡ getD m i 0
   with-in i h = ap (λ (l : List ℕ). getD l (k * (4 * space) + i) 0) with-part ∙ part-in (k * (4 * space)) m xs room i (omega (arith, size))
 
@@ -99,7 +99,7 @@ module _ (space k : ℕ) (m xs : List ℕ) (size : length m ≡ 4 * space) (fit 
   with-other i (inl l) = ap (λ (l : List ℕ). getD l i 0) with-part ∙ part-before (k * (4 * space)) m xs room i l
   with-other i (inr l) = ap (λ (l : List ℕ). getD l i 0) with-part ∙ part-behind (k * (4 * space)) m xs room i (omega (arith, size))
 
-  -- and so is every other map
+  -- Every other map is as it was.
   pub at-other : (j : ℕ) → (j ≡ k → ⊥) → mapAt space j (withMap space k m xs) ≡ mapAt space j xs
   at-other j apart =
       ext-getD 0 (mapAt space j (withMap space k m xs)) (mapAt space j xs)

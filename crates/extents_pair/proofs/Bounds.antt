@@ -31,13 +31,13 @@ use Rattle.extents_pair.proofs.Pairing.{Told, two-told, lentMap, map-le
 -- bytes g that have the cell c from a to e, and elsewhere the cells of f
 module _ (a e c : ℕ) (f g : Bytes) (inside : (b : ℕ) → a ≤ b → b < e → g b ≡ c) (before : (b : ℕ) → b < a → g b ≡ f b)
     (behind : (b : ℕ) → a ≤ b → e ≤ b → g b ≡ f b) where
-  -- behind the range they have the starts of f
+  -- Behind the range the bytes g have the starts of f.
   starts-behind : (n s p : ℕ) → a ≤ s → e ≤ s → starts n s p g ≡ starts n s p f
   unfolding starts
   starts-behind zero s p h k = refl
   starts-behind (suc n) s p h k = rw (behind s h k) (omega (arith, starts-behind n (suc s) (f s) (omega arith) (omega arith)))
 
-  -- from a byte of the range on they have at most one more
+  -- From a byte of the range on the bytes g have at most one start more.
   starts-inside : (n s p : ℕ) → a ≤ s → s ≤ e → starts n s c g ≤ starts n s p f + 1
   unfolding starts
   starts-inside zero s p h k = omega arith
@@ -50,7 +50,7 @@ module _ (a e c : ℕ) (f g : Bytes) (inside : (b : ℕ) → a ≤ b → b < e �
           let r = starts-behind n (suc s) (f s) (omega arith) (omega arith) in
           rw (behind s h (omega arith)) (omega (arith, begins-most (f s) c, r))
 
-  -- from a byte before it on at most two
+  -- From a byte before the range on the bytes g have at most two starts more.
   starts-before : (n s p : ℕ) → s ≤ a → starts n s p g ≤ starts n s p f + 2
   unfolding starts
   starts-before zero s p h = omega arith
@@ -168,7 +168,7 @@ module _ (space view below : ℕ) (xs : List ℕ) (two : twoMaps space view belo
         omega (arith, e, m .fit, map-space space k xs fit),
       )
 
-  -- so there is room to count
+  -- The count of a lent map's runs is at most the space.
   pub view-room : {k : ℕ} → k ≡ length (runs (lentMap space view xs)) → k ≤ space
   view-room e = omega (arith, e, lent-count view (told .view-in) (told .view-law) .1)
 
@@ -228,7 +228,7 @@ pub record Tally (xs : List ℕ) (n i : ℕ) : Type 0 where
   pub found : n + length (marked (drop i (runs xs))) ≡ length (marked (runs xs))
 
 module _ (xs : List ℕ) where
-  -- none yet
+  -- At first no unpublished run is counted.
   pub tally-none : Tally xs 0 0
   tally-none = record { passed = omega arith; found = omega arith }
 
@@ -252,7 +252,7 @@ module _ (xs : List ℕ) where
         ap (λ (l : List Run). length (marked l)) e ∙ marked-first one (drop (i + 1) (runs xs)) in
         record { passed = omega (arith, h); found = omega (arith, k .found, m, mark-here) }
 
-  -- in the end all of them
+  -- In the end all unpublished runs are counted.
   pub tally-all : {n i : ℕ} → Tally xs n i → length (runs xs) ≤ i → n ≡ length (marked (runs xs))
   unfolding marked
   tally-all {n} {i} k h =

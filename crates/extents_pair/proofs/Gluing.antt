@@ -72,7 +72,7 @@ range-clear : (t : Bool) (c d : ℕ) → cond t (cellOf (numberIn c) 0) (cleared
 range-clear true c d = refl
 range-clear false c d = refl
 
--- what they mean
+-- The meaning of glued runs.
 glue-mean : (s l m : ℕ) (rs : List Run) (b : ℕ) → cellAt (glue s l m rs) b ≡ cond (inRange s l b) (cellOf m 0) (cleared (cellAt rs b))
 unfolding glue cellAt
 glue-mean s l m [] b = refl

@@ -67,7 +67,7 @@ module _ (f : Bytes) where
   unfolding runsOf piecesOf
   pieces-few s n h = omega (arith, count-starts n s named, count-starts OFFSET-MAX 0 f, named-part s OFFSET-MAX n 0 0 s (omega arith) h)
 
-  -- so they fit a room for as many
+  -- A room for two pieces of each run, and one more, is enough.
   pub room-enough : (s n room : ℕ) {k : ℕ} → s + n ≤ OFFSET-MAX → length (runsOf f) ≤ k → 2 * k + 1 ≤ room →
       false ≡ ltb room (length (piecesOf f s n))
   room-enough s n room h m l = sym (le-ltb room (length (piecesOf f s n)) (omega (arith, pieces-few s n h)))
@@ -82,7 +82,7 @@ module _ (s n : ℕ) where
       let m = ap (λ (l : List Run). length l) (runs-back (runs xs) (lawful-map xs law .lawful-runs)) in
       room-enough (bytesOf xs) s n room h (omega (arith, e, m)) l
 
-  -- and for those of a view after a refresh, whose runs the mix has
+  -- There is room for the pieces of a view after a refresh, whose runs the mix has.
   pub fresh-enough : (v w : Bytes) (room : ℕ) {k : ℕ} → s + n ≤ OFFSET-MAX → length (runsOf (mix Refresh 0 0 0 v w)) ≤ k → 2 * k + 1 ≤ room →
       false ≡ ltb room (length (piecesOf (refreshed v w) s n))
   unfolding mixed
@@ -103,10 +103,10 @@ module _ (f : Bytes) (s n size : ℕ) {r : Bool} (e : r ≡ ltb (size / 3) (leng
   there : length (piecesOf f s (s + n - s)) ≡ length (piecesOf f s n)
   there = ap (λ (l : List Run). length l) (pieces-there f s n)
 
-  -- they do not fit
+  -- The pieces do not fit the answer slice.
   pub slice-short : r ≡ true → size < 3 * length (piecesOf f s n)
   slice-short q = omega (arith, there, ltb-true (size / 3) (length (piecesOf f s (s + n - s))) (sym e ∙ q))
 
-  -- they do
+  -- The pieces fit the answer slice.
   pub slice-enough : r ≡ false → 3 * length (piecesOf f s n) ≤ size
   slice-enough q = omega (arith, there, ltb-false (size / 3) (length (piecesOf f s (s + n - s))) (sym e ∙ q))

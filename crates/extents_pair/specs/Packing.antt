@@ -14,7 +14,7 @@ unfoldable pub marked : List Run → List Run
 marked [] = []
 marked (r ∷ rs) = cond (unpublished (r .cell)) (r ∷ marked rs) (marked rs)
 
--- all of them are
+-- All runs of a list are unpublished.
 abbrev pub Marked : List Run → Type 0
 Marked [] = Unit {0}
 Marked (r ∷ rs) = (unpublished (r .cell) ≡ true) × Marked rs
@@ -26,7 +26,7 @@ Meet rs i =
     × (getD rs i (runOf 0 0 0) .start + getD rs i (runOf 0 0 0) .length ≡ getD rs (suc i) (runOf 0 0 0) .start)
     × (numberIn (getD rs i (runOf 0 0 0) .cell) ≡ numberIn (getD rs (suc i) (runOf 0 0 0) .cell))
 
--- run i has no such neighbour
+-- Run i has no neighbour that it would join.
 pub record Alone (rs : List Run) (i : ℕ) : Type 0 where
   pub before : 0 < i → Meet rs (i - 1) → ⊥
   pub behind : Meet rs i → ⊥
@@ -35,7 +35,7 @@ pub record Alone (rs : List Run) (i : ℕ) : Type 0 where
 abbrev pub packedIn : ℕ → ℕ → ℕ → List ℕ → List ℕ
 packedIn space v first xs = drop (4 * first) (partAt v (4 * space) xs)
 
--- they, and in the gaps the published map at w
+-- The refreshed bytes: the packed runs, and in the gaps the published map at w.
 abbrev pub mergedOf : ℕ → ℕ → ℕ → ℕ → List ℕ → Bytes
 mergedOf space v w first xs = refreshed (bytesOf (packedIn space v first xs)) (bytesOf (partAt w (4 * space) xs))
 

@@ -25,7 +25,7 @@ unfoldable pub rangeWrite : ℕ → ℕ → Run → RangeWrite
 rangeWrite lo hi r =
     rangeWriteOf (clamped lo hi (r .start)) (clamped lo hi (cond (unpublished (r .cell)) (r .start + r .length) (r .start))) (cleared (r .cell))
 
--- those of all runs
+-- The range writes of all runs.
 unfoldable pub rangeWrites : ℕ → ℕ → List Run → List RangeWrite
 rangeWrites lo hi [] = []
 rangeWrites lo hi (r ∷ rs) = rangeWrite lo hi r ∷ rangeWrites lo hi rs
@@ -47,11 +47,11 @@ taken lo hi view below b = cond (inRange lo (hi - lo) b) (published view below b
 
 -- ---- Two maps in a slice
 
--- the slice with the map of some bytes in that place
+-- The slice with the map of some bytes in place of a part.
 abbrev pub withBytes : ℕ → ℕ → Bytes → List ℕ → List ℕ
 withBytes size at f xs = withPart at size (mapFor (size / 4) f) xs
 
--- two lawful maps stand apart in a slice
+-- Two lawful maps stand apart in a slice.
 pub record MapsApart (size v w : ℕ) (xs : List ℕ) : Type 0 where
   pub view-in : v + size ≤ length xs
   pub below-in : w + size ≤ length xs
@@ -68,11 +68,11 @@ module _ (size v w lo hi : ℕ) (xs : List ℕ) where
   abbrev pub passedDown : Bytes
   passedDown = downs passing (bytesOf (partAt w size xs))
 
-  -- what the pass up makes of them
+  -- What the pass up makes of the published map's bytes.
   abbrev pub passedUp : Bytes
   passedUp = taken lo hi (bytesOf (partAt v size xs)) (bytesOf (partAt w size xs))
 
-  -- a pass up is ready: a pass down was made, and the map fits at the end
+  -- A pass up may start: a pass down was made, and the map fits at the end.
   pub record PassUpReady : Type 0 where
     pub fit : length (runsOf passedUp) ≤ size / 4
     pub level : (b : ℕ) → bytesOf (partAt w size xs) b ≡ downs passing passedUp b

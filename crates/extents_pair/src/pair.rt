@@ -24,7 +24,7 @@ pub struct Pair {
     pub own: usize,
 }
 
-// Two lawful maps at two places of a slice, the second one published.
+// Do two lawful maps stand at two places of a slice, the second one published?
 pub fn two_maps(maps: &[u32], space: usize, view: usize, below: usize) -> bool
     ensures { λ r. ⌜ r ≡ twoMaps space view below (now (maps .entry)) ⌝ }
 {
@@ -46,7 +46,7 @@ pub fn two_maps(maps: &[u32], space: usize, view: usize, below: usize) -> bool
     extents_map::scan::is_published(&maps[w..w + size])
 }
 
-// The slice is long enough for map k.
+// Is the slice long enough for map k?
 fn has_map(maps: &[u32], space: usize, k: usize) -> bool
     ensures { λ r. ⌜ r ≡ leb ((k + 1) * (4 * space)) (length (now (maps .entry))) ⌝ }
 {
@@ -85,7 +85,7 @@ pub fn own_runs(maps: &[u32], space: usize, k: usize) -> usize
     marked_in(&maps[at..at + size])
 }
 
-// Does a mix of a view, the published map and a range fit a map's space? Its runs are counted only where the most that there can be are too
+// Does a mix of a view, the published map and a range fit a map's space? The walk counts its runs only where the most that there can be are too
 // many.
 pub fn fits(maps: &[u32], pair: Pair, mode: Mode, start: u32, end: u32, cell: u32) -> bool
     requires { ⌜ twoMapsIn pair (now maps) ≡ true ⌝ }
@@ -106,7 +106,7 @@ pub fn fits(maps: &[u32], pair: Pair, mode: Mode, start: u32, end: u32, cell: u3
     count(maps, pair, made, 0, rows::OFFSET_MAX) <= space
 }
 
-// No mix of a view, the published map and any range has more runs.
+// The most runs that a mix of a view, the published map and any range can have.
 fn most_runs(maps: &[u32], pair: Pair, mode: Mode) -> usize
     requires { ⌜ (twoMapsIn pair (now maps) ≡ true) × (makesMap mode ≡ true) × OwnCounted pair (now maps) ⌝ }
     ensures { λ r. ⌜ ((start n cell : ℕ) → length (runsOf (mix mode start n cell
@@ -138,8 +138,8 @@ fn is_mark_published(mode: Mode) -> bool
     }
 }
 
-// Has a range of a view more pieces after a refresh than there is room for? A range has at most two for each run, and one more: they are counted
-// only where the room may lack.
+// Has a range of a view more pieces after a refresh than there is room for? A range has at most two for each run, and one more: the walk counts
+// them only where the room may lack.
 pub fn lacks(maps: &[u32], pair: Pair, from: u32, to: u32, room: usize) -> bool
     requires { ⌜ twoMapsIn pair (now maps) ≡ true ⌝ }
     requires { ⌜ (from ≤ to) × OwnCounted pair (now maps) ⌝ }
@@ -173,7 +173,7 @@ fn marked_in(map: &[u32]) -> usize
     n
 }
 
-// Marks a map published, of whose runs `own` are not.
+// Marks the `own` unpublished runs of map k published.
 pub fn mark_published(maps: &mut [u32], space: usize, k: usize, own: usize)
     requires { ⌜ (k + 1) * (4 * space) ≤ length (now maps) ⌝ }
     requires { ⌜ (lawful (mapAt space k (now maps)) ≡ true) × (own ≡ length (marked (runs (mapAt space k (now maps))))) ⌝ }
@@ -184,7 +184,7 @@ pub fn mark_published(maps: &mut [u32], space: usize, k: usize, own: usize)
     crate::merge::mark_published(&mut maps[at..at + size], own);
 }
 
-// Gives a range of a map a cell, where it fits then.
+// Gives a range of map k a cell, where the map fits then.
 pub fn lay(maps: &mut [u32], space: usize, k: usize, start: u32, end: u32, cell: u32)
     requires { ⌜ (k + 1) * (4 * space) ≤ length (now maps) ⌝ }
     requires { ⌜ lawful (mapAt space k (now maps)) ≡ true ⌝ }

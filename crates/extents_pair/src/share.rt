@@ -92,7 +92,7 @@ fn pass_down(maps: &mut [u32], size: usize, v: usize, w: usize, lo: u32, hi: u32
     }
 }
 
-// Gives each its own cell, from left to right.
+// Gives each unpublished range of a view between two bytes its own cell, from left to right.
 fn pass_up(maps: &mut [u32], size: usize, v: usize, w: usize, lo: u32, hi: u32)
     requires { ⌜ MapsApart size v w (now maps) × (lo ≤ hi) × PassUpReady size v w lo hi (now maps) ⌝ }
     ensures { λ _. ⌜ now (maps .exit) ≡ withBytes size w (passedUp size v w lo hi (now (maps .entry))) (now (maps .entry)) ⌝ }
@@ -120,7 +120,7 @@ fn is_own(map: &[u32], i: usize) -> bool
     map[i * 4 + 3] == 1
 }
 
-// What is to be written of run i, an unpublished one, between two bytes.
+// The part of run i, an unpublished one, that a pass between two bytes writes.
 fn range_write_at(map: &[u32], i: usize, lo: u32, hi: u32) -> RangeWrite
     requires { ⌜ (lawful (now map) ≡ true) × (i < length (runs (now map))) × (i * 4 + 4 ≤ length (now map))
         × (unpublished (getD (runs (now map)) i (runOf 0 0 0) .cell) ≡ true) ⌝ }

@@ -16,6 +16,7 @@ use Rattle.extents_pair.proofs.Laying.{lay-start, lay-skip, lay-fine, l
 use Rattle.extents_pair.proofs.share.lay_own.Statement.{statement}
 use Rattle.extents_pair.proofs.share.lay_own.Tie as tie
 
+-- The slice holds the published map with the unpublished runs from run i on laid over it.
 abbrev Inv-loop : tie.InvT-loop
 Inv-loop maps₀ size v w i₀ maps i =
     (i ≤ length (runs (partAt v size maps₀))) × (length maps ≡ length maps₀)

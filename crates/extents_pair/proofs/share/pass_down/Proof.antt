@@ -13,6 +13,7 @@ use Rattle.extents_pair.proofs.Passing.{state, lent-run, down-start, do
 use Rattle.extents_pair.proofs.share.pass_down.Statement.{statement}
 use Rattle.extents_pair.proofs.share.pass_down.Tie as tie
 
+-- The slice holds the published map after the pass down of the runs from run i on.
 abbrev Inv-loop : tie.InvT-loop
 Inv-loop maps₀ size v w lo hi i₀ maps i =
     (i ≤ length (runs (partAt v size maps₀))) × (length maps ≡ length maps₀)

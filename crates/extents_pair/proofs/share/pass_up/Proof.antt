@@ -13,6 +13,7 @@ use Rattle.extents_pair.proofs.Passing.{state, state-end, lent-run, up-
 use Rattle.extents_pair.proofs.share.pass_up.Statement.{statement}
 use Rattle.extents_pair.proofs.share.pass_up.Tie as tie
 
+-- The slice holds the bytes to be left, with the runs from run i on still passed down.
 abbrev Inv-loop : tie.InvT-loop
 Inv-loop maps₀ size v w lo hi all i₀ maps i =
     (all ≡ length (runs (partAt v size maps₀))) × (i ≤ all) × (length maps ≡ length maps₀)
