@@ -21,9 +21,10 @@ use Rattle.extents_meaning.proofs.Passes.{over-before, over-behind}
 use Rattle.extents_meaning.proofs.Sides.{with-length, at-same, at-other, with-same, with-comm, with-over}
 use Rattle.extents.specs.declared.Answer.{Answer}
 use Rattle.extents.specs.declared.Answer.the-variants.{Done, Listed, Refused}
-use Rattle.extents_map.specs.Mixes.{PUBLISH, MARK-PUBLISHED, REFRESH, mixed, mix}
+use Rattle.extents_map.specs.Mixes.{mixed, mix}
+use Rattle.extents_map.specs.declared.scan.Mode.the-variants.{Publish, MarkPublished, Refresh}
 use Rattle.extents_meaning.specs.Pairs.{twoMaps, viewOf, belowOf}
-use Rattle.extents.specs.Entries.{orRefused, orKept, bothMaps, publishRefusal, publishedMaps, refreshRefusal, refreshedMaps, syncRefusal, syncedMaps, readRefusal, writeThroughRefusal, writtenThroughMaps, countOf}
+use Rattle.extents.specs.Entries.{orRefused, orKept, listedCount, bothMaps, publishRefusal, publishedMaps, PublishEntry, refreshRefusal, refreshedMaps, RefreshEntry, syncRefusal, syncedMaps, SyncEntry, writeThroughRefusal, writtenThroughMaps, WriteThroughEntry, readRefusal, ReadEntry}
 use Rattle.extents_pair.specs.Packing.{marked}
 use Rattle.extents.proofs.Entering.{accepted}
 use Rattle.extents_pair.proofs.Pairing.{Told, two-told, two-apart, map-space, map-whole}
@@ -45,19 +46,19 @@ module _ (f g : Bytes) (same : (b : ℕ) → f b ≡ g b) (space : ℕ) {r : Boo
   unfolding runsOf
   told-of = e ∙ ap (λ (l : List Run). leb (length l) space) (same-from 4294967295 0 f g (λ b l k. same b))
 
-  -- they do
+  -- The runs fit.
   enough : not r ≡ false → length (runsOf g) ≤ space
   enough q = leb-true (length (runsOf g)) space (sym told-of ∙ not-false r q)
 
-  -- they do not
+  -- The runs do not fit.
   short : not r ≡ true → space < length (runsOf g)
   short q = leb-false (length (runsOf g)) space (sym told-of ∙ not-true r q)
 
-pub mix-publish : (v w : Bytes) (b : ℕ) → mix PUBLISH 0 0 0 v w b ≡ published v w b
+pub mix-publish : (v w : Bytes) (b : ℕ) → mix Publish 0 0 0 v w b ≡ published v w b
 unfolding mixed
 mix-publish v w b = rw (empty-range b)
 
-pub mix-refresh : (v w : Bytes) (b : ℕ) → mix REFRESH 0 0 0 v w b ≡ refreshed v w b
+pub mix-refresh : (v w : Bytes) (b : ℕ) → mix Refresh 0 0 0 v w b ≡ refreshed v w b
 unfolding mixed
 mix-refresh v w b = refl
 
@@ -141,12 +142,12 @@ module _ (space view below : ℕ) (xs : List ℕ) where
   publish-unlawful e = publish-asks ∙ rw e
 
   -- whether the published map fits
-  module _ {r : Bool} (e : r ≡ leb (length (runsFrom (4294967295 - 0) 0 (mix PUBLISH 0 (0 - 0) 0 own base))) space) where
+  module _ {r : Bool} (e : r ≡ leb (length (runsFrom (4294967295 - 0) 0 (mix Publish 0 (0 - 0) 0 own base))) space) where
     pub publish-enough : not r ≡ false → length (runsOf (published own base)) ≤ space
-    publish-enough = enough (mix PUBLISH 0 0 0 own base) (published own base) (mix-publish own base) space e
+    publish-enough = enough (mix Publish 0 0 0 own base) (published own base) (mix-publish own base) space e
 
     pub publish-short : not r ≡ true → space < length (runsOf (published own base))
-    publish-short = short (mix PUBLISH 0 0 0 own base) (published own base) (mix-publish own base) space e
+    publish-short = short (mix Publish 0 0 0 own base) (published own base) (mix-publish own base) space e
 
   sync-asks : syncRefusal space view below xs ≡
       cond (twoMaps space view below xs)
@@ -169,13 +170,13 @@ module _ (space view below : ℕ) (xs : List ℕ) where
       publish-fits = publish-asks ∙ rw (two, le-leb (length (runsOf (asPublished own))) space (as-published-fits two), le-leb (length (runsOf (published own base))) space fit)
 
       -- what sharing leaves, said by publishing
-      same-runs : runsOf (mix PUBLISH 0 0 0 own base) ≡ runsOf (published own base)
-      same-runs = runs-same (mix PUBLISH 0 0 0 own base) (published own base) (λ b l. mix-publish own base b)
+      same-runs : runsOf (mix Publish 0 0 0 own base) ≡ runsOf (published own base)
+      same-runs = runs-same (mix Publish 0 0 0 own base) (published own base) (λ b l. mix-publish own base b)
 
-      pub share-fits : length (runsOf (mix PUBLISH 0 (0 - 0) (cellOf 0 0) own base)) ≤ space
+      pub share-fits : length (runsOf (mix Publish 0 (0 - 0) (cellOf 0 0) own base)) ≤ space
       share-fits = omega (arith, fit, ap (λ (l : List Run). length l) same-runs)
 
-      module _ {ys : List ℕ} (y : ys ≡ withMap space below (mapFor space (mix PUBLISH 0 (0 - 0) (cellOf 0 0) own base)) xs) where
+      module _ {ys : List ℕ} (y : ys ≡ withMap space below (mapFor space (mix Publish 0 (0 - 0) (cellOf 0 0) own base)) xs) where
         pub after-share : ys ≡ shared two (published own base) fit
         after-share = y ∙ ap (λ (l : List Run). withMap space below (mapOf space l) xs) same-runs
 
@@ -191,7 +192,7 @@ module _ (space view below : ℕ) (xs : List ℕ) where
         pub view-law-after : lawful (mapAt space view ys) ≡ true
         view-law-after = ap lawful view-after ∙ told two .view-law
 
-        -- it has as many unpublished runs
+        -- The view has as many unpublished runs as before.
         pub own-after : {k : ℕ} → k ≡ length (marked (runs (mapAt space view xs))) → k ≡ length (marked (runs (mapAt space view ys)))
         own-after e = e ∙ ap (λ (m : List ℕ). length (marked (runs m))) (sym view-after)
 
@@ -206,8 +207,7 @@ module _ (space view below : ℕ) (xs : List ℕ) where
             go b false = lawful-fine (runs (mapAt space below xs)) (lawful-map (mapAt space below xs) (told two .below-law) .lawful-runs) b
 
         pub publish-done : {zs : List ℕ} → zs ≡ withMap space view (mapFor space (asPublished (bytesOf (mapAt space view ys)))) ys →
-            (Done ≡ orRefused (publishRefusal space view below xs) Done)
-            × (zs ≡ orKept (publishRefusal space view below xs) (publishedMaps space view below xs) xs)
+            PublishEntry space view below xs Done zs
         unfolding publishedMaps
         publish-done z =
             accepted Done (bothMaps space view below xs (asPublished own) (published own base)) xs publish-fits
@@ -223,11 +223,10 @@ module _ (space view below : ℕ) (xs : List ℕ) where
       sync-fits : syncRefusal space view below xs ≡ 0
       sync-fits = sync-asks ∙ rw (two, ap (λ (l : List Run). length l) synced-runs, le-leb (length (runsOf (published own base))) space fit)
 
-      module _ {ys : List ℕ} (y : ys ≡ withMap space below (mapFor space (mix PUBLISH 0 (0 - 0) (cellOf 0 0) own base)) xs) where
+      module _ {ys : List ℕ} (y : ys ≡ withMap space below (mapFor space (mix Publish 0 (0 - 0) (cellOf 0 0) own base)) xs) where
         -- publishing, then refreshing: the view is the published map then
         pub sync-done : {zs : List ℕ} → zs ≡ withMap space view (mapAt space below ys) ys →
-            (Done ≡ orRefused (syncRefusal space view below xs) Done)
-            × (zs ≡ orKept (syncRefusal space view below xs) (syncedMaps space view below xs) xs)
+            SyncEntry space view below xs Done zs
         unfolding syncedMaps
         sync-done z =
             accepted Done (bothMaps space view below xs (refreshed (asPublished own) (published own base)) (published own base)) xs sync-fits
@@ -247,12 +246,12 @@ module _ (space view below : ℕ) (xs : List ℕ) where
   refresh-unlawful e = refresh-asks ∙ rw e
 
   -- whether the refreshed view fits
-  module _ {r : Bool} (e : r ≡ leb (length (runsFrom (4294967295 - 0) 0 (mix REFRESH 0 (0 - 0) 0 own base))) space) where
+  module _ {r : Bool} (e : r ≡ leb (length (runsFrom (4294967295 - 0) 0 (mix Refresh 0 (0 - 0) 0 own base))) space) where
     pub refresh-enough : not r ≡ false → length (runsOf (refreshed own base)) ≤ space
-    refresh-enough = enough (mix REFRESH 0 0 0 own base) (refreshed own base) (mix-refresh own base) space e
+    refresh-enough = enough (mix Refresh 0 0 0 own base) (refreshed own base) (mix-refresh own base) space e
 
     pub refresh-short : not r ≡ true → space < length (runsOf (refreshed own base))
-    refresh-short = short (mix REFRESH 0 0 0 own base) (refreshed own base) (mix-refresh own base) space e
+    refresh-short = short (mix Refresh 0 0 0 own base) (refreshed own base) (mix-refresh own base) space e
 
   module _ (two : twoMaps space view below xs ≡ true) where
     pub refresh-full : space < length (runsOf (refreshed own base)) → refreshRefusal space view below xs ≡ 16
@@ -263,8 +262,7 @@ module _ (space view below : ℕ) (xs : List ℕ) where
       refresh-fits = refresh-asks ∙ rw (two, le-leb (length (runsOf (refreshed own base))) space fit, le-leb (length (runsOf base)) space (below-fits two))
 
       pub refresh-done : {zs : List ℕ} → zs ≡ withMap space view (mapFor space (refreshed own base)) xs →
-          (Done ≡ orRefused (refreshRefusal space view below xs) Done)
-          × (zs ≡ orKept (refreshRefusal space view below xs) (refreshedMaps space view below xs) xs)
+          RefreshEntry space view below xs Done zs
       unfolding refreshedMaps
       refresh-done z = accepted Done (bothMaps space view below xs (refreshed own base) base) xs refresh-fits (z ∙ view-alone two (refreshed own base) fit)
 
@@ -294,7 +292,7 @@ module _ (space view below : ℕ) (xs : List ℕ) where
         pub view-law-fresh : lawful (mapAt space view ys) ≡ true
         view-law-fresh = ap lawful view-fresh ∙ map-lawful space (runsOf (refreshed own base)) fresh-lawful fit
 
-        -- its pieces are those of the refreshed bytes
+        -- The pieces of the refreshed map are those of the refreshed bytes.
         pub pieces-fresh : (start n : ℕ) → start + n ≤ OFFSET-MAX →
             piecesOf (bytesOf (mapAt space view ys)) start (start + n - start) ≡ piecesOf (refreshed own base) start n
         pieces-fresh start n end =
@@ -341,7 +339,7 @@ module _ (space view below : ℕ) (xs : List ℕ) where
             -- the maps, the count and the pieces
             pub read-done : (out : List ℕ) → 3 * length listed ≤ room → {k : ℕ} {zs us : List ℕ} → k ≡ length listed → zs ≡ withMap space view (mapFor space (refreshed own base)) xs →
                 us ≡ listedIn listed out →
-                (Listed k ≡ orRefused (readRefusal space view below xs start n room) (countOf listed))
+                (Listed k ≡ orRefused (readRefusal space view below xs start n room) (listedCount listed))
                 × ((zs ≡ orKept (readRefusal space view below xs start n room) (refreshedMaps space view below xs) xs)
                 × (us ≡ orKept (readRefusal space view below xs start n room) (listedIn listed out) out))
             unfolding refreshedMaps
@@ -354,7 +352,7 @@ module _ (space view below : ℕ) (xs : List ℕ) where
     wrote = overwrite start n (cellOf number 1) own
 
     -- the walk's mixes say the same at every byte, the range in or not
-    mix-write-through : (b : ℕ) → mix PUBLISH start n (cellOf number 0) own base b ≡ published wrote base b
+    mix-write-through : (b : ℕ) → mix Publish start n (cellOf number 0) own base b ≡ published wrote base b
     unfolding mixed
     mix-write-through b = go (inRange start n b)
       where
@@ -365,7 +363,7 @@ module _ (space view below : ℕ) (xs : List ℕ) where
             rw (eq-eqb (markIn (cellOf number 1)) 1 (omega arith)) q
         go false = refl
 
-    mix-mark-published : (b : ℕ) → mix MARK-PUBLISHED start n (cellOf number 0) own base b ≡ asPublished wrote b
+    mix-mark-published : (b : ℕ) → mix MarkPublished start n (cellOf number 0) own base b ≡ asPublished wrote b
     unfolding mixed
     mix-mark-published b = go (inRange start n b)
       where
@@ -386,26 +384,26 @@ module _ (space view below : ℕ) (xs : List ℕ) where
 
     module _ {cell : ℕ} (q : cell ≡ cellOf number 0) where
       -- whether the published map fits
-      module _ {r : Bool} (e : r ≡ leb (length (runsFrom (4294967295 - 0) 0 (mix PUBLISH start (start + n - start) cell own base))) space) where
-        write-through-told : r ≡ leb (length (runsFrom (4294967295 - 0) 0 (mix PUBLISH start n (cellOf number 0) own base))) space
-        write-through-told = e ∙ (λ i. leb (length (runsFrom (4294967295 - 0) 0 (mix PUBLISH start (there i) (q i) own base))) space)
+      module _ {r : Bool} (e : r ≡ leb (length (runsFrom (4294967295 - 0) 0 (mix Publish start (start + n - start) cell own base))) space) where
+        write-through-told : r ≡ leb (length (runsFrom (4294967295 - 0) 0 (mix Publish start n (cellOf number 0) own base))) space
+        write-through-told = e ∙ (λ i. leb (length (runsFrom (4294967295 - 0) 0 (mix Publish start (there i) (q i) own base))) space)
 
         pub write-through-enough : not r ≡ false → length (runsOf (published wrote base)) ≤ space
-        write-through-enough = enough (mix PUBLISH start n (cellOf number 0) own base) (published wrote base) mix-write-through space write-through-told
+        write-through-enough = enough (mix Publish start n (cellOf number 0) own base) (published wrote base) mix-write-through space write-through-told
 
         pub write-through-short : not r ≡ true → space < length (runsOf (published wrote base))
-        write-through-short = short (mix PUBLISH start n (cellOf number 0) own base) (published wrote base) mix-write-through space write-through-told
+        write-through-short = short (mix Publish start n (cellOf number 0) own base) (published wrote base) mix-write-through space write-through-told
 
       -- whether the view fits
-      module _ {r : Bool} (e : r ≡ leb (length (runsFrom (4294967295 - 0) 0 (mix MARK-PUBLISHED start (start + n - start) cell own base))) space) where
-        mark-published-told : r ≡ leb (length (runsFrom (4294967295 - 0) 0 (mix MARK-PUBLISHED start n (cellOf number 0) own base))) space
-        mark-published-told = e ∙ (λ i. leb (length (runsFrom (4294967295 - 0) 0 (mix MARK-PUBLISHED start (there i) (q i) own base))) space)
+      module _ {r : Bool} (e : r ≡ leb (length (runsFrom (4294967295 - 0) 0 (mix MarkPublished start (start + n - start) cell own base))) space) where
+        mark-published-told : r ≡ leb (length (runsFrom (4294967295 - 0) 0 (mix MarkPublished start n (cellOf number 0) own base))) space
+        mark-published-told = e ∙ (λ i. leb (length (runsFrom (4294967295 - 0) 0 (mix MarkPublished start (there i) (q i) own base))) space)
 
         pub mark-published-enough : not r ≡ false → length (runsOf (asPublished wrote)) ≤ space
-        mark-published-enough = enough (mix MARK-PUBLISHED start n (cellOf number 0) own base) (asPublished wrote) mix-mark-published space mark-published-told
+        mark-published-enough = enough (mix MarkPublished start n (cellOf number 0) own base) (asPublished wrote) mix-mark-published space mark-published-told
 
         pub mark-published-short : not r ≡ true → space < length (runsOf (asPublished wrote))
-        mark-published-short = short (mix MARK-PUBLISHED start n (cellOf number 0) own base) (asPublished wrote) mix-mark-published space mark-published-told
+        mark-published-short = short (mix MarkPublished start n (cellOf number 0) own base) (asPublished wrote) mix-mark-published space mark-published-told
 
     write-through-asks : start ≤ OFFSET-MAX → n ≤ OFFSET-MAX → writeThroughRefusal space view below xs start n number ≡
         cond (twoMaps space view below xs)
@@ -453,15 +451,15 @@ module _ (space view below : ℕ) (xs : List ℕ) where
                     le-leb (length (runsOf (published wrote base))) space fit,
                   )
 
-              written-through-runs : runsOf (mix PUBLISH start (start + n - start) (cellOf number 0) own base) ≡ runsOf (published wrote base)
+              written-through-runs : runsOf (mix Publish start (start + n - start) (cellOf number 0) own base) ≡ runsOf (published wrote base)
               written-through-runs =
-                  (λ i. runsOf (mix PUBLISH start (there i) (cellOf number 0) own base))
-                  ∙ runs-same (mix PUBLISH start n (cellOf number 0) own base) (published wrote base) (λ b l. mix-write-through b)
+                  (λ i. runsOf (mix Publish start (there i) (cellOf number 0) own base))
+                  ∙ runs-same (mix Publish start n (cellOf number 0) own base) (published wrote base) (λ b l. mix-write-through b)
 
-              pub write-through-share : length (runsOf (mix PUBLISH start (start + n - start) (cellOf number 0) own base)) ≤ space
+              pub write-through-share : length (runsOf (mix Publish start (start + n - start) (cellOf number 0) own base)) ≤ space
               write-through-share = omega (arith, fit, ap (λ (l : List Run). length l) written-through-runs)
 
-              module _ {ys : List ℕ} (y : ys ≡ withMap space below (mapFor space (mix PUBLISH start (start + n - start) (cellOf number 0) own base)) xs) where
+              module _ {ys : List ℕ} (y : ys ≡ withMap space below (mapFor space (mix Publish start (start + n - start) (cellOf number 0) own base)) xs) where
                 written-through : ys ≡ shared two (published wrote base) fit
                 written-through = y ∙ ap (λ (l : List Run). withMap space below (mapOf space l) xs) written-through-runs
 
@@ -474,7 +472,7 @@ module _ (space view below : ℕ) (xs : List ℕ) where
                 pub view-law-written-through : lawful (mapAt space view ys) ≡ true
                 view-law-written-through = ap lawful view-written-through ∙ told two .view-law
 
-                -- as many unpublished runs
+                -- The view has as many unpublished runs as before.
                 pub own-written-through : {k : ℕ} → k ≡ length (marked (runs (mapAt space view xs))) → k ≡ length (marked (runs (mapAt space view ys)))
                 own-written-through e = e ∙ ap (λ (m : List ℕ). length (marked (runs m))) (sym view-written-through)
 
@@ -489,8 +487,7 @@ module _ (space view below : ℕ) (xs : List ℕ) where
                   view-in-shared = omega (arith, told two .view-in, shared-length two (published wrote base) fit)
 
                   -- nothing to lay: the range is empty
-                  pub write-through-empty : start + n ≤ start → (Done ≡ orRefused (writeThroughRefusal space view below xs start n number) Done)
-                      × (zs ≡ orKept (writeThroughRefusal space view below xs start n number) (writtenThroughMaps space view below xs start n number) xs)
+                  pub write-through-empty : start + n ≤ start → WriteThroughEntry space view below xs start n number Done zs
                   unfolding writtenThroughMaps
                   write-through-empty h =
                       let same : runsOf (asPublished own) ≡ runsOf (asPublished wrote) = runs-same (asPublished own) (asPublished wrote)
@@ -544,8 +541,7 @@ module _ (space view below : ℕ) (xs : List ℕ) where
 
                   pub write-through-done : {cell : ℕ} {us : List ℕ} → cell ≡ cellOf number 0 →
                       us ≡ withMap space view (mapFor space (overwrite start (start + n - start) cell (bytesOf (mapAt space view zs)))) zs →
-                      (Done ≡ orRefused (writeThroughRefusal space view below xs start n number) Done)
-                      × (us ≡ orKept (writeThroughRefusal space view below xs start n number) (writtenThroughMaps space view below xs start n number) xs)
+                      WriteThroughEntry space view below xs start n number Done us
                   unfolding writtenThroughMaps
                   write-through-done q u =
                       accepted Done (bothMaps space view below xs (asPublished wrote) (published wrote base)) xs write-through-fits
@@ -555,10 +551,12 @@ module _ (space view below : ℕ) (xs : List ℕ) where
                       (length-map space (runsOf (asPublished wrote)) view-fit) own-size view-in-shared
                       ∙ both-last two (asPublished wrote) (published wrote base) view-fit fit)
 
--- a refusal that leaves both slices
-pub refused-both : (k : ℕ) {r : ℕ} (a : Answer) (ys xs vs us : List ℕ) → r ≡ k → 0 < k →
-    (Refused k ≡ orRefused r a) × ((xs ≡ orKept r ys xs) × (us ≡ orKept r vs us))
-refused-both k a ys xs vs us e h = rw (e, ne-eqb k 0 (omega arith)) (refl, (refl, refl))
+-- A refused read leaves both slices.
+pub refused-read : (k space view below : ℕ) (xs : List ℕ) (start n : ℕ) (out : List ℕ) →
+    readRefusal space view below xs start n (length out) ≡ k → 0 < k → ReadEntry space view below xs start n out (Refused k) xs out
+refused-read k space view below xs start n out e h =
+    let z = ne-eqb k 0 (omega arith) in
+    record { answer = rw (e, z) refl; left = rw (e, z) refl; listed = rw (e, z) refl }
 
 -- a row number's published cell
 pub cell-zero : (number : ℕ) → number * 2 ≡ cellOf number 0

@@ -22,23 +22,23 @@ use Rattle.extents_map.proofs.Counting.{starts-most}
 use Rattle.extents.specs.declared.Answer.{Answer}
 use Rattle.extents.specs.declared.Answer.the-variants.{Done, Listed, Refused}
 use Rattle.extents_pair.proofs.Rooms.{pieces-there}
-use Rattle.extents.specs.Entries.{orRefused, orKept, countOf, markOf, writeRefusal, writtenMap, listRefusal}
+use Rattle.extents.specs.Entries.{listedCount, markBit, Entry, writeRefusal, writtenMap, WriteEntry, listRefusal}
 
 -- ---- Answers
 
 -- a refusal, and what it leaves
-pub refused : (k : ℕ) {r : ℕ} (a : Answer) (ys xs : List ℕ) → r ≡ k → 0 < k → (Refused k ≡ orRefused r a) × (xs ≡ orKept r ys xs)
-refused k a ys xs e h = rw (e, ne-eqb k 0 (omega arith)) (refl, refl)
+pub refused : (k : ℕ) {r : ℕ} (a : Answer) (ys xs : List ℕ) → r ≡ k → 0 < k → Entry r a ys xs (Refused k) xs
+refused k a ys xs e h = record { answer = rw (e, ne-eqb k 0 (omega arith)) refl; left = rw (e, ne-eqb k 0 (omega arith)) refl }
 
 -- an acceptance
-pub accepted : {r : ℕ} (a : Answer) (ys xs : List ℕ) {zs : List ℕ} → r ≡ 0 → zs ≡ ys → (a ≡ orRefused r a) × (zs ≡ orKept r ys xs)
-accepted a ys xs e q = rw e (refl, q)
+pub accepted : {r : ℕ} (a : Answer) (ys xs : List ℕ) {zs : List ℕ} → r ≡ 0 → zs ≡ ys → Entry r a ys xs a zs
+accepted a ys xs e q = record { answer = rw e refl; left = rw e q }
 
 -- ---- Writing one map
 
 module _ (xs : List ℕ) (start n number : ℕ) (mark : Bool) where
   abbrev anew : Bytes
-  anew = overwrite start n (cellOf number (markOf mark)) (bytesOf xs)
+  anew = overwrite start n (cellOf number (markBit mark)) (bytesOf xs)
 
   -- the questions one after the other
   write-asks : start ≤ OFFSET-MAX → n ≤ OFFSET-MAX → writeRefusal xs start n number mark ≡
@@ -69,8 +69,7 @@ module _ (xs : List ℕ) (start n number : ℕ) (mark : Bool) where
           write-fits e = write-asks s l ∙ rw (law, le-leb 1 number low, le-leb number ROWS high, le-leb (start + n) OFFSET-MAX end, e)
 
           -- a range of no bytes changes nothing
-          pub write-none : n ≡ 0 → (Done ≡ orRefused (writeRefusal xs start n number mark) Done)
-              × (xs ≡ orKept (writeRefusal xs start n number mark) (writtenMap xs start n number mark) xs)
+          pub write-none : n ≡ 0 → WriteEntry xs start n number mark Done xs
           unfolding writtenMap
           write-none z =
               let m = lawful-map xs law in
@@ -82,18 +81,17 @@ module _ (xs : List ℕ) (start n number : ℕ) (mark : Bool) where
               kept b = go (decLt b start)
                 where
                   go : Dec (b < start) → anew b ≡ bytesOf xs b
-                  go (yes h) = over-before start n (cellOf number (markOf mark)) (bytesOf xs) b h
-                  go (no h) = over-behind start n (cellOf number (markOf mark)) (bytesOf xs) b (omega (arith, z))
+                  go (yes h) = over-before start n (cellOf number (markBit mark)) (bytesOf xs) b h
+                  go (no h) = over-behind start n (cellOf number (markBit mark)) (bytesOf xs) b (omega (arith, z))
 
           -- what laying a cell answers and leaves
-          module _ {r : Bool} {cell : ℕ} {zs : List ℕ} (q : cell ≡ cellOf number (markOf mark))
+          module _ {r : Bool} {cell : ℕ} {zs : List ℕ} (q : cell ≡ cellOf number (markBit mark))
               (answer : r ≡ leb (length (runsOf (overwrite start (start + n - start) cell (bytesOf xs)))) (spaceIn xs))
               (left : zs ≡ cond r (mapFor (spaceIn xs) (overwrite start (start + n - start) cell (bytesOf xs))) xs) where
             there : overwrite start (start + n - start) cell (bytesOf xs) ≡ anew
             there = let e : start + n - start ≡ n = omega arith in λ i. overwrite start (e i) (q i) (bytesOf xs)
 
-            pub write-done : r ≡ true → (Done ≡ orRefused (writeRefusal xs start n number mark) Done)
-                × (zs ≡ orKept (writeRefusal xs start n number mark) (writtenMap xs start n number mark) xs)
+            pub write-done : r ≡ true → WriteEntry xs start n number mark Done zs
             unfolding writtenMap
             write-done e =
                 accepted Done (mapFor (spaceIn xs) anew) xs
@@ -101,21 +99,21 @@ module _ (xs : List ℕ) (start n number : ℕ) (mark : Bool) where
                 (left ∙ ap (λ (b : Bool). cond b (mapFor (spaceIn xs) (overwrite start (start + n - start) cell (bytesOf xs))) xs) e
                 ∙ ap (mapFor (spaceIn xs)) there)
 
-            pub write-not : r ≡ false → (Refused 16 ≡ orRefused (writeRefusal xs start n number mark) Done)
-                × (zs ≡ orKept (writeRefusal xs start n number mark) (writtenMap xs start n number mark) xs)
+            pub write-not : r ≡ false → WriteEntry xs start n number mark (Refused 16) zs
             write-not e =
                 let none = refused 16 Done (writtenMap xs start n number mark) xs
-                (write-full (ap (λ (f : Bytes). leb (length (runsOf f)) (spaceIn xs)) (sym there) ∙ sym answer ∙ e)) (omega arith) in (
-                  none .0,
-                  left ∙ ap (λ (b : Bool). cond b (mapFor (spaceIn xs) (overwrite start (start + n - start) cell (bytesOf xs))) xs) e ∙ none .1,
-                )
+                (write-full (ap (λ (f : Bytes). leb (length (runsOf f)) (spaceIn xs)) (sym there) ∙ sym answer ∙ e)) (omega arith) in
+                record {
+                  answer = none .answer;
+                  left = left ∙ ap (λ (b : Bool). cond b (mapFor (spaceIn xs) (overwrite start (start + n - start) cell (bytesOf xs))) xs) e ∙ none .left;
+                }
 
 -- the cell of a row number has it
-pub cell-fine : (number : ℕ) (mark : Bool) → 1 ≤ number → number ≤ 4096 → {cell : ℕ} → cell ≡ cellOf number (markOf mark) →
+pub cell-fine : (number : ℕ) (mark : Bool) → 1 ≤ number → number ≤ 4096 → {cell : ℕ} → cell ≡ cellOf number (markBit mark) →
     (cell ≡ 0) ⊎ ((1 ≤ numberIn cell) × (numberIn cell ≤ 4096))
 cell-fine number mark l h {cell} q = inr (go mark q)
   where
-    go : (m : Bool) → cell ≡ cellOf number (markOf m) → (1 ≤ numberIn cell) × (numberIn cell ≤ 4096)
+    go : (m : Bool) → cell ≡ cellOf number (markBit m) → (1 ≤ numberIn cell) × (numberIn cell ≤ 4096)
     go true e = (omega arith, omega arith)
     go false e = (omega arith, omega arith)
 
@@ -154,6 +152,10 @@ pieces-most f start n =
 -- the pieces and their count
 pub accepted-list : (xs : List ℕ) (start n : ℕ) (out : List ℕ) {k r : ℕ} {zs : List ℕ} → r ≡ 0 →
     k ≡ length (piecesOf (bytesOf xs) start (start + n - start)) → zs ≡ listedIn (piecesOf (bytesOf xs) start (start + n - start)) out →
-    (Listed k ≡ orRefused r (countOf (piecesOf (bytesOf xs) start n))) × (zs ≡ orKept r (listedIn (piecesOf (bytesOf xs) start n) out) out)
+    Entry r (listedCount (piecesOf (bytesOf xs) start n)) (listedIn (piecesOf (bytesOf xs) start n) out) out (Listed k) zs
 accepted-list xs start n out e q z =
-    let p = pieces-there (bytesOf xs) start n in rw e (ap Listed (q ∙ ap (λ (l : List Run). length l) p), z ∙ ap (λ (l : List Run). listedIn l out) p)
+    let p = pieces-there (bytesOf xs) start n in
+    record {
+      answer = rw e (ap Listed (q ∙ ap (λ (l : List Run). length l) p));
+      left = rw e (z ∙ ap (λ (l : List Run). listedIn l out) p);
+    }

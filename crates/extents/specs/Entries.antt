@@ -1,5 +1,6 @@
 -- The entries of the map of pieces: their questions in sequence, and what they answer and leave.
 use Prim.Native.Nat.{ℕ, _+_, _*_}
+use mathlib.Core.Path.{_≡_}
 use mathlib.Core.Bool.{Bool, true, false, cond, _&&_}
 use mathlib.Core.List.{List, [], _∷_, _++_}
 use lib.ListN.{length}
@@ -8,10 +9,10 @@ use Rattle.rows.specs.Limits.{ROWS, OFFSET-MAX}
 use Rattle.rows.specs.Questions.{Question, firstNo}
 use Rattle.extents_meaning.specs.Cells.{Bytes, cellOf, overwrite, published, asPublished, refreshed}
 use Rattle.extents_meaning.specs.Runs.{Run, runsOf, piecesOf}
-use Rattle.extents_meaning.specs.Maps.{mapFor, spaceIn, bytesOf, lawful, withMap}
+use Rattle.extents_meaning.specs.Maps.{mapFor, spaceIn, bytesOf, lawful, withMap, listedIn}
 use Rattle.extents_meaning.specs.Pairs.{twoMaps, viewOf, belowOf}
 use Rattle.extents.specs.declared.Answer.{Answer}
-use Rattle.extents.specs.declared.Answer.the-variants.{Listed, Refused}
+use Rattle.extents.specs.declared.Answer.the-variants.{Done, Listed, Refused}
 
 -- ---- Questions
 
@@ -47,12 +48,19 @@ orRefused refusal a = cond (eqb refusal 0) a (Refused refusal)
 abbrev pub orKept : ℕ → List ℕ → List ℕ → List ℕ
 orKept refusal left xs = cond (eqb refusal 0) left xs
 
-abbrev pub countOf : List Run → Answer
-countOf pieces = Listed (length pieces)
+-- The answer to a listing is the count of its pieces.
+abbrev pub listedCount : List Run → Answer
+listedCount pieces = Listed (length pieces)
 
-abbrev pub markOf : Bool → ℕ
-markOf true = 1
-markOf false = 0
+-- The mark of an unpublished byte is 1.
+abbrev pub markBit : Bool → ℕ
+markBit true = 1
+markBit false = 0
+
+-- An entry answers a refusal's number and leaves the slice xs as it was, or answers `accepted` and leaves `made`.
+pub record Entry (refusal : ℕ) (accepted : Answer) (made xs : List ℕ) (r : Answer) (xs′ : List ℕ) : Type 0 where
+  pub answer : r ≡ orRefused refusal accepted
+  pub left : xs′ ≡ orKept refusal made xs
 
 -- ---- One map
 
@@ -63,15 +71,22 @@ writeRefusal xs start length number mark =
     (asksLaw (lawful xs)
     ∷ (asksNumber number
     ∷ (asksRange start length
-    ++ (asksSpace (spaceIn xs) (overwrite start length (cellOf number (markOf mark)) (bytesOf xs)) ∷ []))))
+    ++ (asksSpace (spaceIn xs) (overwrite start length (cellOf number (markBit mark)) (bytesOf xs)) ∷ []))))
 
 unfoldable pub writtenMap : List ℕ → ℕ → ℕ → ℕ → Bool → List ℕ
-writtenMap xs start length number mark = mapFor (spaceIn xs) (overwrite start length (cellOf number (markOf mark)) (bytesOf xs))
+writtenMap xs start length number mark = mapFor (spaceIn xs) (overwrite start length (cellOf number (markBit mark)) (bytesOf xs))
+
+abbrev pub WriteEntry : List ℕ → ℕ → ℕ → ℕ → Bool → Answer → List ℕ → Type 0
+WriteEntry xs start length number mark = Entry (writeRefusal xs start length number mark) Done (writtenMap xs start length number mark) xs
 
 -- list the pieces of a range
 unfoldable pub listRefusal : List ℕ → ℕ → ℕ → ℕ → ℕ
 listRefusal xs start length room =
     firstNo (asksLaw (lawful xs) ∷ (asksRange start length ++ (asksRoom (piecesOf (bytesOf xs) start length) room ∷ [])))
+
+abbrev pub ListEntry : List ℕ → ℕ → ℕ → List ℕ → Answer → List ℕ → Type 0
+ListEntry xs start n out =
+    Entry (listRefusal xs start n (length out)) (listedCount (piecesOf (bytesOf xs) start n)) (listedIn (piecesOf (bytesOf xs) start n) out) out
 
 -- ---- A view and the published map
 
@@ -98,12 +113,18 @@ module _ (space view below : ℕ) (xs : List ℕ) where
   unfoldable pub publishedMaps : List ℕ
   publishedMaps = bothMaps (asPublished own) (published own base)
 
-  -- refresh it
+  abbrev pub PublishEntry : Answer → List ℕ → Type 0
+  PublishEntry = Entry publishRefusal Done publishedMaps xs
+
+  -- refresh the view
   unfoldable pub refreshRefusal : ℕ
   refreshRefusal = firstNo (asksLaw (twoMaps space view below xs) ∷ asksBoth (refreshed own base) base)
 
   unfoldable pub refreshedMaps : List ℕ
   refreshedMaps = bothMaps (refreshed own base) base
+
+  abbrev pub RefreshEntry : Answer → List ℕ → Type 0
+  RefreshEntry = Entry refreshRefusal Done refreshedMaps xs
 
   -- publish, then refresh
   unfoldable pub syncRefusal : ℕ
@@ -114,6 +135,9 @@ module _ (space view below : ℕ) (xs : List ℕ) where
 
   unfoldable pub syncedMaps : List ℕ
   syncedMaps = bothMaps (refreshed (asPublished own) (published own base)) (published own base)
+
+  abbrev pub SyncEntry : Answer → List ℕ → Type 0
+  SyncEntry = Entry syncRefusal Done syncedMaps xs
 
   module _ (start length : ℕ) where
     -- write a range, then publish
@@ -129,6 +153,9 @@ module _ (space view below : ℕ) (xs : List ℕ) where
     unfoldable pub writtenThroughMaps : ℕ → List ℕ
     writtenThroughMaps number = bothMaps (asPublished (writing number)) (published (writing number) base)
 
+    abbrev pub WriteThroughEntry : ℕ → Answer → List ℕ → Type 0
+    WriteThroughEntry number = Entry (writeThroughRefusal number) Done (writtenThroughMaps number) xs
+
     -- refresh, then list the pieces of a range
     unfoldable pub readRefusal : ℕ → ℕ
     readRefusal room =
@@ -136,3 +163,13 @@ module _ (space view below : ℕ) (xs : List ℕ) where
         (asksLaw (twoMaps space view below xs)
         ∷ (asksRange start length
         ++ (asksBoth (refreshed own base) base ++ (asksRoom (piecesOf (refreshed own base) start length) room ∷ []))))
+
+    -- The slice `out` gets the pieces.
+    abbrev pub readPieces : List Run
+    readPieces = piecesOf (refreshed own base) start length
+
+  -- A read changes two slices: the maps, and the answer slice `out`.
+  pub record ReadEntry (start n : ℕ) (out : List ℕ) (r : Answer) (xs′ out′ : List ℕ) : Type 0 where
+    pub answer : r ≡ orRefused (readRefusal start n (length out)) (listedCount (readPieces start n))
+    pub left : xs′ ≡ orKept (readRefusal start n (length out)) refreshedMaps xs
+    pub listed : out′ ≡ orKept (readRefusal start n (length out)) (listedIn (readPieces start n) out) out

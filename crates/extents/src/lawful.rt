@@ -1,25 +1,25 @@
 // The entries without question 13, for a caller that knows its maps to be lawful.
 use crate::Answer;
-ghost use Prim.Native.Nat.{_+_, _*_, _-_, _≤_};
+use extents_map::scan::Mix;
+use extents_map::scan::Mode;
+use extents_pair::pair::Pair;
+use rows::refusal;
+ghost use Prim.Native.Nat.{_-_, _≤_};
 ghost use mathlib.Core.Path.{_≡_};
 ghost use mathlib.Core.Bool.{true};
 ghost use lib.ListN.{length};
 ghost use lib.Dec.{ltb};
-ghost use Rattle.extents_meaning.specs.Cells.{cellOf, refreshed};
-ghost use Rattle.extents_meaning.specs.Runs.{piecesOf};
-ghost use Rattle.extents_meaning.specs.Maps.{bytesOf, lawful, listedIn};
-ghost use Rattle.extents_meaning.specs.Pairs.{twoMaps, viewOf, belowOf};
-ghost use Rattle.extents.specs.Entries.{orRefused, orKept, countOf, markOf, writeRefusal, writtenMap, listRefusal, publishRefusal, publishedMaps, refreshRefusal, refreshedMaps, syncRefusal, syncedMaps, writeThroughRefusal, writtenThroughMaps, readRefusal};
-ghost use Rattle.extents.specs.declared.Answer.the-variants.{Done};
-use rows::refusal;
 ghost use Rattle.rows.specs.Limits.{ROWS};
+ghost use Rattle.extents_meaning.specs.Cells.{cellOf};
+ghost use Rattle.extents_meaning.specs.Runs.{piecesOf};
+ghost use Rattle.extents_meaning.specs.Maps.{bytesOf, lawful};
+ghost use Rattle.extents_meaning.specs.Pairs.{twoMaps};
+ghost use Rattle.extents.specs.Entries.{markBit, WriteEntry, ListEntry, PublishEntry, RefreshEntry, SyncEntry, WriteThroughEntry, ReadEntry};
 
 // Gives a range of a map a row number and a mark.
 pub fn write(map: &mut [u32], start: u32, length: u32, number: u32, unpublished: bool) -> Answer
     requires { ⌜ lawful (now map) ≡ true ⌝ }
-    ensures answer { λ r. ⌜ r ≡ orRefused (writeRefusal (now (map .entry)) start length number unpublished) Done ⌝ }
-    ensures left { λ r. ⌜ now (map .exit) ≡ orKept (writeRefusal (now (map .entry)) start length number unpublished)
-        (writtenMap (now (map .entry)) start length number unpublished) (now (map .entry)) ⌝ }
+    ensures { λ r. ⌜ WriteEntry (now (map .entry)) start length number unpublished r (now (map .exit)) ⌝ }
 {
     if number < 1 {
         return Answer::Refused(refusal::ROW_NUMBER);
@@ -40,9 +40,10 @@ pub fn write(map: &mut [u32], start: u32, length: u32, number: u32, unpublished:
     }
 }
 
+// The cell of a row number with its mark.
 fn cell_of(number: u32, unpublished: bool) -> u32
     requires { ⌜ number ≤ ROWS ⌝ }
-    ensures { λ r. ⌜ r ≡ cellOf number (markOf unpublished) ⌝ }
+    ensures { λ r. ⌜ r ≡ cellOf number (markBit unpublished) ⌝ }
 {
     if unpublished {
         return number * 2 + 1;
@@ -53,10 +54,7 @@ fn cell_of(number: u32, unpublished: bool) -> u32
 // Puts the pieces of a range into an answer slice.
 pub fn list_range(map: &[u32], start: u32, length: u32, out: &mut [u32]) -> Answer
     requires { ⌜ lawful (now map) ≡ true ⌝ }
-    ensures answer { λ r. ⌜ r ≡ orRefused (listRefusal (now (map .entry)) start length (lib.ListN.length (now (out .entry))))
-        (countOf (piecesOf (bytesOf (now (map .entry))) start length)) ⌝ }
-    ensures left { λ r. ⌜ now (out .exit) ≡ orKept (listRefusal (now (map .entry)) start length (lib.ListN.length (now (out .entry))))
-        (listedIn (piecesOf (bytesOf (now (map .entry))) start length) (now (out .entry))) (now (out .entry)) ⌝ }
+    ensures { λ r. ⌜ ListEntry (now (map .entry)) start length (now (out .entry)) r (now (out .exit)) ⌝ }
 {
     if rows::OFFSET_MAX - start < length {
         return Answer::Refused(refusal::RANGE_END);
@@ -68,8 +66,8 @@ pub fn list_range(map: &[u32], start: u32, length: u32, out: &mut [u32]) -> Answ
     Answer::Listed(n as u32)
 }
 
-// Has a range of a map more pieces than there is room for? A range has at most two for each run of the map, and one more: they are counted only
-// where the room may lack.
+// Has a range of a map more pieces than there is room for? A range has at most two for each run of the map, and one more: the walk counts them
+// only where the room may lack.
 fn lacks(map: &[u32], from: u32, to: u32, room: usize) -> bool
     requires { ⌜ (lawful (now map) ≡ true) × (from ≤ to) ⌝ }
     ensures { λ r. ⌜ r ≡ ltb room (length (piecesOf (bytesOf (now (map .entry))) from (to - from))) ⌝ }
@@ -77,21 +75,31 @@ fn lacks(map: &[u32], from: u32, to: u32, room: usize) -> bool
     if extents_map::splice::runs_in(map) < room / 2 {
         return false;
     }
-    room < extents_map::scan::count(map, map, 3, from, to, 0, 0, 0)
+    let pieces = Mix {
+        mode: Mode::ReadMap,
+        start: 0,
+        end: 0,
+        cell: 0,
+    };
+    room < extents_map::scan::count(map, map, pieces, from, to)
 }
 
 // Publishes a view.
 pub fn publish(maps: &mut [u32], space: usize, view: usize, below: usize) -> Answer
     requires { ⌜ twoMaps space view below (now maps) ≡ true ⌝ }
-    ensures answer { λ r. ⌜ r ≡ orRefused (publishRefusal space view below (now (maps .entry))) Done ⌝ }
-    ensures left { λ r. ⌜ now (maps .exit) ≡ orKept (publishRefusal space view below (now (maps .entry)))
-        (publishedMaps space view below (now (maps .entry))) (now (maps .entry)) ⌝ }
+    ensures { λ r. ⌜ PublishEntry space view below (now (maps .entry)) r (now (maps .exit)) ⌝ }
 {
     let own = extents_pair::pair::own_runs(maps, space, view);
-    if !extents_pair::pair::fits(maps, space, view, below, own, 0, 0, 0, 0) {
+    let pair = Pair {
+        space: space,
+        view: view,
+        below: below,
+        own: own,
+    };
+    if !extents_pair::pair::fits(maps, pair, Mode::Publish, 0, 0, 0) {
         return Answer::Refused(refusal::MAP_SPACE);
     }
-    extents_pair::share::share(maps, space, view, below, own, 0, 0, 0);
+    extents_pair::share::share(maps, pair, 0, 0, 0);
     extents_pair::pair::mark_published(maps, space, view, own);
     Answer::Done
 }
@@ -99,12 +107,16 @@ pub fn publish(maps: &mut [u32], space: usize, view: usize, below: usize) -> Ans
 // Refreshes a view.
 pub fn refresh(maps: &mut [u32], space: usize, view: usize, below: usize) -> Answer
     requires { ⌜ twoMaps space view below (now maps) ≡ true ⌝ }
-    ensures answer { λ r. ⌜ r ≡ orRefused (refreshRefusal space view below (now (maps .entry))) Done ⌝ }
-    ensures left { λ r. ⌜ now (maps .exit) ≡ orKept (refreshRefusal space view below (now (maps .entry)))
-        (refreshedMaps space view below (now (maps .entry))) (now (maps .entry)) ⌝ }
+    ensures { λ r. ⌜ RefreshEntry space view below (now (maps .entry)) r (now (maps .exit)) ⌝ }
 {
     let own = extents_pair::pair::own_runs(maps, space, view);
-    if !extents_pair::pair::fits(maps, space, view, below, own, 2, 0, 0, 0) {
+    let pair = Pair {
+        space: space,
+        view: view,
+        below: below,
+        own: own,
+    };
+    if !extents_pair::pair::fits(maps, pair, Mode::Refresh, 0, 0, 0) {
         return Answer::Refused(refusal::MAP_SPACE);
     }
     extents_pair::merge::refresh(maps, space, view, below, own);
@@ -114,15 +126,19 @@ pub fn refresh(maps: &mut [u32], space: usize, view: usize, below: usize) -> Ans
 // Publishes a view, then refreshes it.
 pub fn sync(maps: &mut [u32], space: usize, view: usize, below: usize) -> Answer
     requires { ⌜ twoMaps space view below (now maps) ≡ true ⌝ }
-    ensures answer { λ r. ⌜ r ≡ orRefused (syncRefusal space view below (now (maps .entry))) Done ⌝ }
-    ensures left { λ r. ⌜ now (maps .exit) ≡ orKept (syncRefusal space view below (now (maps .entry)))
-        (syncedMaps space view below (now (maps .entry))) (now (maps .entry)) ⌝ }
+    ensures { λ r. ⌜ SyncEntry space view below (now (maps .entry)) r (now (maps .exit)) ⌝ }
 {
     let own = extents_pair::pair::own_runs(maps, space, view);
-    if !extents_pair::pair::fits(maps, space, view, below, own, 0, 0, 0, 0) {
+    let pair = Pair {
+        space: space,
+        view: view,
+        below: below,
+        own: own,
+    };
+    if !extents_pair::pair::fits(maps, pair, Mode::Publish, 0, 0, 0) {
         return Answer::Refused(refusal::MAP_SPACE);
     }
-    extents_pair::share::share(maps, space, view, below, own, 0, 0, 0);
+    extents_pair::share::share(maps, pair, 0, 0, 0);
     extents_pair::pair::copy(maps, space, below, view);
     Answer::Done
 }
@@ -138,9 +154,7 @@ pub fn write_through(
     number: u32,
 ) -> Answer
     requires { ⌜ twoMaps space view below (now maps) ≡ true ⌝ }
-    ensures answer { λ r. ⌜ r ≡ orRefused (writeThroughRefusal space view below (now (maps .entry)) start length number) Done ⌝ }
-    ensures left { λ r. ⌜ now (maps .exit) ≡ orKept (writeThroughRefusal space view below (now (maps .entry)) start length number)
-        (writtenThroughMaps space view below (now (maps .entry)) start length number) (now (maps .entry)) ⌝ }
+    ensures { λ r. ⌜ WriteThroughEntry space view below (now (maps .entry)) start length number r (now (maps .exit)) ⌝ }
 {
     if number < 1 {
         return Answer::Refused(refusal::ROW_NUMBER);
@@ -154,13 +168,19 @@ pub fn write_through(
     let end = start + length;
     let cell = number * 2;
     let own = extents_pair::pair::own_runs(maps, space, view);
-    if !extents_pair::pair::fits(maps, space, view, below, own, 0, start, end, cell) {
+    let pair = Pair {
+        space: space,
+        view: view,
+        below: below,
+        own: own,
+    };
+    if !extents_pair::pair::fits(maps, pair, Mode::Publish, start, end, cell) {
         return Answer::Refused(refusal::MAP_SPACE);
     }
-    if !extents_pair::pair::fits(maps, space, view, below, own, 1, start, end, cell) {
+    if !extents_pair::pair::fits(maps, pair, Mode::MarkPublished, start, end, cell) {
         return Answer::Refused(refusal::MAP_SPACE);
     }
-    extents_pair::share::share(maps, space, view, below, own, start, end, number);
+    extents_pair::share::share(maps, pair, start, end, number);
     extents_pair::pair::mark_published(maps, space, view, own);
     if start < end {
         extents_pair::pair::lay(maps, space, view, start, end, cell);
@@ -179,28 +199,27 @@ pub fn read(
     out: &mut [u32],
 ) -> Answer
     requires { ⌜ twoMaps space view below (now maps) ≡ true ⌝ }
-    ensures answer { λ r. ⌜ r ≡ orRefused (readRefusal space view below (now (maps .entry)) start length (lib.ListN.length (now (out .entry))))
-        (countOf (piecesOf (refreshed (viewOf space view below (now (maps .entry))) (belowOf space view below (now (maps .entry)))) start length)) ⌝ }
-    ensures left { λ r. ⌜ now (maps .exit) ≡ orKept
-        (readRefusal space view below (now (maps .entry)) start length (lib.ListN.length (now (out .entry))))
-        (refreshedMaps space view below (now (maps .entry))) (now (maps .entry)) ⌝ }
-    ensures listed { λ r. ⌜ now (out .exit) ≡ orKept
-        (readRefusal space view below (now (maps .entry)) start length (lib.ListN.length (now (out .entry))))
-        (listedIn (piecesOf (refreshed (viewOf space view below (now (maps .entry))) (belowOf space view below (now (maps .entry)))) start length)
-        (now (out .entry))) (now (out .entry)) ⌝ }
+    ensures { λ r. ⌜ ReadEntry space view below (now (maps .entry)) start length (now (out .entry)) r (now (maps .exit)) (now (out .exit)) ⌝ }
 {
     if rows::OFFSET_MAX - start < length {
         return Answer::Refused(refusal::RANGE_END);
     }
     let end = start + length;
     let own = extents_pair::pair::own_runs(maps, space, view);
-    if !extents_pair::pair::fits(maps, space, view, below, own, 2, 0, 0, 0) {
+    let pair = Pair {
+        space: space,
+        view: view,
+        below: below,
+        own: own,
+    };
+    if !extents_pair::pair::fits(maps, pair, Mode::Refresh, 0, 0, 0) {
         return Answer::Refused(refusal::MAP_SPACE);
     }
-    if extents_pair::pair::lacks(maps, space, view, below, own, start, end, out.len() / 3) {
+    if extents_pair::pair::lacks(maps, pair, start, end, out.len() / 3) {
         return Answer::Refused(refusal::ANSWER_SPACE);
     }
     extents_pair::merge::refresh(maps, space, view, below, own);
     let n = extents_pair::pair::list(maps, space, view, start, end, out);
-    Answer::Listed(n as u32)
+    let listed = n as u32;
+    Answer::Listed(listed)
 }

@@ -1,12 +1,7 @@
 // The map of pieces: which row number and mark every byte of a file has, kept as longest runs in a lent slice.
 ghost use mathlib.Core.Path.{_≡_};
-ghost use lib.ListN.{length};
-ghost use Rattle.extents_meaning.specs.Cells.{refreshed};
-ghost use Rattle.extents_meaning.specs.Runs.{piecesOf};
-ghost use Rattle.extents_meaning.specs.Maps.{bytesOf, lawful, lawfulPublished, listedIn};
-ghost use Rattle.extents.specs.Entries.{orRefused, orKept, countOf, writeRefusal, writtenMap, listRefusal, publishRefusal, publishedMaps, refreshRefusal, refreshedMaps, syncRefusal, syncedMaps, writeThroughRefusal, writtenThroughMaps, readRefusal};
-ghost use Rattle.extents_meaning.specs.Pairs.{viewOf, belowOf};
-ghost use Rattle.extents.specs.declared.Answer.the-variants.{Done};
+ghost use Rattle.extents_meaning.specs.Maps.{lawful, lawfulPublished};
+ghost use Rattle.extents.specs.Entries.{WriteEntry, ListEntry, PublishEntry, RefreshEntry, SyncEntry, WriteThroughEntry, ReadEntry};
 
 pub mod lawful;
 
@@ -35,9 +30,7 @@ pub fn is_published(map: &[u32]) -> bool
 
 // Gives a range of a map a row number and a mark.
 pub fn write(map: &mut [u32], start: u32, length: u32, number: u32, unpublished: bool) -> Answer
-    ensures answer { λ r. ⌜ r ≡ orRefused (writeRefusal (now (map .entry)) start length number unpublished) Done ⌝ }
-    ensures left { λ r. ⌜ now (map .exit) ≡ orKept (writeRefusal (now (map .entry)) start length number unpublished)
-        (writtenMap (now (map .entry)) start length number unpublished) (now (map .entry)) ⌝ }
+    ensures { λ r. ⌜ WriteEntry (now (map .entry)) start length number unpublished r (now (map .exit)) ⌝ }
 {
     if !extents_map::scan::is_lawful(map) {
         return Answer::Refused(refusal::STATE);
@@ -47,10 +40,7 @@ pub fn write(map: &mut [u32], start: u32, length: u32, number: u32, unpublished:
 
 // Puts the pieces of a range into an answer slice.
 pub fn list_range(map: &[u32], start: u32, length: u32, out: &mut [u32]) -> Answer
-    ensures answer { λ r. ⌜ r ≡ orRefused (listRefusal (now (map .entry)) start length (lib.ListN.length (now (out .entry))))
-        (countOf (piecesOf (bytesOf (now (map .entry))) start length)) ⌝ }
-    ensures left { λ r. ⌜ now (out .exit) ≡ orKept (listRefusal (now (map .entry)) start length (lib.ListN.length (now (out .entry))))
-        (listedIn (piecesOf (bytesOf (now (map .entry))) start length) (now (out .entry))) (now (out .entry)) ⌝ }
+    ensures { λ r. ⌜ ListEntry (now (map .entry)) start length (now (out .entry)) r (now (out .exit)) ⌝ }
 {
     if !extents_map::scan::is_lawful(map) {
         return Answer::Refused(refusal::STATE);
@@ -60,9 +50,7 @@ pub fn list_range(map: &[u32], start: u32, length: u32, out: &mut [u32]) -> Answ
 
 // Publishes a view.
 pub fn publish(maps: &mut [u32], space: usize, view: usize, below: usize) -> Answer
-    ensures answer { λ r. ⌜ r ≡ orRefused (publishRefusal space view below (now (maps .entry))) Done ⌝ }
-    ensures left { λ r. ⌜ now (maps .exit) ≡ orKept (publishRefusal space view below (now (maps .entry)))
-        (publishedMaps space view below (now (maps .entry))) (now (maps .entry)) ⌝ }
+    ensures { λ r. ⌜ PublishEntry space view below (now (maps .entry)) r (now (maps .exit)) ⌝ }
 {
     if !extents_pair::pair::two_maps(maps, space, view, below) {
         return Answer::Refused(refusal::STATE);
@@ -72,9 +60,7 @@ pub fn publish(maps: &mut [u32], space: usize, view: usize, below: usize) -> Ans
 
 // Refreshes a view.
 pub fn refresh(maps: &mut [u32], space: usize, view: usize, below: usize) -> Answer
-    ensures answer { λ r. ⌜ r ≡ orRefused (refreshRefusal space view below (now (maps .entry))) Done ⌝ }
-    ensures left { λ r. ⌜ now (maps .exit) ≡ orKept (refreshRefusal space view below (now (maps .entry)))
-        (refreshedMaps space view below (now (maps .entry))) (now (maps .entry)) ⌝ }
+    ensures { λ r. ⌜ RefreshEntry space view below (now (maps .entry)) r (now (maps .exit)) ⌝ }
 {
     if !extents_pair::pair::two_maps(maps, space, view, below) {
         return Answer::Refused(refusal::STATE);
@@ -84,9 +70,7 @@ pub fn refresh(maps: &mut [u32], space: usize, view: usize, below: usize) -> Ans
 
 // Publishes a view, then refreshes it.
 pub fn sync(maps: &mut [u32], space: usize, view: usize, below: usize) -> Answer
-    ensures answer { λ r. ⌜ r ≡ orRefused (syncRefusal space view below (now (maps .entry))) Done ⌝ }
-    ensures left { λ r. ⌜ now (maps .exit) ≡ orKept (syncRefusal space view below (now (maps .entry)))
-        (syncedMaps space view below (now (maps .entry))) (now (maps .entry)) ⌝ }
+    ensures { λ r. ⌜ SyncEntry space view below (now (maps .entry)) r (now (maps .exit)) ⌝ }
 {
     if !extents_pair::pair::two_maps(maps, space, view, below) {
         return Answer::Refused(refusal::STATE);
@@ -104,9 +88,7 @@ pub fn write_through(
     length: u32,
     number: u32,
 ) -> Answer
-    ensures answer { λ r. ⌜ r ≡ orRefused (writeThroughRefusal space view below (now (maps .entry)) start length number) Done ⌝ }
-    ensures left { λ r. ⌜ now (maps .exit) ≡ orKept (writeThroughRefusal space view below (now (maps .entry)) start length number)
-        (writtenThroughMaps space view below (now (maps .entry)) start length number) (now (maps .entry)) ⌝ }
+    ensures { λ r. ⌜ WriteThroughEntry space view below (now (maps .entry)) start length number r (now (maps .exit)) ⌝ }
 {
     if !extents_pair::pair::two_maps(maps, space, view, below) {
         return Answer::Refused(refusal::STATE);
@@ -124,15 +106,7 @@ pub fn read(
     length: u32,
     out: &mut [u32],
 ) -> Answer
-    ensures answer { λ r. ⌜ r ≡ orRefused (readRefusal space view below (now (maps .entry)) start length (lib.ListN.length (now (out .entry))))
-        (countOf (piecesOf (refreshed (viewOf space view below (now (maps .entry))) (belowOf space view below (now (maps .entry)))) start length)) ⌝ }
-    ensures left { λ r. ⌜ now (maps .exit) ≡ orKept
-        (readRefusal space view below (now (maps .entry)) start length (lib.ListN.length (now (out .entry))))
-        (refreshedMaps space view below (now (maps .entry))) (now (maps .entry)) ⌝ }
-    ensures listed { λ r. ⌜ now (out .exit) ≡ orKept
-        (readRefusal space view below (now (maps .entry)) start length (lib.ListN.length (now (out .entry))))
-        (listedIn (piecesOf (refreshed (viewOf space view below (now (maps .entry))) (belowOf space view below (now (maps .entry)))) start length)
-        (now (out .entry))) (now (out .entry)) ⌝ }
+    ensures { λ r. ⌜ ReadEntry space view below (now (maps .entry)) start length (now (out .entry)) r (now (maps .exit)) (now (out .exit)) ⌝ }
 {
     if !extents_pair::pair::two_maps(maps, space, view, below) {
         return Answer::Refused(refusal::STATE);

@@ -11,9 +11,10 @@ use Rattle.extents_meaning.specs.Runs.{runsFrom}
 use Rattle.extents_meaning.specs.Maps.{runs, bytesOf}
 use Rattle.extents_meaning.specs.Points.{starts}
 use Rattle.extents_meaning.proofs.Points.{begins, begins-same, begins-most, count-starts}
-use Rattle.extents_map.specs.Mixes.{mixed, mix}
+use Rattle.extents_map.specs.Mixes.{mixed, mixIn}
 use Rattle.extents_map.specs.Cursors.{Passed, Seen}
 use Rattle.extents_map.specs.declared.scan.Look.{Look}
+use Rattle.extents_map.specs.declared.scan.Mix.{Mix}
 use Rattle.extents_map.proofs.Scanning.{passed-on}
 
 -- ---- Starts
@@ -54,22 +55,22 @@ starts-on x y to c here f l m h =
 -- ---- The walk
 
 -- of the runs of the mix from byte `from` to byte `to`, n start before byte x, behind a byte of a cell; i and j are cursors into both maps
-pub record Counted (map below : List ℕ) (mode from to start end cell x n last i j : ℕ) : Type 0 where
+pub record Counted (map below : List ℕ) (mix : Mix) (from to x n last i j : ℕ) : Type 0 where
   pub sum :
-      starts (to - from) from 0 (mix mode start (end - start) cell (bytesOf map) (bytesOf below))
-      ≡ n + starts (to - x) x last (mix mode start (end - start) cell (bytesOf map) (bytesOf below))
+      starts (to - from) from 0 (mixIn mix (bytesOf map) (bytesOf below))
+      ≡ n + starts (to - x) x last (mixIn mix (bytesOf map) (bytesOf below))
   pub view : Passed (runs map) i x
   pub under : Passed (runs below) j x
 
 -- at first no run is counted
-pub count-start : (map below : List ℕ) (mode from to start end cell i j : ℕ) → Passed (runs map) i from → Passed (runs below) j from →
-    Counted map below mode from to start end cell from 0 0 i j
-count-start map below mode from to start end cell i j v u = record { sum = omega arith; view = v; under = u }
+pub count-start : (map below : List ℕ) (mix : Mix) (from to i j : ℕ) → Passed (runs map) i from → Passed (runs below) j from →
+    Counted map below mix from to from 0 0 i j
+count-start map below mix from to i j v u = record { sum = omega arith; view = v; under = u }
 
-module _ {map below : List ℕ} {mode from to start end cell x n last i j : ℕ} (k : Counted map below mode from to start end cell x n last i j) where
+module _ {map below : List ℕ} {mix : Mix} {from to x n last i j : ℕ} (k : Counted map below mix from to x n last i j) where
   -- what is counted
   abbrev mixOf : Bytes
-  mixOf = mix mode start (end - start) cell (bytesOf map) (bytesOf below)
+  mixOf = mixIn mix (bytesOf map) (bytesOf below)
 
   -- no more runs than bytes: the count fits
   pub count-most : n ≤ to
@@ -81,17 +82,17 @@ module _ {map below : List ℕ} {mode from to start end cell x n last i j : ℕ}
 
   -- a turn goes to the nearest byte y at which a map or the range may change
   module _ {v w : Look} {e y : ℕ} (h : x < to) (a : Seen map x v) (b : Seen below x w)
-      (d : (x < OFFSET-MAX → x < e) × ((z : ℕ) → x ≤ z → z < e → inRange start (end - start) z ≡ inRange start (end - start) x))
+      (d : (x < OFFSET-MAX → x < e) × ((z : ℕ) → x ≤ z → z < e → inRange (mix .start) (mix .end - mix .start) z ≡ inRange (mix .start) (mix .end - mix .start) x))
       (l : y ≡ min (min (v .next) (w .next)) (min e to)) where
     -- y lies behind x
     further : x < y
     further = omega (arith, a .on, b .on, d .0 (omega (arith, a .on, a .most)))
 
-    -- so fewer bytes are left
+    -- Fewer bytes are left from y on than from x on.
     pub count-less : to - y < to - x
     count-less = omega (arith, further)
 
-    module _ {inside : Bool} {here new : ℕ} (q : inside ≡ inRange start (end - start) x) (m : here ≡ mixed mode inside cell (v .cell) (w .cell))
+    module _ {inside : Bool} {here new : ℕ} (q : inside ≡ inRange (mix .start) (mix .end - mix .start) x) (m : here ≡ mixed (mix .mode) inside (mix .cell) (v .cell) (w .cell))
         (r : new ≡ begins here last) where
       -- up to there the mix has one cell
       same-there : (z : ℕ) → x ≤ z → z < y → mixOf z ≡ here
@@ -99,10 +100,10 @@ module _ {map below : List ℕ} {mode from to start end cell x n last i j : ℕ}
           let i = sym (d .1 z o (omega arith)) in
           let f = sym (a .cells z o (omega arith)) in
           let g = sym (b .cells z o (omega arith)) in
-          sym (m ∙ (λ t. mixed mode ((q ∙ i) t) cell (f t) (g t)))
+          sym (m ∙ (λ t. mixed (mix .mode) ((q ∙ i) t) (mix .cell) (f t) (g t)))
 
-      -- and the runs before y are counted
-      pub count-next : Counted map below mode from to start end cell y (n + new) here (v .at) (w .at)
+      -- The turn counts the runs before y.
+      pub count-next : Counted map below mix from to y (n + new) here (v .at) (w .at)
       count-next =
           let f : x ≤ y = omega (arith, further) in
           record {

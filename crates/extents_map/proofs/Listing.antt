@@ -131,7 +131,7 @@ abbrev backs : List Run → List ℕ
 backs [] = []
 backs (p ∷ ps) = backs ps ++ three p
 
--- as many as the pieces and the runs behind them
+-- Pieces with runs behind them: the sum of both counts.
 length-onto : (ps rs : List Run) → length (onto ps rs) ≡ length ps + length rs
 length-onto [] rs = omega arith
 length-onto (p ∷ ps) rs = omega (arith, length-onto ps (p ∷ rs))
@@ -184,13 +184,13 @@ module _ (p : Run) (ps : List Run) (t : List ℕ) where
   backs-place : length (backs ps ++ (p .start ∷ [])) ≡ suc (length ps) * 3 - 2
   backs-place = omega (arith, length-append (backs ps) (p .start ∷ []), length-backs ps)
 
-  -- it is read in its place
+  -- The length of the latest piece is read in its place.
   backs-get : getD (backs (p ∷ ps) ++ t) (suc (length ps) * 3 - 2) 0 ≡ p .length
   backs-get =
       ap (λ (l : List ℕ). getD l (suc (length ps) * 3 - 2) 0) backs-open
       ∙ getD-at (backs ps ++ (p .start ∷ [])) (p .length) ((p .cell - 1) ∷ t) 0 (suc (length ps) * 3 - 2) backs-place
 
--- and another is stored there
+-- A store at that place changes the length of the latest piece.
 backs-set : (p : Run) (ps : List Run) (t : List ℕ) (l : ℕ) →
     set (backs (p ∷ ps) ++ t) (suc (length ps) * 3 - 2) l ≡ backs (runOf (p .start) l (p .cell) ∷ ps) ++ t
 backs-set p ps t l =
@@ -208,7 +208,7 @@ three-put xs k a b c h =
     ∙ sets-eq (a ∷ (b ∷ (c ∷ []))) xs k h
     ∙ append-assoc (take k xs) (a ∷ (b ∷ (c ∷ []))) (drop (k + 3) xs)
 
--- they lengthen what stands at the front of a slice
+-- Three numbers stored behind the front of a slice lengthen that front.
 three-more : (bs xs ys : List ℕ) (k a b c : ℕ) → length bs ≡ k → ys ≡ bs ++ drop k xs →
     take k ys ++ (a ∷ (b ∷ (c ∷ drop (k + 3) ys))) ≡ (bs ++ (a ∷ (b ∷ (c ∷ [])))) ++ drop (k + 3) xs
 three-more bs xs ys k a b c l q =
@@ -219,7 +219,7 @@ three-more bs xs ys k a b c l q =
 
 -- ---- A listing
 
--- what it keeps: the pieces up to byte x are in place, and with the runs behind them they make the whole
+-- The pieces up to byte x are in place, and with the runs behind them they make the whole.
 pub record Listing (f : Bytes) (from to : ℕ) (xs ys : List ℕ) (x n last : ℕ) : Type 0 where
   done : List Run
   whole : behind done (runsFrom (to - x) x f) ≡ runsFrom (to - from) from f
@@ -292,7 +292,7 @@ module _ {f : Bytes} {from to : ℕ} {xs ys : List ℕ} {x n last : ℕ} (g : Li
     whole-more h =
         sym (behind-more (g .done) (runsFrom (to - e) e f) x last (e - x) v (g .ends) h) ∙ ap (behind (g .done)) (sym rest) ∙ g .whole
 
-    -- and so does the latest piece made longer
+    -- The latest piece made longer makes the whole with the runs behind it.
     whole-longer : v ≡ last → (z : Latest) → behind (grown (z .piece) (e - x) ∷ z .older) (runsFrom (to - e) e f) ≡ runsFrom (to - from) from f
     whole-longer q z =
         sym (behind-longer (z .piece) (z .older) (runsFrom (to - e) e f) x last (e - x) v (z .here) q)
@@ -359,11 +359,11 @@ valuesOf map b = suc (numberIn (bytesOf map b))
 -- what is seen at byte x, up to the end of the range
 module _ {map : List ℕ} {from to : ℕ} {xs ys : List ℕ} {x n last : ℕ} (g : Listing (valuesOf map) from to xs ys x n last) (on : x < to) {r : Look}
     (s : Seen map x r) {e : ℕ} (q : e ≡ min (r .next) to) where
-  -- it is not empty
+  -- The stretch seen is not empty.
   seen-on : x < e
   seen-on = omega (arith, s .on)
 
-  -- it has one value
+  -- The stretch seen has one value.
   seen-value : (b : ℕ) → x ≤ b → b < e → valuesOf map b ≡ numberIn (r .cell) + 1
   seen-value b h k = ap (λ (c : ℕ). suc (numberIn c)) (s .cells b h (omega arith)) ∙ omega arith
 
@@ -371,7 +371,7 @@ module _ {map : List ℕ} {from to : ℕ} {xs ys : List ℕ} {x n last : ℕ} (g
   pub seen-room : to ≤ OFFSET-MAX → Room ys n last (e - x) (numberIn (r .cell) + 1)
   seen-room = list-room g seen-on (omega arith) (omega arith) seen-value
 
-  -- with it in place the listing goes on, and so does the cursor
+  -- With the stretch in place the listing and its cursor go on.
   pub seen-next : {k : ℕ} {zs : List ℕ} → Put ys n last x (e - x) (numberIn (r .cell) + 1) k zs →
       Listing (valuesOf map) from to xs zs e k (numberIn (r .cell) + 1) × Passed (runs map) (r .at) e
   seen-next u = (list-next g seen-on (omega arith) (omega arith) seen-value u, passed-on (s .passed) e (omega (arith, seen-on)))

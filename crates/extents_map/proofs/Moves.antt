@@ -7,6 +7,7 @@ use mathlib.Core.Bool.{true}
 use mathlib.Core.List.{List, [], _∷_, _++_, append-assoc, append-nil}
 use lib.ListN.{length, getD, take, drop, set, replicate, length-append, length-drop, length-replicate, take-append-drop, replicate-append-replicate, List·getD-append}
 use lib.Seq.{length-take-le, take-suc, drop-cons, append-snoc, take-append-le, drop-append-le, getD-append-add, getD-take, getD-drop, take-take, drop-drop, set-at, take-at, drop-at, sets-eq, slice, slice-empty, slice-cons, length-slice}
+use borrow.Rule.Slice.PartMut.{putMid}
 use Rattle.extents_meaning.specs.Runs.{Run, runOf}
 use Rattle.extents_meaning.specs.Maps.{fours, mapOf, spaceIn, runs, lawful}
 use Rattle.extents_meaning.proofs.Trips.{lawful-map, length-fours, fours-append, rest-at}
@@ -16,7 +17,7 @@ use Rattle.extents_map.specs.Beside.{sideOf, partsOf}
 
 -- ---- Runs put
 
--- none
+-- No run put changes nothing.
 pub put-none : (xs : List ℕ) (i : ℕ) → xs ≡ putRuns xs i []
 unfolding fours
 put-none xs i =
@@ -95,14 +96,14 @@ put-thrice xs {ys} {zs} {ws} i {j} {k} ps qs rs h a p b q r =
 
 -- ---- Numbers moved up, from the last one on
 
--- those from i on are in their new places
+-- The numbers from place i on are in their new places.
 pub record Upward (xs : List ℕ) (from end by : ℕ) (ys : List ℕ) (i : ℕ) : Type 0 where
   pub low : from ≤ i
   pub high : i ≤ end
   pub fit : end + by ≤ length xs
   pub so-far : ys ≡ take (i + by) xs ++ (slice i end xs ++ drop (end + by) xs)
 
--- none is yet
+-- At first no number is moved up.
 pub up-start : (xs : List ℕ) (from end by : ℕ) → from ≤ end → end + by ≤ length xs → Upward xs from end by xs end
 up-start xs from end by h k =
     record {
@@ -201,14 +202,14 @@ down-front xs to by i h k =
       length-slice (to + by) (i + by) xs k,
     )
 
--- those up to place i are in their new places
+-- The numbers up to place i are in their new places.
 pub record Downward (xs : List ℕ) (to end by : ℕ) (ys : List ℕ) (i : ℕ) : Type 0 where
   pub low : to ≤ i
   pub high : i + by ≤ end
   pub fit : end ≤ length xs
   pub so-far : ys ≡ (take to xs ++ slice (to + by) (i + by) xs) ++ drop i xs
 
--- none is yet
+-- At first no number is moved down.
 pub down-start : (xs : List ℕ) (to end by : ℕ) → to + by ≤ end → end ≤ length xs → Downward xs to end by xs to
 down-start xs to end by h k =
     record {
@@ -226,7 +227,7 @@ module _ {xs : List ℕ} {to end by : ℕ} {ys : List ℕ} {i : ℕ} (u : Downwa
   abbrev moved : List ℕ
   moved = take to xs ++ slice (to + by) (i + by) xs
 
-  -- it ends at place i
+  -- The moved front ends at place i.
   moved-length : length moved ≡ i
   moved-length = let h = u .high in let k = u .fit in down-front xs to by i (u .low) (omega arith)
 
@@ -260,80 +261,23 @@ module _ {xs : List ℕ} {to end by : ℕ} {ys : List ℕ} {i : ℕ} (u : Downwa
 
 -- ---- Zeros stored
 
--- those from a place up to place i
-pub record Clearing (xs : List ℕ) (from end : ℕ) (ys : List ℕ) (i : ℕ) : Type 0 where
-  pub low : from ≤ i
-  pub high : i ≤ end
-  pub fit : end ≤ length xs
-  pub so-far : ys ≡ (take from xs ++ replicate (i - from) 0) ++ drop i xs
-
--- none is yet
-pub clear-start : (xs : List ℕ) (from end : ℕ) → from ≤ end → end ≤ length xs → Clearing xs from end xs from
-clear-start xs from end h k =
-    let z : from - from ≡ 0 = omega arith in
-    record {
-      low = omega arith;
-      high = h;
-      fit = k;
-      so-far =
-          sym
-          ((λ t. (take from xs ++ replicate (z t) 0) ++ drop from xs) ∙ (λ t. append-nil (take from xs) t ++ drop from xs)
-          ∙ take-append-drop from xs);
-    }
-
-module _ {xs : List ℕ} {from end : ℕ} {ys : List ℕ} {i : ℕ} (u : Clearing xs from end ys i) where
-  -- the zeros, behind what was kept
-  abbrev cleared : List ℕ
-  cleared = take from xs ++ replicate (i - from) 0
-
-  -- they end at place i
-  cleared-length : length cleared ≡ i
-  cleared-length =
-      let h = u .low in
-      let k = u .high in
-      let l = u .fit in
-      omega (
-        arith,
-        length-append (take from xs) (replicate (i - from) 0),
-        length-take-le from xs (omega arith),
-        length-replicate {A = ℕ} (i - from) 0,
-      )
-
-  -- the length is kept
-  pub clear-length : length ys ≡ length xs
-  clear-length = let h = u .high in let k = u .fit in ap length (u .so-far) ∙ store-length xs cleared i cleared-length (omega arith)
-
-  -- one more
-  pub clear-next : i < end → Clearing xs from end (set ys i 0) (i + 1)
-  clear-next h =
-      let l = u .low in
-      let k = u .fit in
-      let n = i - from in
-      let e : n + 1 ≡ i + 1 - from = omega arith in
-      record {
-        low = omega arith;
-        high = omega arith;
-        fit = k;
-        so-far =
-            (λ t. set (u .so-far t) i 0)
-            ∙ store-next xs cleared i cleared-length (omega arith) 0
-            ∙ (λ t. append-assoc (take from xs) (replicate n 0) (0 ∷ []) t ++ drop (i + 1) xs)
-            ∙ (λ t. (take from xs ++ replicate-append-replicate {A = ℕ} n 1 0 t) ++ drop (i + 1) xs)
-            ∙ (λ t. (take from xs ++ replicate {A = ℕ} (e t) 0) ++ drop (i + 1) xs);
-      }
-
-  -- all are
-  pub clear-stop : end ≤ i → ys ≡ take from xs ++ (replicate (end - from) 0 ++ drop end xs)
-  clear-stop h =
-      let e : i ≡ end = omega (arith, u .high) in
-      u .so-far
-      ∙ (λ t. (take from xs ++ replicate (e t - from) 0) ++ drop (e t) xs)
-      ∙ append-assoc (take from xs) (replicate (end - from) 0) (drop end xs)
+-- A part of a slice that comes back as zeros.
+pub cleared-part : (from to : ℕ) (xs : List ℕ) → from ≤ to → to ≤ length xs → {last : List ℕ} →
+    last ≡ replicate (length (take (to - from) (drop from xs))) 0 →
+    putMid from (to - from) xs last ≡ (take from xs ++ replicate (to - from) 0) ++ drop to xs
+cleared-part from to xs h k {last} e =
+    let n : length (take (to - from) (drop from xs)) ≡ to - from = length-take-le (to - from) (drop from xs) (omega (arith, length-drop from xs)) in
+    let z : last ≡ replicate (to - from) 0 = e ∙ ap (λ (m : ℕ). replicate {A = ℕ} m 0) n in
+    let d : from + (to - from) ≡ to = omega arith in
+    (λ t. take from xs ++ (z t ++ drop-drop (to - from) from xs t))
+    ∙ (λ t. take from xs ++ (replicate (to - from) 0 ++ drop (d t) xs))
+    ∙ sym (append-assoc (take from xs) (replicate (to - from) 0) (drop to xs))
 
 -- numbers moved down, then zeros
-pub down-clear : {xs ys zs : List ℕ} {to end by i j : ℕ} → Downward xs to end by ys i → end ≤ i + by → Clearing ys i end zs j → end ≤ j →
+pub down-clear : {xs ys zs : List ℕ} {to end by i : ℕ} → Downward xs to end by ys i → end ≤ i + by →
+    zs ≡ (take i ys ++ replicate (end - i) 0) ++ drop end ys →
     zs ≡ take to xs ++ (slice (to + by) end xs ++ (replicate by 0 ++ drop end xs))
-down-clear {xs} {ys} {zs} {to} {end} {by} {i} u h k l =
+down-clear {xs} {ys} {zs} {to} {end} {by} {i} u h k =
     let a = u .low in
     let b = u .high in
     let o = u .fit in
@@ -342,7 +286,7 @@ down-clear {xs} {ys} {zs} {to} {end} {by} {i} u h k l =
     let p = take to xs ++ slice (to + by) end xs in
     let q : length p ≡ i = (λ t. length (take to xs ++ slice (to + by) (sym e t) xs)) ∙ moved-length u in
     let w : drop i ys ≡ drop i xs = ap (drop i) (down-stop u h) ∙ drop-at p (drop i xs) i q in
-    clear-stop k l
+    k ∙ append-assoc (take i ys) (replicate (end - i) 0) (drop end ys)
     ∙ (λ t. (ap (take i) (down-stop u h) ∙ take-at p (drop i xs) i q) t ++ (replicate (n t) 0 ++ behind e w t))
     ∙ append-assoc (take to xs) (slice (to + by) end xs) (replicate by 0 ++ drop end xs)
   where
@@ -356,7 +300,7 @@ down-clear {xs} {ys} {zs} {to} {end} {by} {i} u h k l =
 front-kept : (xs zs : List ℕ) (k n : ℕ) → k ≤ n → n ≤ length xs → take k (take n xs ++ zs) ≡ take k xs
 front-kept xs zs k n h l = take-append-le k (take n xs) zs (omega (arith, length-take-le n xs l)) ∙ take-take k n xs h
 
--- those behind it are what was put there
+-- Behind the first n numbers stands what was put there.
 front-off : (xs zs : List ℕ) (n : ℕ) → n ≤ length xs → drop n (take n xs ++ zs) ≡ zs
 front-off xs zs n l = drop-at (take n xs) zs n (length-take-le n xs l)
 
@@ -402,7 +346,7 @@ module _ (xs : List ℕ) (e : lawful xs ≡ true) {all : ℕ} (n : all ≡ lengt
       ∙ ap (drop (4 * i)) (take-at (fours rs) zeros (4 * all) all-length ∙ fours-parted i)
       ∙ drop-at (fours (take i rs)) (fours (drop i rs)) (4 * i) (first-length i h)
 
-  -- and zeros behind all
+  -- Behind the runs of a lawful map stand zeros.
   behind-runs : drop (4 * all) xs ≡ zeros
   behind-runs = ap (drop (4 * all)) whole ∙ drop-at (fours rs) zeros (4 * all) all-length
 
@@ -418,14 +362,14 @@ module _ (xs : List ℕ) (e : lawful xs ≡ true) {all : ℕ} (n : all ≡ lengt
     abbrev later : List Run
     later = drop from rs
 
-    -- their numbers and zeros up to the end are their map from the place `to` on
+    -- The numbers of the later runs and zeros up to the end are the map of those runs from the place `to` on.
     moved-map : (m : ℕ) → m ≡ 4 * (space - to - (all - from)) → fours later ++ replicate m 0 ≡ mapOf (space - to) later
     unfolding mapOf
     moved-map m q =
         let k : m ≡ 4 * (space - to - length later) = omega (arith, length-drop from rs) in
         λ t. fours later ++ replicate (k t) 0
 
-    -- they stand there already
+    -- Where the runs do not move, their map stands there already.
     pub moved-none : from ≡ to → drop (4 * to) xs ≡ mapOf (space - to) later
     moved-none q =
         rest-at xs e (take from rs) later to (sym (take-append-drop from rs)) (length-take-le from rs (omega arith) ∙ q)

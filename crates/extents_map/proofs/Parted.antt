@@ -38,7 +38,7 @@ pub part-none : (s l c : ℕ) → l ≡ 0 → partOf s l c ≡ []
 unfolding partOf
 part-none s l c e = rw (eq-eqb l 0 e)
 
--- any other is one
+-- A part of another length is one run.
 pub part-some : (s l c : ℕ) → 1 ≤ l → partOf s l c ≡ runOf s l c ∷ []
 unfolding partOf
 part-some s l c h = rw (ne-eqb l 0 (λ e. omega arith))
@@ -47,7 +47,7 @@ part-some s l c h = rw (ne-eqb l 0 (λ e. omega arith))
 pub size-none : (s l c : ℕ) → l ≡ 0 → 0 ≡ length (partOf s l c)
 size-none s l c e = ap length (sym (part-none s l c e))
 
--- and any other
+-- A part of a length other than 0 counts as one run.
 pub size-some : (s l c : ℕ) → (l ≡ 0 → ⊥) → 1 ≡ length (partOf s l c)
 size-some s l c f = ap length (sym (part-some s l c (omega arith)))
 
@@ -60,7 +60,7 @@ rising-at p rs g zero h = g
 rising-at p [] g (suc i) h = absurd (omega arith)
 rising-at p (r ∷ rs) g (suc i) h = rising-at r rs (g .1) i (omega arith)
 
--- and so may all that may follow it
+-- Runs that may follow the last of the first i runs may follow all i.
 follow-at : (p : Run) (rs : List Run) → Rising OFFSET-MAX (endOf p) (p .cell) rs → (i : ℕ) → i ≤ length rs → (qs : List Run) →
     Rising OFFSET-MAX (endOf (getD (p ∷ rs) i (runOf 0 0 0))) (getD (p ∷ rs) i (runOf 0 0 0) .cell) qs →
     Rising OFFSET-MAX (endOf p) (p .cell) (take i rs ++ qs)
@@ -75,7 +75,7 @@ end-at p rs g zero h = omega arith
 end-at p [] g (suc i) h = absurd (omega arith)
 end-at p (r ∷ rs) g (suc i) h = let n = g .0 in omega (arith, end-at r rs (g .1) i (omega arith))
 
--- from its end on the bytes have the cells of what stands behind
+-- From the end of the last of the first i runs on, bytes have the cells of the runs behind.
 ends-at : (p : Run) (rs : List Run) → Rising OFFSET-MAX (endOf p) (p .cell) rs → (i : ℕ) → i ≤ length rs → (qs : List Run) (b : ℕ) →
     endOf (getD (p ∷ rs) i (runOf 0 0 0)) ≤ b → cellAt (take i rs ++ qs) b ≡ cellAt qs b
 ends-at p rs g zero h qs b k = refl
@@ -89,7 +89,7 @@ start-low p [] g i h = absurd (omega arith)
 start-low p (r ∷ rs) g zero h = g .0 .rising
 start-low p (r ∷ rs) g (suc i) h = let n = g .0 in omega (arith, start-low r rs (g .1) i (omega arith))
 
--- its bytes have its cell
+-- The bytes of run i have its cell.
 cell-in : (p : Run) (rs : List Run) → Rising OFFSET-MAX (endOf p) (p .cell) rs → (i : ℕ) → i < length rs → (b : ℕ) → runNo rs i .start ≤ b →
     b < endOf (runNo rs i) → cellAt rs b ≡ runNo rs i .cell
 cell-in p [] g i h b l k = absurd (omega arith)
@@ -103,7 +103,7 @@ cell-in p (r ∷ rs) g (suc i) h b l k =
 pub before-next : (rs : List Run) (i : ℕ) → runBefore rs (i + 1) ≡ runNo rs i
 before-next rs i = rw add-one
 
--- and the run before run i is run i - 1
+-- The run before run i is run i - 1.
 pub before-last : (rs : List Run) (i : ℕ) → 0 < i → runBefore rs i ≡ runNo rs (i - 1)
 before-last rs i h = let e : i ≡ suc (i - 1) = omega arith in ap (runBefore rs) e
 
@@ -166,11 +166,11 @@ module _ {rs : List Run} (g : Rising OFFSET-MAX 0 0 rs) {start cell i : ℕ} (m 
         from-here b
         ∙ mean-first OFFSET-MAX (endOf (runBefore rs i)) (runBefore rs i .cell) here (drop (suc i) rs) (next-at rs g i h) b (omega arith)
 
-    -- it starts with the range or later
+    -- Run i starts with the range or later: nothing stays before the range.
     pub left-clear : start ≤ here .start → Front rs start cell (take i rs ++ partOf 0 0 0) start
     left-clear l = left-none (λ b k. free-here start b l k)
 
-    -- it starts earlier, with the same cell
+    -- Run i starts earlier, with the range's cell: the range begins with the run.
     pub left-join : here .start < start → here .cell ≡ cell → Front rs start cell (take i rs ++ partOf 0 0 0) (here .start)
     left-join l e =
         let n = next-at rs g i h .0 in
@@ -189,7 +189,7 @@ module _ {rs : List Run} (g : Rising OFFSET-MAX 0 0 rs) {start cell i : ℕ} (m 
         cell-first part qs b (omega arith) (omega arith)
         ∙ sym (from-here b ∙ cell-first here (drop (suc i) rs) b (omega arith) (omega (arith, m .meets h)))
 
-    -- it starts earlier, with another cell: the part stays
+    -- Run i starts earlier, with another cell: its part before the range stays.
     pub left-rest : here .start < start → (here .cell ≡ cell → ⊥) →
         Front rs start cell (take i rs ++ partOf (here .start) (start - here .start) (here .cell)) start
     left-rest l e =
@@ -240,17 +240,17 @@ module _ {rs : List Run} (g : Rising OFFSET-MAX 0 0 rs) {first end cell i : ℕ}
     abbrev final : Run
     final = runNo rs (i - 1)
 
-    -- it is the run before run i
+    -- Run i - 1 is the run before run i.
     final-at : runBefore rs i ≡ final
     final-at = before-last rs i (omega arith)
 
-    -- its bytes behind the range have its cell
+    -- The bytes of the last run met that lie behind the range have its cell.
     final-in : (b : ℕ) → end ≤ b → b < endOf final → cellAt rs b ≡ final .cell
     final-in b l k =
         let low : final .start ≤ end = rw final-at at (m .reached h) in
         cell-in (runOf 0 0 0) rs g (i - 1) (omega (arith, m .most)) b (omega arith) k
 
-    -- what it keeps behind the run before it
+    -- The last run met may follow the run before it.
     final-next : Next OFFSET-MAX (endOf (runBefore rs (i - 1))) (runBefore rs (i - 1) .cell) final
     final-next = next-at rs g (i - 1) (omega (arith, m .most)) .0
 
@@ -258,15 +258,15 @@ module _ {rs : List Run} (g : Rising OFFSET-MAX 0 0 rs) {first end cell i : ℕ}
     final-order : Rising OFFSET-MAX (endOf final) (final .cell) (drop i rs)
     final-order = let e : suc (i - 1) ≡ i = omega arith in rw e at (next-at rs g (i - 1) (omega (arith, m .most)) .1)
 
-    -- from its end on they say all
+    -- From the end of the last run met on, the runs behind it say all.
     final-same : (b : ℕ) → endOf final ≤ b → cellAt (drop i rs) b ≡ cellAt rs b
     final-same b l = same-behind rs g i (m .most) b (rw final-at l)
 
-    -- it ends with the range or earlier
+    -- The last run met ends with the range or earlier: nothing stays behind the range.
     pub right-done : endOf final ≤ end → Back rs end cell (partOf 0 0 0 ++ drop i rs) end
     right-done l = right-clear (rw final-at l)
 
-    -- it ends later, with the same cell
+    -- The last run met ends later, with the range's cell: the range ends with the run.
     pub right-join : end < endOf final → final .cell ≡ cell → Back rs end cell (partOf 0 0 0 ++ drop i rs) (endOf final)
     right-join l e =
         rw (part-none 0 0 0 refl)
@@ -287,7 +287,7 @@ module _ {rs : List Run} (g : Rising OFFSET-MAX 0 0 rs) {first end cell i : ℕ}
     rest-cell b k (yes o) = cell-first rest-part (drop i rs) b k (omega arith) ∙ sym (final-in b k o)
     rest-cell b k (no o) = cell-behind rest-part (drop i rs) b (omega arith) ∙ final-same b (omega arith)
 
-    -- it ends later, with another cell: the part stays
+    -- The last run met ends later, with another cell: its part behind the range stays.
     pub right-rest : end < endOf final → (final .cell ≡ cell → ⊥) → Back rs end cell (partOf end (endOf final - end) (final .cell) ++ drop i rs) end
     right-rest l e =
         let n = final-next in
@@ -312,12 +312,12 @@ pub record Past (rs : List Run) (x lo hi : ℕ) : Type 0 where
   pub passed : endOf (runBefore rs lo) ≤ x
   pub behind : hi < length rs → x < endOf (runNo rs hi)
 
--- at first it may be any
+-- At first the run looked for may be any of the runs.
 pub past-start : (rs : List Run) (x : ℕ) {all : ℕ} → all ≡ length rs → Past rs x 0 all
 past-start rs x e = record { order = omega arith; within = omega arith; passed = omega arith; behind = λ h. absurd (omega arith) }
 
 module _ {rs : List Run} {x lo hi : ℕ} (k : Past rs x lo hi) {mid : ℕ} (l : lo ≤ mid) (h : mid < hi) where
-  -- not one behind run mid, where that one ends behind x
+  -- Run mid ends behind x: the run looked for is run mid or an earlier one.
   pub past-low : x < endOf (runNo rs mid) → Past rs x lo mid
   past-low f = record { order = l; within = omega (arith, k .within); passed = k .passed; behind = λ o. f }
 
@@ -363,7 +363,7 @@ pub record Reaching (rs : List Run) (first end i : ℕ) : Type 0 where
   pub within : i ≤ length rs
   pub reached : first < i → runBefore rs i .start ≤ end
 
--- none is yet
+-- At first no run is met.
 pub reach-start : (rs : List Run) (first end : ℕ) → first ≤ length rs → Reaching rs first end first
 reach-start rs first end h = record { low = omega arith; within = h; reached = λ l. absurd (omega arith) }
 
@@ -398,14 +398,14 @@ module _ (rs : List Run) (start end cell : ℕ) (wide : start < end) {front back
   abbrev rest : List Run
   rest = partOf from n cell ++ back
 
-  -- they may follow the runs before the range, and what they say before it, in it and behind it
+  -- The range and the runs behind it may follow the runs before the range; `before`, `inside` and `behind` give their cells.
   record Rest : Type 0 where
     order : Rising OFFSET-MAX from (a .last) rest
     before : (b : ℕ) → b < from → cellAt rest b ≡ 0
     inside : (b : ℕ) → from ≤ b → b < to → cellAt rest b ≡ cell
     behind : (b : ℕ) → to ≤ b → cellAt rest b ≡ cellAt rs b
 
-  -- so it is
+  -- The range and the runs behind it keep all of `Rest`.
   rested : Rest
   rested = go (decLt 0 cell)
     where
@@ -458,13 +458,13 @@ module _ (rs : List Run) (start end cell : ℕ) (wide : start < end) {front back
           let o : from ≤ b = omega arith in
           a .ends rest b o ∙ rested .inside b o (omega (arith, z .far)) ∙ sym (a .join b o l)
 
-  -- those in it
+  -- The bytes in the range have their cells.
   mean-range : (b : ℕ) → start ≤ b → b < end → cellAt (front ++ rest) b ≡ goal b
   mean-range b l k =
       let o : from ≤ b = omega (arith, a .near) in
       a .ends rest b o ∙ rested .inside b o (omega (arith, z .far)) ∙ sym (rw (range-in start (end - start) b (omega arith) (omega arith)))
 
-  -- those behind it
+  -- The bytes behind the range have their cells.
   mean-late : (b : ℕ) → end ≤ b → Dec (b < to) → cellAt (front ++ rest) b ≡ goal b
   mean-late b l d = a .ends rest b (omega (arith, a .near)) ∙ go d ∙ rw (range-behind start (end - start) b (omega arith))
     where
@@ -478,7 +478,7 @@ module _ (rs : List Run) (start end cell : ℕ) (wide : start < end) {front back
   laid-mean b (no l) (yes k) = mean-range b (omega arith) k
   laid-mean b (no l) (no k) = mean-late b (omega arith) (decLt b to)
 
-  -- so they are the runs of what is to be
+  -- The runs before the range, the range and the runs behind it are the runs of what every byte is to hold.
   pub laid-runs : front ++ rest ≡ runsOf goal
   unfolding runsOf
   laid-runs =

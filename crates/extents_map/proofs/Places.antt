@@ -9,7 +9,7 @@ use lib.ListN.{length, getD, take, drop}
 use lib.Seq.{split-at, length-take-le, getD-drop}
 use Rattle.rows.specs.Limits.{ROWS, OFFSET-MAX}
 use Rattle.extents_meaning.specs.Cells.{numberIn}
-use Rattle.extents_meaning.specs.Runs.{Run, runOf, Numbered}
+use Rattle.extents_meaning.specs.Runs.{Run, runOf, NumbersLegal}
 use Rattle.extents_meaning.specs.Maps.{spaceIn, runs, lawful}
 use Rattle.extents_meaning.proofs.Trips.{map-none, lawful-map, rest-at, run-at}
 use Rattle.rows.proofs.Zeros.{zeros}
@@ -17,7 +17,7 @@ use Rattle.extents_map.specs.Beside.{endOf, runNo}
 use Rattle.extents_map.proofs.Parted.{next-at}
 
 -- every run has a row number
-number-at : (rs : List Run) → Numbered rs → (i : ℕ) → i < length rs → numberIn (runNo rs i .cell) ≤ ROWS
+number-at : (rs : List Run) → NumbersLegal rs → (i : ℕ) → i < length rs → numberIn (runNo rs i .cell) ≤ ROWS
 number-at [] n i h = absurd (omega arith)
 number-at (r ∷ rs) n zero h = n .1
 number-at (r ∷ rs) n (suc i) h = number-at rs (n .2) i (omega arith)
@@ -32,7 +32,7 @@ pub record Here (xs : List ℕ) (i : ℕ) : Type 0 where
   pub low : runNo (runs xs) i .cell ≤ 8193
   pub filled : 1 ≤ getD xs (i * 4 + 1) 0
 
--- it is that run
+-- At the place of run i stands run i.
 pub here : (xs : List ℕ) (i : ℕ) → lawful xs ≡ true → i < length (runs xs) → Here xs i
 here xs i e h =
     let m = lawful-map xs e in
@@ -66,7 +66,7 @@ module _ (xs : List ℕ) (e : lawful xs ≡ true) (i : ℕ) where
       ∙ ap (λ (ys : List ℕ). getD ys k 0) (rest-at xs e (runs xs) [] n (sym (append-nil (runs xs))) refl ∙ map-none (spaceIn xs - n))
       ∙ zeros (4 * (spaceIn xs - n)) k
 
-  -- so a run stands where the length is another
+  -- A run stands where the length is other than 0.
   pub count-some : (getD xs (i * 4 + 1) 0 ≡ 0 → ⊥) → i < length (runs xs)
   count-some f = go (decLt i (length (runs xs)))
     where
@@ -74,7 +74,7 @@ module _ (xs : List ℕ) (e : lawful xs ≡ true) (i : ℕ) where
       go (yes h) = h
       go (no h) = absurd (f (length-none (omega arith)))
 
-  -- and none where it is 0
+  -- No run stands where the length is 0.
   pub count-none : getD xs (i * 4 + 1) 0 ≡ 0 → length (runs xs) ≤ i
   count-none z = go (decLt i (length (runs xs)))
     where

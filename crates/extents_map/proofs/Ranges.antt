@@ -51,7 +51,7 @@ module _ {xs : List ℕ} {start end cell all first behind : ℕ} {left : Side} {
   abbrev goal : Bytes
   goal = overwrite start (end - start) cell (bytesOf xs)
 
-  -- its runs: those before the range, its parts, and those behind it
+  -- The runs of what every byte is to hold: those before the range, its parts, and those behind it.
   new-runs : take first (runs xs) ++ (partsOf left middle cell right ++ drop behind (runs xs)) ≡ runsOf goal
   new-runs = simp append-assoc (simp append-assoc at (laid-runs (runs xs) start end cell (k .wide) (k .front) (k .back) (k .clear) (k .fill)))
 
@@ -73,11 +73,11 @@ module _ {xs : List ℕ} {start end cell all first behind : ℕ} {left : Side} {
         k .count,
       )
 
-  -- they do not fit
+  -- The runs do not fit: the answer is false.
   pub not-laid : spaceIn xs < all - (behind - first) + parts → false ≡ leb (length (runsOf goal)) (spaceIn xs)
   not-laid h = sym (lt-leb (length (runsOf goal)) (spaceIn xs) (omega (arith, new-count)))
 
-  -- they fit, and are laid
+  -- The runs fit, and the slice holds their map.
   pub all-laid : (ys : List ℕ) {zs : List ℕ} → all - (behind - first) + parts ≤ spaceIn xs →
       ((p : ℕ) → p ≤ behind → p ≤ first + parts → take (4 * p) ys ≡ take (4 * p) xs) →
       drop (4 * (first + parts)) ys ≡ mapOf (spaceIn xs - (first + parts)) (drop behind (runs xs)) →

@@ -15,7 +15,7 @@ use lib.Bits.{bitOr, or-zero-r, or-add-and, and-le-l}
 use borrow.Author.Tests.{not-true, not-false, eq-eqb, ne-eqb}
 use Rattle.rows.specs.Limits.{ROWS, OFFSET-MAX}
 use Rattle.extents_meaning.specs.Cells.{numberIn}
-use Rattle.extents_meaning.specs.Runs.{Run, cellAt, Rising, Numbered}
+use Rattle.extents_meaning.specs.Runs.{Run, cellAt, Rising, NumbersLegal}
 use Rattle.extents_meaning.specs.Maps.{runsIn, spaceIn, runs, allZero, lawfulFrom, lawful, noMarks}
 use Rattle.extents_meaning.proofs.Longest.{cell-first, cell-behind, mean-first}
 use Rattle.extents_meaning.proofs.Trips.{May, may-out, runAt, followsAt, runs-step, runs-stop, read-stop, read-on, scan-stop, scan-bad, scan-on, lawful-map}
@@ -89,7 +89,7 @@ module _ {xs : List ℕ} {space i end cell : ℕ} (s : Reached xs space i end ce
         Reached xs space (i + 1) (runAt i xs .start + runAt i xs .length) (runAt i xs .cell)
     lawful-on h f e = record { rest = s .rest ∙ scan-on space i xs h end cell f (sym t ∙ not-false r e) }
 
-    -- and its numbers are in range
+    -- The numbers of a run that may follow are in range.
     pub lawful-may : not r ≡ false → May end cell (getD xs (4 * i) 0) (getD xs (4 * i + 1) 0) (getD xs (4 * i + 2) 0) (getD xs (4 * i + 3) 0)
     lawful-may e = may-out end cell _ _ _ _ (sym t ∙ not-false r e)
 
@@ -155,8 +155,8 @@ rising-drop top end c rs g zero = (end, c, g)
 rising-drop top end c [] g (suc i) = (end, c, tt)
 rising-drop top end c (r ∷ rs) g (suc i) = rising-drop top (r .start + r .length) (r .cell) rs (g .1) i
 
--- and have row numbers
-numbered-drop : (rs : List Run) → Numbered rs → (i : ℕ) → Numbered (drop i rs)
+-- The runs from run i on have legal row numbers.
+numbered-drop : (rs : List Run) → NumbersLegal rs → (i : ℕ) → NumbersLegal (drop i rs)
 numbered-drop rs g zero = g
 numbered-drop [] g (suc i) = tt
 numbered-drop (r ∷ rs) g (suc i) = numbered-drop rs (g .2) i
@@ -170,7 +170,7 @@ record Here (xs : List ℕ) (i : ℕ) : Type 0 where
   in-order : Rising OFFSET-MAX end c (runAt i xs ∷ drop (i + 1) (runs xs))
   high : numberIn (runAt i xs .cell) ≤ ROWS
 
--- it stands where the length is other than 0
+-- Run i stands where the length is other than 0.
 here : (xs : List ℕ) (i : ℕ) → lawful xs ≡ true → i ≤ length (runs xs) → i < spaceIn xs → getD xs (4 * i + 1) 0 ≢ 0 → Here xs i
 here xs i e l h f =
     let m = lawful-map xs e .lawful-runs in
@@ -178,7 +178,7 @@ here xs i e l h f =
     let k : i < length (runs xs) = omega (arith, ap length q, length-drop i (runs xs)) in
     let s = q ∙ ap (λ (rs : List Run). runAt i xs ∷ rs) (sym (runs-drop (i + 1) (spaceIn xs) xs (omega arith))) in
     let g = rising-drop OFFSET-MAX 0 0 (runs xs) (m .in-order) i in
-    let n : Numbered (runAt i xs ∷ drop (i + 1) (runs xs)) = rw s at (numbered-drop (runs xs) (m .numbered) i) in
+    let n : NumbersLegal (runAt i xs ∷ drop (i + 1) (runs xs)) = rw s at (numbered-drop (runs xs) (m .numbered) i) in
     record { end = g .0; c = g .1; more = k; split = s; in-order = rw s at (g .2); high = n .1 }
 
 -- ---- What stands at a byte
@@ -205,12 +205,12 @@ module _ {xs : List ℕ} {i x : ℕ} (p : Looking xs i x) where
       let s = runs-drop i (spaceIn xs) xs (p .passed .some) ∙ n in
       record { cells = λ b l k. sym (p .passed .same b l) ∙ rw s; on = p .below; most = omega arith; passed = p .passed }
 
-  -- so where no space is left
+  -- Where no space is left, the byte is not written.
   pub see-end : spaceIn xs ≤ i → Seen xs x (lookOf 0 OFFSET-MAX i)
   unfolding runsIn
   see-end k = see-none (let z : spaceIn xs - i ≡ 0 = omega arith in rw z)
 
-  -- and at a length 0
+  -- At a length 0 the byte is not written.
   pub see-stop : getD xs (4 * i + 1) 0 ≡ 0 → Seen xs x (lookOf 0 OFFSET-MAX i)
   see-stop z = see-none (read-stop (spaceIn xs) i xs z)
 
@@ -219,11 +219,11 @@ module _ {xs : List ℕ} {i x : ℕ} (p : Looking xs i x) where
     run-here : Here xs i
     run-here = here xs i (p .law) (p .passed .some) h f
 
-    -- its cell is that of a row number to 4,096 and a mark
+    -- The cell of run i is that of a row number to 4,096 and a mark.
     pub see-cell : runAt i xs .cell ≤ 8193
     see-cell = omega (arith, run-here .high)
 
-    -- it ends within the offset range
+    -- Run i ends within the offset range.
     pub see-inside : runAt i xs .start + runAt i xs .length ≤ OFFSET-MAX
     see-inside = run-here .in-order .0 .inside
 

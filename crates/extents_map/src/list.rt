@@ -30,7 +30,7 @@ pub fn list(map: &[u32], from: u32, to: u32, out: &mut [u32]) -> usize
     n
 }
 
-// Puts a piece behind n others, or lengthens the last of them where it has the same value, and answers how many there are then.
+// Puts a piece behind n others, or lengthens the last of them where both have one value, and answers how many pieces there are then.
 fn put_piece(out: &mut [u32], n: usize, last: u32, start: u32, size: u32, value: u32) -> usize
     requires { ⌜ Room (now out) n last size value ⌝ }
     ensures { λ r. ⌜ Put (now (out .entry)) n last start size value r (now (out .exit)) ⌝ }

@@ -1,4 +1,4 @@
-// Reading maps: whether one is lawful, what stands at a byte, and how many runs a mix of two maps has.
+// Reading maps: whether a map is lawful, which cell a byte has, and how many runs a mix of two maps has.
 ghost use Prim.Native.Nat.{ℕ, _+_, _*_, _-_, _≤_, _<_, min, max};
 ghost use mathlib.Core.Path.{_≡_};
 ghost use mathlib.Core.Bool.{true, cond, not, _&&_};
@@ -7,18 +7,18 @@ ghost use lib.Dec.{eqb};
 ghost use Rattle.extents_meaning.specs.Cells.{inRange};
 ghost use Rattle.extents_meaning.specs.Runs.{runsFrom};
 ghost use Rattle.extents_meaning.specs.Maps.{runs, bytesOf, allZero, follows, lawful, noMarks, lawfulPublished};
-ghost use Rattle.extents_map.specs.Mixes.{mixed as Mixes·mixed, mix};
+ghost use Rattle.extents_map.specs.Mixes.{mixed as Mixes·mixed, mixIn};
 ghost use Rattle.extents_map.specs.Cursors.{Passed, Seen};
 ghost use Rattle.rows.specs.Limits.{OFFSET-MAX, ROWS};
 
-// What stands at a byte: its cell, the next byte that may have another, and the run to go on from.
+// The cell of a byte, the next byte that may have another cell, and the run to go on from.
 pub struct Look {
     pub cell: u32,
     pub next: u32,
     pub at: usize,
 }
 
-// Runs in rising order, longest, with row numbers 1 to 4,096 and marks 0 or 1, then 0.
+// Does the map hold longest runs in rising order, with row numbers 1 to 4,096 and marks 0 or 1, and then 0?
 pub fn is_lawful(map: &[u32]) -> bool
     ensures { λ r. ⌜ r ≡ lawful (now (map .entry)) ⌝ }
 {
@@ -48,7 +48,7 @@ pub fn is_lawful(map: &[u32]) -> bool
     true
 }
 
-// Only 0 from a place on: all bits together.
+// Are all numbers from a place on 0? The loop gathers their bits.
 fn is_zero(map: &[u32], from: usize) -> bool
     ensures { λ r. ⌜ r ≡ allZero (drop from (now (map .entry))) ⌝ }
 {
@@ -61,7 +61,7 @@ fn is_zero(map: &[u32], from: usize) -> bool
     bits == 0
 }
 
-// A run may follow one that ends at `end` with a cell.
+// May a run follow one that ends at `end` with the cell `cell`?
 fn may_follow(end: u32, cell: u32, start: u32, length: u32, number: u32, mark: u32) -> bool
     ensures { λ r. ⌜ r ≡ follows end cell start length number mark ⌝ }
 {
@@ -89,7 +89,7 @@ fn may_follow(end: u32, cell: u32, start: u32, length: u32, number: u32, mark: u
     true
 }
 
-// A lawful map whose marks are all 0.
+// Is the map lawful, with every mark 0?
 pub fn is_published(map: &[u32]) -> bool
     ensures { λ r. ⌜ r ≡ lawfulPublished (now (map .entry)) ⌝ }
 {
@@ -99,6 +99,7 @@ pub fn is_published(map: &[u32]) -> bool
     has_no_marks(map)
 }
 
+// Is every mark of a map 0?
 fn has_no_marks(map: &[u32]) -> bool
     ensures { λ r. ⌜ r ≡ noMarks (runs (now (map .entry))) ⌝ }
 {
@@ -117,7 +118,7 @@ fn has_no_marks(map: &[u32]) -> bool
     true
 }
 
-// What stands at byte x, from a run on before which all end at x or earlier.
+// The cell at byte x. All runs before index `from` end at or before x.
 pub fn see(map: &[u32], from: usize, x: u32) -> Look
     requires { ⌜ lawful (now map) ≡ true ⌝ }
     requires { ⌜ Passed (runs (now map)) from x × (x < OFFSET-MAX) ⌝ }
@@ -159,7 +160,7 @@ pub fn see(map: &[u32], from: usize, x: u32) -> Look
     }
 }
 
-// A run from which on byte x can be seen: all before it end at x or earlier.
+// An index of a run from which `see` may look for byte x: all runs before it end at or before x.
 pub fn seek(map: &[u32], x: u32) -> usize
     requires { ⌜ lawful (now map) ≡ true ⌝ }
     ensures { λ r. ⌜ Passed (runs (now (map .entry))) r x ⌝ }
@@ -168,20 +169,28 @@ pub fn seek(map: &[u32], x: u32) -> usize
     crate::splice::first_past(map, all, x)
 }
 
-// How many runs a mix of two maps and a range has from a byte to another.
-pub fn count(
-    map: &[u32],
-    below: &[u32],
-    mode: u32,
-    from: u32,
-    to: u32,
-    start: u32,
-    end: u32,
-    cell: u32,
-) -> usize
+// What a mix makes of the cells of two maps, a view and the published map.
+pub enum Mode {
+    Publish,
+    MarkPublished,
+    Refresh,
+    ReadMap,
+    ReadFresh,
+}
+
+// A mix of two maps and a range that has a cell of its own.
+pub struct Mix {
+    pub mode: Mode,
+    pub start: u32,
+    pub end: u32,
+    pub cell: u32,
+}
+
+// How many runs a mix of two maps has from one byte to another.
+pub fn count(map: &[u32], below: &[u32], mix: Mix, from: u32, to: u32) -> usize
     requires { ⌜ (lawful (now map) ≡ true) × (lawful (now below) ≡ true) ⌝ }
-    requires { ⌜ (from ≤ to) × (start ≤ end) ⌝ }
-    ensures { λ r. ⌜ r ≡ length (runsFrom (to - from) from (mix mode start (end - start) cell (bytesOf (now (map .entry))) (bytesOf (now (below .entry))))) ⌝ }
+    requires { ⌜ (from ≤ to) × (mix .start ≤ mix .end) ⌝ }
+    ensures { λ r. ⌜ r ≡ length (runsFrom (to - from) from (mixIn mix (bytesOf (now (map .entry))) (bytesOf (now (below .entry))))) ⌝ }
 {
     let mut x = from;
     let mut n = 0;
@@ -191,51 +200,57 @@ pub fn count(
     while x < to {
         let v = see(map, i, x);
         let w = see(below, j, x);
-        let here = mixed(mode, is_inside(start, end, x), cell, v.cell, w.cell);
+        let here = mixed(mix, is_inside(mix.start, mix.end, x), v.cell, w.cell);
         n += begins(here, last);
         last = here;
         i = v.at;
         j = w.at;
-        x = least(least(v.next, w.next), least(edge(start, end, x), to));
+        x = least(
+            least(v.next, w.next),
+            least(edge(mix.start, mix.end, x), to),
+        );
     }
     n
 }
 
-// What a mode makes of a byte.
-fn mixed(mode: u32, inside: bool, c: u32, v: u32, w: u32) -> u32
-    ensures { λ r. ⌜ r ≡ Mixes·mixed mode inside c v w ⌝ }
+// What a mix makes of one byte, in its range or not, where the two maps have cells v and w.
+fn mixed(mix: Mix, inside: bool, v: u32, w: u32) -> u32
+    ensures { λ r. ⌜ r ≡ Mixes·mixed (mix .mode) inside (mix .cell) v w ⌝ }
 {
-    if mode == 0 {
-        if inside {
-            return c;
+    let mode = mix.mode;
+    match mode {
+        Mode::Publish => {
+            if inside {
+                return mix.cell;
+            }
+            if v % 2 == 1 {
+                return v / 2 * 2;
+            }
+            w
         }
-        if v % 2 == 1 {
-            return v / 2 * 2;
+        Mode::MarkPublished => {
+            if inside {
+                return mix.cell;
+            }
+            v / 2 * 2
         }
-        return w;
-    }
-    if mode == 1 {
-        if inside {
-            return c;
+        Mode::Refresh => {
+            if v % 2 == 1 {
+                return v;
+            }
+            w
         }
-        return v / 2 * 2;
-    }
-    if mode == 2 {
-        if v % 2 == 1 {
-            return v;
+        Mode::ReadMap => v / 2 + 1,
+        Mode::ReadFresh => {
+            if v % 2 == 1 {
+                return v / 2 + 1;
+            }
+            w / 2 + 1
         }
-        return w;
     }
-    if mode == 3 {
-        return v / 2 + 1;
-    }
-    if v % 2 == 1 {
-        return v / 2 + 1;
-    }
-    w / 2 + 1
 }
 
-// 1 where a cell other than 0 differs from the one before it.
+// 1 where a cell is neither 0 nor the cell of the byte before, else 0.
 fn begins(here: u32, last: u32) -> usize
     ensures { λ r. ⌜ r ≡ cond (not (eqb here 0) && not (eqb here last)) 1 0 ⌝ }
 {
@@ -248,6 +263,7 @@ fn begins(here: u32, last: u32) -> usize
     1
 }
 
+// Does byte x lie in a range?
 fn is_inside(start: u32, end: u32, x: u32) -> bool
     requires { ⌜ start ≤ end ⌝ }
     ensures { λ r. ⌜ r ≡ inRange start (end - start) x ⌝ }
@@ -258,7 +274,7 @@ fn is_inside(start: u32, end: u32, x: u32) -> bool
     x < end
 }
 
-// The next end of a range behind x.
+// The next byte behind x at which a range starts or ends.
 fn edge(start: u32, end: u32, x: u32) -> u32
     ensures { λ r. ⌜ (x < OFFSET-MAX → x < r) × ((b : ℕ) → x ≤ b → b < r → inRange start (end - start) b ≡ inRange start (end - start) x) ⌝ }
 {

@@ -14,7 +14,7 @@ ghost use Rattle.extents_map.specs.Cursors.{partOf, putRuns};
 ghost use Rattle.extents_map.specs.Beside.{endOf, runNo, runBefore, sideOf, partsOf, Met, Behind, Front, Back};
 ghost use Rattle.rows.specs.Limits.{ROWS};
 
-// A part of a run that stays beside a range: its start, its length, which may be 0, and its cell; and where the range then ends on this side.
+// The part of a run that stays beside a range: its start, its length, which may be 0, and its cell; and where the range then ends on this side.
 pub struct Side {
     pub start: u32,
     pub length: u32,
@@ -22,7 +22,7 @@ pub struct Side {
     pub bound: u32,
 }
 
-// Gives a range a cell, 0 to clear it, where the map that this makes fits its space. Answers whether it does.
+// Gives a range a cell, 0 to clear the range, where the new map fits its space. Answers whether the new map fits.
 pub fn lay(map: &mut [u32], start: u32, end: u32, cell: u32) -> bool
     requires { ⌜ (lawful (now map) ≡ true) × (start < end) ⌝ }
     requires { ⌜ (cell ≡ 0) ⊎ ((1 ≤ numberIn cell) × (numberIn cell ≤ ROWS)) ⌝ }
@@ -71,7 +71,7 @@ fn start_at(map: &[u32], i: usize) -> u32
     map[i * 4]
 }
 
-// Where it ends.
+// Where run i ends.
 fn end_at(map: &[u32], i: usize) -> u32
     requires { ⌜ (lawful (now map) ≡ true) × (i < length (runs (now map))) ⌝ }
     ensures { λ r. ⌜ r ≡ endOf (runNo (runs (now (map .entry))) i) ⌝ }
@@ -80,7 +80,7 @@ fn end_at(map: &[u32], i: usize) -> u32
     map[at] + map[at + 1]
 }
 
-// Its cell.
+// The cell of run i.
 fn cell_at(map: &[u32], i: usize) -> u32
     requires { ⌜ (lawful (now map) ≡ true) × (i < length (runs (now map))) ⌝ }
     ensures { λ r. ⌜ r ≡ runNo (runs (now (map .entry))) i .cell ⌝ }
@@ -109,7 +109,7 @@ pub(crate) fn first_past(map: &[u32], all: usize, x: u32) -> usize
     lo
 }
 
-// The first run that a range from `start` on meets: it ends behind the start, or at the start with the same cell.
+// The first run that a range from `start` on meets: a run that ends behind the start, or at the start with the range's cell.
 fn first_met(map: &[u32], all: usize, start: u32, cell: u32) -> usize
     requires { ⌜ (lawful (now map) ≡ true) × (all ≡ length (runs (now map))) ⌝ }
     ensures { λ r. ⌜ Met (runs (now (map .entry))) start cell r ⌝ }
@@ -254,7 +254,7 @@ fn count_parts(left: Side, middle: u32, right: Side) -> usize
     some(left.length) + some(middle) + some(right.length)
 }
 
-// Puts these parts at a place.
+// Puts the parts of a range at the place of run i.
 fn put_parts(map: &mut [u32], i: usize, left: Side, middle: u32, cell: u32, right: Side)
     requires { ⌜ 4 * (i + sizeOf (partsOf left middle cell right)) ≤ sizeOf (now map) ⌝ }
     ensures { λ _. ⌜ now (map .exit) ≡ putRuns (now (map .entry)) i (partsOf left middle cell right) ⌝ }
@@ -304,13 +304,18 @@ fn move_down(map: &mut [u32], to: usize, end: usize, by: usize)
         map[i] = map[i + by];
         i += 1;
     }
-    while i < end {
-        map[i] = 0;
-        i += 1;
-    }
+    clear_between(map, i, end);
 }
 
-// Puts a run at a place, if it has a length, and answers the place behind it.
+// Puts 0 from a place up to another.
+pub fn clear_between(map: &mut [u32], from: usize, to: usize)
+    requires { ⌜ (from ≤ to) × (to ≤ length (now map)) ⌝ }
+    ensures { λ _. ⌜ now (map .exit) ≡ (take from (now (map .entry)) ++ replicate (to - from) 0) ++ drop to (now (map .entry)) ⌝ }
+{
+    rows::clear(&mut map[from..to]);
+}
+
+// Puts a run at a place, if the run has a length, and answers the place behind.
 fn put_part(map: &mut [u32], i: usize, start: u32, length: u32, cell: u32) -> usize
     requires { ⌜ 4 * (i + sizeOf (partOf start length cell)) ≤ sizeOf (now map) ⌝ }
     ensures { λ r. ⌜ r ≡ i + sizeOf (partOf start length cell) ⌝ }

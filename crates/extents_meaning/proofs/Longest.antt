@@ -10,7 +10,7 @@ use lib.Dec.{leb, eqb}
 use borrow.Author.Tests.{le-leb, lt-leb, lt-ltb, le-ltb, eqb-true, eqb-false}
 use Rattle.rows.specs.Limits.{ROWS, OFFSET-MAX}
 use Rattle.extents_meaning.specs.Cells.{Bytes, numberIn, inRange}
-use Rattle.extents_meaning.specs.Runs.{Run, runOf, cellAt, joined, runsFrom, runsOf, piecesOf, Rising, Numbered, Lawful}
+use Rattle.extents_meaning.specs.Runs.{Run, runOf, cellAt, joined, runsFrom, runsOf, piecesOf, Rising, NumbersLegal, Lawful}
 
 -- ---- Ranges
 
@@ -26,12 +26,12 @@ range-behind s l b h = rw (le-ltb b (s + l) h) (and-false (leb s b))
 
 -- ---- The first run of a list
 
--- its bytes have its cell
+-- The bytes of the first run have its cell.
 pub cell-first : (r : Run) (rs : List Run) (b : ℕ) → r .start ≤ b → b < r .start + r .length → cellAt (r ∷ rs) b ≡ r .cell
 unfolding cellAt
 cell-first r rs b h k = rw (range-in (r .start) (r .length) b h k)
 
--- those before it and those behind it have the cell that the rest says
+-- A byte before the first run, or behind it, has the cell that the other runs give.
 pub cell-before : (r : Run) (rs : List Run) (b : ℕ) → b < r .start → cellAt (r ∷ rs) b ≡ cellAt rs b
 unfolding cellAt
 cell-before r rs b h = rw (range-before (r .start) (r .length) b h)
@@ -87,7 +87,7 @@ first-below top end c r q rs qs g k h = go (decLt (r .start) (q .start))
         absurd (omega (arith, h (r .start) (n .rising), v, mean-first top end c q qs k (r .start) l))
     go (no l) = omega arith
 
--- and if both start with one cell at one byte, the first run of the second ends no later
+-- Of two lists with one meaning that both start with one cell at one byte, the first run of the second ends no later.
 end-below : (top end c : ℕ) (r q : Run) (rs qs : List Run) → Rising top end c (r ∷ rs) → Rising top end c (q ∷ qs) →
     ((b : ℕ) → end ≤ b → cellAt (r ∷ rs) b ≡ cellAt (q ∷ qs) b) → r .start ≡ q .start → r .cell ≡ q .cell → q .length ≤ r .length
 end-below top end c r q rs qs g k h e d = go (decLt (r .length) (q .length))
@@ -140,12 +140,12 @@ rising-unique top end c (r ∷ rs) (q ∷ qs) g k h =
 
 -- ---- A byte put before a list
 
--- it makes the first run longer, or it stands alone: then the list may follow its cell
+-- A byte put before a list makes the first run longer, or stands alone: then the list may follow its cell.
 pub data Joint (s v : ℕ) : List Run → List Run → Type 0 where
   longer : {r : Run} {rs : List Run} → r .start ≡ suc s → r .cell ≡ v → Joint s v (r ∷ rs) (runOf s (suc (r .length)) v ∷ rs)
   alone : {rs : List Run} → ((top : ℕ) → Rising top (suc s) 0 rs → Rising top (suc s) v rs) → Joint s v rs (runOf s 1 v ∷ rs)
 
--- one of the two is so
+-- `joined` does one of the two.
 pub joint : (s v : ℕ) (rs : List Run) → Joint s v rs (joined s v rs)
 unfolding joined
 joint s v [] = alone (λ top g. tt)
@@ -162,7 +162,7 @@ joint s v (r ∷ rs) = go (eqb (r .start) (suc s)) refl (eqb (r .cell) v) refl
     go true p false q = alone (λ top. apart top (λ a b. eqb-false (r .cell) v q b))
     go false p y q = alone (λ top. apart top (λ a b. eqb-false (r .start) (suc s) p a))
 
--- it is lawful before a list of bytes behind it
+-- A list with a byte put before it is lawful where the list was.
 pub joint-rising : {rs js : List Run} (top s v : ℕ) → Joint s v rs js → s < top → 1 ≤ v → Rising top (suc s) 0 rs → Rising top s 0 js
 joint-rising top s v (longer {r} {rs} p q) h k g =
     let n = g .0 in
@@ -174,7 +174,7 @@ joint-rising top s v (alone {rs} f) h k g =
     let j : Rising top (s + 1) v rs = rw e at (f top g) in
     (record { rising = omega arith; filled = omega arith; inside = omega arith; written = k; longest = λ a b. omega arith }, j)
 
--- it has its cell
+-- The byte put before a list has its cell.
 pub joint-here : {rs js : List Run} (s v : ℕ) → Joint s v rs js → cellAt js s ≡ v
 joint-here s v (longer {r} {rs} p q) = cell-first (runOf s (suc (r .length)) v) rs s (omega arith) (omega arith)
 joint-here s v (alone {rs} f) = cell-first (runOf s 1 v) rs s (omega arith) (omega arith)
@@ -211,7 +211,7 @@ rising-to top (suc n) s f h = go (eqb (f s) 0) refl (rising-to top n (suc s) f (
         let z : f s ≡ 0 → ⊥ = eqb-false (f s) 0 e in
         joint-rising top s (f s) (joint s (f s) (runsFrom n (suc s) f)) (omega arith) (omega arith) g
 
--- they are in rising order and longest
+-- The runs of n bytes are in rising order and longest.
 pub rising-from : (n s : ℕ) (f : Bytes) → Rising (s + n) s 0 (runsFrom n s f)
 rising-from n s f = rising-to (s + n) n s f (omega arith)
 
@@ -271,7 +271,7 @@ fine-number c h (inl e) = absurd (omega arith)
 fine-number c h (inr f) = f
 
 -- the runs of fine cells have row numbers
-fine-numbered : (top end c : ℕ) (rs : List Run) → Rising top end c rs → ((b : ℕ) → end ≤ b → b < top → Fine (cellAt rs b)) → Numbered rs
+fine-numbered : (top end c : ℕ) (rs : List Run) → Rising top end c rs → ((b : ℕ) → end ≤ b → b < top → Fine (cellAt rs b)) → NumbersLegal rs
 fine-numbered top end c [] g h = tt
 fine-numbered top end c (r ∷ rs) g h =
     let n = g .0 in
@@ -298,7 +298,7 @@ lawful-fine rs l b = go rs (l .numbered)
     either true c d p q = p
     either false c d p q = q
 
-    go : (qs : List Run) → Numbered qs → Fine (cellAt qs b)
+    go : (qs : List Run) → NumbersLegal qs → Fine (cellAt qs b)
     go [] n = inl refl
     go (q ∷ qs) n = either (inRange (q .start) (q .length) b) (q .cell) (cellAt qs b) (inr (n .0, n .1)) (go qs (n .2))
 

@@ -14,7 +14,7 @@ use Rattle.extents_meaning.proofs.Points.{begins, begins-zero, begins-s
 
 -- ---- Overwritten bytes
 
--- those of the range, before it and behind it
+-- An overwritten byte: in the range, before it and behind it.
 pub over-in : (s n c : ℕ) (f : Bytes) (b : ℕ) → s ≤ b → b < s + n → overwrite s n c f b ≡ c
 over-in s n c f b h k = rw (range-in s n b h k)
 

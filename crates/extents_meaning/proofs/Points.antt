@@ -32,7 +32,7 @@ begins-same w c e = rw (eq-eqb w c e, and-false)
 pub begins-one : (w c : ℕ) → (w ≡ 0 → ⊥) → (w ≡ c → ⊥) → begins w c ≡ 1
 begins-one w c h k = rw (ne-eqb w 0 h, ne-eqb w c k)
 
--- it is 0 or 1
+-- One byte starts at most one run.
 pub begins-most : (w c : ℕ) → begins w c ≤ 1
 begins-most w c = go (not (eqb w 0) && not (eqb w c))
   where
@@ -66,7 +66,7 @@ unfolding starts runsFrom cellAt
 starts-behind zero s v f = refl
 starts-behind (suc n) s v f = rw (mean-in (suc n) s f s (omega arith) (omega arith)) (omega arith)
 
--- as many runs as starts
+-- A byte function has one run for each byte that starts one.
 pub count-starts : (n s : ℕ) (f : Bytes) → length (runsFrom n s f) ≡ starts n s 0 f
 unfolding starts runsFrom
 count-starts zero s f = refl
@@ -107,14 +107,14 @@ few-later (suc n) s f ps k = go (ℕ-discrete (f s) (f (suc s))) (few-later n (s
         let r = rest (w .0) (λ b l h d. w .2 (suc b) (omega arith) (k b (omega arith) (omega arith) d)) in
         omega (arith, begins-most (f (suc s)) (f s), w .1, r)
 
--- and at most one more with it
+-- With the first byte there is at most one start more than points.
 pub few-more : (n s c : ℕ) (f : Bytes) (ps : List ℕ) → ((b : ℕ) → s ≤ b → suc b < s + n → (f b ≡ f (suc b) → ⊥) → In (suc b) ps) →
     starts n s c f ≤ suc (length ps)
 unfolding starts
 few-more zero s c f ps k = omega arith
 few-more (suc n) s c f ps k = omega (arith, begins-most (f s) c, few-later n s f ps k)
 
--- and none more if it is a point too, or not written
+-- With the first byte there are no more starts than points, if that byte is a point too or not written.
 pub few-starts : (n s : ℕ) (f : Bytes) (ps : List ℕ) → ((f s ≡ 0 → ⊥) → In s ps) →
     ((b : ℕ) → s ≤ b → suc b < s + n → (f b ≡ f (suc b) → ⊥) → In (suc b) ps) → starts n s 0 f ≤ length ps
 unfolding starts
@@ -134,7 +134,7 @@ pub few-runs : (f : Bytes) (ps : List ℕ) → ((f 0 ≡ 0 → ⊥) → In 0 ps)
 unfolding runsOf
 few-runs f ps h k = omega (arith, count-starts OFFSET-MAX 0 f, few-starts OFFSET-MAX 0 f ps h (λ b _. k b))
 
--- and at most one piece more of any range
+-- A range has at most one piece more than there are points.
 pub few-pieces : (f : Bytes) (ps : List ℕ) (s n : ℕ) →
     ((b : ℕ) → s ≤ b → suc b < s + n → (numberIn (f b) ≡ numberIn (f (suc b)) → ⊥) → In (suc b) ps) → length (piecesOf f s n) ≤ suc (length ps)
 unfolding piecesOf
@@ -158,7 +158,7 @@ unfolding starts
 starts-by h z zero s c f = omega arith
 starts-by h z (suc n) s c f = omega (arith, begins-by h z (f s) c, starts-by h z n (suc s) (f s) f)
 
--- so there are no more runs
+-- A function of cells that keeps 0 makes no more runs.
 pub runs-by : (h : ℕ → ℕ) → h 0 ≡ 0 → (f : Bytes) → length (runsOf (λ b. h (f b))) ≤ length (runsOf f)
 unfolding runsOf
 runs-by h z f =

@@ -19,7 +19,7 @@ write-mark start n number f b l h =
 pub publish-copies : (view below : Bytes) (b : ℕ) → unpublished (view b) ≡ true → numberIn (published view below b) ≡ numberIn (view b)
 publish-copies view below b e = rw e (omega arith)
 
--- and no other: old bytes never cover newer ones
+-- Publishing copies no other byte: old bytes never cover newer ones.
 pub publish-keeps : (view below : Bytes) (b : ℕ) → unpublished (view b) ≡ false → published view below b ≡ below b
 publish-keeps view below b e = rw e
 

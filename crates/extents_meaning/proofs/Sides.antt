@@ -8,42 +8,38 @@ use mathlib.Core.Logic.{_⊎_, inl, inr}
 use mathlib.Core.List.{List, [], _∷_, _++_}
 use lib.ListN.{length, take, drop, getD, length-append, length-take, length-drop, List·getD-append, take-append-drop}
 use lib.Seq.{length-take-le, take-at, drop-at, ext-getD, take-add, take-append-le, getD-take, getD-drop, getD-append-add}
-use Rattle.extents_meaning.specs.Maps.{mapAt, withMap}
+use Rattle.extents_meaning.specs.Maps.{withPart, mapAt, withMap}
 
 -- ---- A part put into a list
-
--- a list with a part of it replaced
-abbrev pub withPart : ℕ → List ℕ → List ℕ → List ℕ
-withPart at m xs = (take at xs ++ m) ++ drop (at + length m) xs
 
 module _ (at : ℕ) (m xs : List ℕ) (fit : at + length m ≤ length xs) where
   head-length : length (take at xs ++ m) ≡ at + length m
   head-length = length-append (take at xs) m ∙ ap (λ (k : ℕ). k + length m) (length-take-le at xs (omega arith))
 
-  pub part-length : length (withPart at m xs) ≡ length xs
+  pub part-length : length (withPart at (length m) m xs) ≡ length xs
   part-length =
       length-append (take at xs ++ m) (drop (at + length m) xs)
       ∙ omega (arith, head-length, length-drop (at + length m) xs)
 
   -- before the part, in it and behind it
-  pub part-before : (i : ℕ) → i < at → getD (withPart at m xs) i 0 ≡ getD xs i 0
+  pub part-before : (i : ℕ) → i < at → getD (withPart at (length m) m xs) i 0 ≡ getD xs i 0
   part-before i h =
       List·getD-append (take at xs ++ m) (drop (at + length m) xs) 0 i (omega (arith, head-length))
       ∙ List·getD-append (take at xs) m 0 i (omega (arith, length-take-le at xs (omega arith)))
       ∙ getD-take at xs i 0 h
 
-  pub part-in : (i : ℕ) → i < length m → getD (withPart at m xs) (at + i) 0 ≡ getD m i 0
+  pub part-in : (i : ℕ) → i < length m → getD (withPart at (length m) m xs) (at + i) 0 ≡ getD m i 0
   part-in i h =
       List·getD-append (take at xs ++ m) (drop (at + length m) xs) 0 (at + i) (omega (arith, head-length))
       ∙ (λ j. getD (take at xs ++ m) (sym (length-take-le at xs (omega arith)) j + i) 0)
       ∙ getD-append-add (take at xs) m i 0
 
-  pub part-behind : (i : ℕ) → at + length m ≤ i → getD (withPart at m xs) i 0 ≡ getD xs i 0
+  pub part-behind : (i : ℕ) → at + length m ≤ i → getD (withPart at (length m) m xs) i 0 ≡ getD xs i 0
   part-behind i h =
       let k = i - (at + length m) in
       let e : i ≡ length (take at xs ++ m) + k = omega (arith, head-length) in
       let q : at + length m + k ≡ i = omega arith in
-      ap (λ (j : ℕ). getD (withPart at m xs) j 0) e
+      ap (λ (j : ℕ). getD (withPart at (length m) m xs) j 0) e
       ∙ getD-append-add (take at xs ++ m) (drop (at + length m) xs) k 0
       ∙ getD-drop (at + length m) xs k 0
       ∙ ap (λ (j : ℕ). getD xs j 0) q
@@ -51,16 +47,16 @@ module _ (at : ℕ) (m xs : List ℕ) (fit : at + length m ≤ length xs) where
 -- two lists with parts are compared at every place: before the part, in it, behind it
 pub part-is : (at : ℕ) (m xs ys : List ℕ) → at + length m ≤ length xs → length ys ≡ length xs → ((i : ℕ) → i < at → getD ys i 0 ≡ getD xs i 0) →
     ((i : ℕ) → i < length m → getD ys (at + i) 0 ≡ getD m i 0) → ((i : ℕ) → at + length m ≤ i → i < length xs → getD ys i 0 ≡ getD xs i 0) →
-    ys ≡ withPart at m xs
+    ys ≡ withPart at (length m) m xs
 part-is at m xs ys fit e before inside behind =
-    ext-getD 0 ys (withPart at m xs) (e ∙ sym (part-length at m xs fit)) (λ i h. go i (omega (arith, e)) (decLt i at) (decLt i (at + length m)))
+    ext-getD 0 ys (withPart at (length m) m xs) (e ∙ sym (part-length at m xs fit)) (λ i h. go i (omega (arith, e)) (decLt i at) (decLt i (at + length m)))
   where
-    go : (i : ℕ) → i < length xs → Dec (i < at) → Dec (i < at + length m) → getD ys i 0 ≡ getD (withPart at m xs) i 0
+    go : (i : ℕ) → i < length xs → Dec (i < at) → Dec (i < at + length m) → getD ys i 0 ≡ getD (withPart at (length m) m xs) i 0
     go i h (yes l) d = before i l ∙ sym (part-before at m xs fit i l)
     go i h (no l) (yes r) =
         let q : at + (i - at) ≡ i = omega arith in
         ap (λ (j : ℕ). getD ys j 0) (sym q) ∙ inside (i - at) (omega arith) ∙ sym (part-in at m xs fit (i - at) (omega arith))
-        ∙ ap (λ (j : ℕ). getD (withPart at m xs) j 0) q
+        ∙ ap (λ (j : ℕ). getD (withPart at (length m) m xs) j 0) q
     go i h (no l) (no r) = behind i (omega arith) h ∙ sym (part-behind at m xs fit i (omega arith))
 
 -- ---- Maps
@@ -74,7 +70,7 @@ module _ (space k : ℕ) (m xs : List ℕ) (size : length m ≡ 4 * space) (fit 
   room : k * (4 * space) + length m ≤ length xs
   room = omega (arith, size, fit)
 
-  pub with-part : withMap space k m xs ≡ withPart (k * (4 * space)) m xs
+  pub with-part : withMap space k m xs ≡ withPart (k * (4 * space)) (length m) m xs
   with-part = ap (λ (n : ℕ). (take (k * (4 * space)) xs ++ m) ++ drop (k * (4 * space) + n) xs) (sym size)
 
   pub with-length : length (withMap space k m xs) ≡ length xs
@@ -94,7 +90,7 @@ module _ (space k : ℕ) (m xs : List ℕ) (size : length m ≡ 4 * space) (fit 
           (omega (arith, length-drop (k * (4 * space)) (withMap space k m xs), with-length, fit))
           ∙ sym size
 
-  -- its numbers are there
+  -- The numbers of the map stand at its place.
   pub with-in : (i : ℕ) → i < 4 * space → getD (withMap space k m xs) (k * (4 * space) + i) 0 ≡ getD m i 0
   with-in i h = ap (λ (l : List ℕ). getD l (k * (4 * space) + i) 0) with-part ∙ part-in (k * (4 * space)) m xs room i (omega (arith, size))
 
@@ -103,7 +99,7 @@ module _ (space k : ℕ) (m xs : List ℕ) (size : length m ≡ 4 * space) (fit 
   with-other i (inl l) = ap (λ (l : List ℕ). getD l i 0) with-part ∙ part-before (k * (4 * space)) m xs room i l
   with-other i (inr l) = ap (λ (l : List ℕ). getD l i 0) with-part ∙ part-behind (k * (4 * space)) m xs room i (omega (arith, size))
 
-  -- and so is every other map
+  -- Every other map is as it was.
   pub at-other : (j : ℕ) → (j ≡ k → ⊥) → mapAt space j (withMap space k m xs) ≡ mapAt space j xs
   at-other j apart =
       ext-getD 0 (mapAt space j (withMap space k m xs)) (mapAt space j xs)

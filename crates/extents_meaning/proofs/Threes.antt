@@ -27,7 +27,7 @@ threes-tell top end c base c′ (p ∷ ps) (q ∷ qs) g k e =
     let rest = threes-tell top (p .start + p .length) (p .cell) (q .start + q .length) (q .cell) ps qs (g .1) (k .1) (ap (drop 3) e) in
     λ i. runOf (getD (e i) 0 0) (getD (e i) 1 0) (cell i) ∷ rest i
 
--- as many pieces of a range, listed alike at the front of a slice, are the same pieces
+-- Equally many pieces of a range, listed alike at the front of a slice, are equal pieces.
 pub pieces-told : (f g : Bytes) (s n : ℕ) (out : List ℕ) → length (piecesOf f s n) ≡ length (piecesOf g s n) →
     threes (piecesOf f s n) ++ drop (length (threes (piecesOf f s n))) out ≡ threes (piecesOf g s n) ++ drop (length (threes (piecesOf g s n))) out →
     piecesOf f s n ≡ piecesOf g s n

@@ -13,7 +13,7 @@ use lib.Dec.{leb, eqb}
 use borrow.Author.Tests.{leb-true, eqb-true, eqb-false, not-true, le-leb, lt-ltb, le-ltb, eq-eqb, ne-eqb}
 use Rattle.rows.specs.Limits.{ROWS, OFFSET-MAX}
 use Rattle.extents_meaning.specs.Cells.{cellOf, numberIn, markIn, unpublished, inRange}
-use Rattle.extents_meaning.specs.Runs.{Run, runOf, cellAt, Next, Rising, Numbered, Lawful}
+use Rattle.extents_meaning.specs.Runs.{Run, runOf, cellAt, Next, Rising, NumbersLegal, Lawful}
 use Rattle.extents_meaning.specs.Maps.{fours, mapOf, runHere, runsIn, spaceIn, runs, bytesOf, allZero, follows, mayFollow, lawfulFrom, lawful, noMarks}
 use Rattle.extents_meaning.proofs.Longest.{cell-first, cell-behind, mean-before, lawful-unique}
 use Rattle.rows.proofs.Bools.{and-out, not-passed, not-both}
@@ -29,7 +29,7 @@ unfolding allZero
 zeros-in zero = refl
 zeros-in (suc n) = zeros-in n
 
--- and nothing else is
+-- A list that is all zero is a list of zeros.
 pub zeros-out : (xs : List ℕ) → allZero xs ≡ true → xs ≡ replicate (length xs) 0
 unfolding allZero
 zeros-out [] e = refl
@@ -77,7 +77,7 @@ length-map space rs h =
     let z : List ℕ = replicate (4 * (space - length rs)) 0 in
     omega (arith, length-append (fours rs) z, length-fours rs, length-replicate {A = ℕ} (4 * (space - length rs)) 0)
 
--- and its space is read back
+-- The space of a map is read back.
 pub space-map : (space : ℕ) (rs : List Run) → length rs ≤ space → spaceIn (mapOf space rs) ≡ space
 space-map space rs h = omega (arith, length-map space rs h)
 
@@ -110,7 +110,7 @@ pub here-back : (r : Run) (xs : List ℕ) → runHere (ahead r xs) ≡ r
 unfolding runHere
 here-back r xs = let e : cellOf (numberIn (r .cell)) (markIn (r .cell)) ≡ r .cell = omega arith in λ i. runOf (r .start) (r .length) (e i)
 
--- and the numbers of a run with mark 0 or 1 are the four
+-- Four numbers whose mark is 0 or 1 are the numbers of their run.
 pub four-back : (xs : List ℕ) → 4 ≤ length xs → getD xs 3 0 ≤ 1 → xs ≡ ahead (runHere xs) (drop 4 xs)
 unfolding runHere
 four-back [] h m = absurd (omega arith)
@@ -124,7 +124,7 @@ four-back (s ∷ l ∷ n ∷ k ∷ xs) h m =
 
 -- ---- Which run may follow
 
--- it is that of the definition
+-- The test of four numbers is the test of the definition.
 pub follow-here : (end c : ℕ) (xs : List ℕ) → mayFollow end c xs ≡ follows end c (getD xs 0 0) (getD xs 1 0) (getD xs 2 0) (getD xs 3 0)
 unfolding mayFollow runHere
 follow-here end c xs = refl
@@ -200,7 +200,7 @@ pub map-back : (space : ℕ) (rs : List Run) → Lawful rs → length rs ≤ spa
 map-back space rs w h = ap (λ (n : ℕ). runsIn n (mapOf space rs)) (space-map space rs h) ∙ read-back space rs OFFSET-MAX 0 0 (w .in-order) h
 
 -- lawful behind a run
-written-lawful : (space : ℕ) (rs : List Run) (end c : ℕ) → Rising OFFSET-MAX end c rs → Numbered rs → length rs ≤ space →
+written-lawful : (space : ℕ) (rs : List Run) (end c : ℕ) → Rising OFFSET-MAX end c rs → NumbersLegal rs → length rs ≤ space →
     lawfulFrom space end c (mapOf space rs) ≡ true
 unfolding lawfulFrom
 written-lawful zero [] end c t w h = refl
@@ -219,7 +219,7 @@ written-lawful (suc n) (r ∷ rs) end c t w h =
     ∙ (λ i. first i && lawfulFrom n (back i .start + back i .length) (back i .cell) (mapOf n rs))
     ∙ written-lawful n rs (r .start + r .length) (r .cell) (t .1) (w .2) (omega arith)
 
--- and is lawful
+-- The map of lawful runs that fit is lawful.
 pub map-lawful : (space : ℕ) (rs : List Run) → Lawful rs → length rs ≤ space → lawful (mapOf space rs) ≡ true
 unfolding lawful
 map-lawful space rs w h =
@@ -232,7 +232,7 @@ map-lawful space rs w h =
 -- runs that were read from a slice with space for n, behind a run that ends at `end` with cell c
 record Read (n end c : ℕ) (xs : List ℕ) (rs : List Run) : Type 0 where
   in-order : Rising OFFSET-MAX end c rs
-  numbered : Numbered rs
+  numbered : NumbersLegal rs
   fit : length rs ≤ n
   whole : xs ≡ mapOf n rs
 
@@ -321,12 +321,12 @@ followsAt end c i xs = follows end c (getD xs (4 * i) 0) (getD xs (4 * i + 1) 0)
 first-there : (i : ℕ) (xs : List ℕ) → getD (drop (4 * i) xs) 0 0 ≡ getD xs (4 * i) 0
 first-there i xs = getD-drop (4 * i) xs 0 0 ∙ ap (λ (p : ℕ). getD xs p 0) (add-zero (4 * i))
 
--- it is the one that four numbers at the front of the rest are
+-- The run at place 4 * i is the run at the front of the rest.
 pub run-there : (i : ℕ) (xs : List ℕ) → runHere (drop (4 * i) xs) ≡ runAt i xs
 unfolding runHere
 run-there i xs = λ j. runOf (first-there i xs j) (getD-drop (4 * i) xs 1 0 j) (cellOf (getD-drop (4 * i) xs 2 0 j) (getD-drop (4 * i) xs 3 0 j))
 
--- and that is the test of the definition
+-- The test at place 4 * i is the test at the front of the rest.
 pub follow-there : (end c i : ℕ) (xs : List ℕ) → mayFollow end c (drop (4 * i) xs) ≡ followsAt end c i xs
 follow-there end c i xs =
     follow-here end c (drop (4 * i) xs)
@@ -389,7 +389,7 @@ rest-at xs e ps qs i q l =
     ∙ drop-at (fours ps) (mapOf (spaceIn xs - length ps) qs) (4 * i) n
     ∙ (λ j. mapOf (spaceIn xs - l j) qs)
 
--- so at a run's place stand its four numbers
+-- At the place of a run stand its four numbers.
 pub run-at : (xs : List ℕ) → lawful xs ≡ true → (ps qs : List Run) (r : Run) (i : ℕ) → runs xs ≡ ps ++ (r ∷ qs) → length ps ≡ i →
     (getD xs (4 * i) 0 ≡ r .start) × (getD xs (4 * i + 1) 0 ≡ r .length)
     × (getD xs (4 * i + 2) 0 ≡ numberIn (r .cell)) × (getD xs (4 * i + 3) 0 ≡ markIn (r .cell))
@@ -400,7 +400,7 @@ run-at xs e ps qs r i q l =
     there : (k : ℕ) → getD xs (4 * i + k) 0 ≡ getD (mapOf (spaceIn xs - i) (r ∷ qs)) k 0
     there k = sym (getD-drop (4 * i) xs k 0) ∙ ap (λ (ys : List ℕ). getD ys k 0) (rest-at xs e ps (r ∷ qs) i q l)
 
--- and behind the last run a length 0
+-- Behind the last run stands a length 0.
 pub end-at : (xs : List ℕ) → lawful xs ≡ true → (i : ℕ) → length (runs xs) ≡ i → getD xs (4 * i + 1) 0 ≡ 0
 end-at xs e i l =
     sym (getD-drop (4 * i) xs 1 0)

@@ -16,7 +16,7 @@ markIn c = c % 2
 abbrev pub unpublished : ℕ → Bool
 unpublished c = eqb (markIn c) 1
 
--- the same row number, published
+-- A cell's row number, published.
 abbrev pub cleared : ℕ → ℕ
 cleared c = cellOf (numberIn c) 0
 

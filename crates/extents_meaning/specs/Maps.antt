@@ -88,13 +88,21 @@ lawfulPublished xs = lawful xs && noMarks (runs xs)
 
 -- ---- Maps side by side in a slice
 
--- map k of a slice
-abbrev pub mapAt : ℕ → ℕ → List ℕ → List ℕ
-mapAt space k xs = take (4 * space) (drop (k * (4 * space)) xs)
+-- The part of a slice that starts at a place and has a size.
+abbrev pub partAt : ℕ → ℕ → List ℕ → List ℕ
+partAt at size xs = take size (drop at xs)
 
--- the slice with another map k
+-- The slice with m in place of that part.
+abbrev pub withPart : ℕ → ℕ → List ℕ → List ℕ → List ℕ
+withPart at size m xs = (take at xs ++ m) ++ drop (at + size) xs
+
+-- Map k of a slice whose maps all have one space.
+abbrev pub mapAt : ℕ → ℕ → List ℕ → List ℕ
+mapAt space k xs = partAt (k * (4 * space)) (4 * space) xs
+
+-- The slice with m in place of map k.
 abbrev pub withMap : ℕ → ℕ → List ℕ → List ℕ → List ℕ
-withMap space k m xs = (take (k * (4 * space)) xs ++ m) ++ drop (k * (4 * space) + 4 * space) xs
+withMap space k m xs = withPart (k * (4 * space)) (4 * space) m xs
 
 -- pieces at the front of the answer slice, which keeps the rest
 abbrev pub listedIn : List Run → List ℕ → List ℕ

@@ -56,11 +56,11 @@ Rising top end c [] = Unit {0}
 Rising top end c (r ∷ rs) = Next top end c r × Rising top (r .start + r .length) (r .cell) rs
 
 -- row numbers are 1 to 4,096
-abbrev pub Numbered : List Run → Type 0
-Numbered [] = Unit {0}
-Numbered (r ∷ rs) = (1 ≤ numberIn (r .cell)) × (numberIn (r .cell) ≤ ROWS) × Numbered rs
+abbrev pub NumbersLegal : List Run → Type 0
+NumbersLegal [] = Unit {0}
+NumbersLegal (r ∷ rs) = (1 ≤ numberIn (r .cell)) × (numberIn (r .cell) ≤ ROWS) × NumbersLegal rs
 
 -- the runs of a lawful map
 pub record Lawful (rs : List Run) : Type 0 where
   pub in-order : Rising OFFSET-MAX 0 0 rs
-  pub numbered : Numbered rs
+  pub numbered : NumbersLegal rs

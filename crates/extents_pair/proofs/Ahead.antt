@@ -30,12 +30,12 @@ abbrev pub gapOf : ℕ → List Run → ℕ
 gapOf top [] = top
 gapOf top (u ∷ us) = u .start
 
--- it is at x or behind
+-- The gap's end is at x or behind.
 pub gap-high : (top x : ℕ) (us : List Run) → Rising top x 0 us → x ≤ top → x ≤ gapOf top us
 gap-high top x [] g h = h
 gap-high top x (u ∷ us) g h = g .0 .rising
 
--- and no later than the top
+-- The gap's end is no later than the top.
 pub gap-low : (top x : ℕ) (us : List Run) → Rising top x 0 us → gapOf top us ≤ top
 gap-low top x [] g = omega arith
 gap-low top x (u ∷ us) g = let n = g .0 in omega arith
@@ -83,7 +83,7 @@ module _ (top : ℕ) (f : Bytes) where
       ∙ ap (λ (v : ℕ). cond (unpublished v) v (cellAt qs b)) (cell-first u us b h l)
       ∙ ap (λ (t : Bool). cond t (u .cell) (cellAt qs b)) (k .own-marked .0)
 
-  -- behind that run its cell does not go on
+  -- Behind the first unpublished run the bytes do not go on with its cell.
   ahead-ends : {x : ℕ} {u : Run} {us qs : List Run} → Ahead top f x (u ∷ us) qs → u .start + u .length < top → f (u .start + u .length) ≡ u .cell → ⊥
   ahead-ends {x} {u} {us} {qs} k h e =
       let n = k .own .0 in

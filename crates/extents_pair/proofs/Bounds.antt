@@ -3,7 +3,7 @@ use Prim.Native.Nat.{ℕ, zero, suc, _+_, _*_, _-_, _≤_, _<_}
 use native.Mathlib.Omega.{arith}
 use native.Mathlib.Decide.{decLt}
 use mathlib.Core.Path.{_≡_, refl, sym, ap, _∙_}
-use mathlib.Core.Bool.{Bool, true, false, cond}
+use mathlib.Core.Bool.{Bool, true, false, cond, false≢true}
 use mathlib.Core.List.{List, [], _∷_}
 use lib.ListN.{length, getD, drop, drop-of-length-le}
 use lib.Seq.{drop-cons}
@@ -17,7 +17,9 @@ use Rattle.extents_meaning.proofs.Longest.{runs-same, runs-back}
 use Rattle.extents_meaning.proofs.Trips.{lawful-map}
 use Rattle.extents_meaning.proofs.Points.{begins, begins-same, begins-most, count-starts, runs-by}
 use Rattle.extents_meaning.proofs.Passes.{over-in, over-before, over-behind}
-use Rattle.extents_map.specs.Mixes.{PUBLISH, MARK-PUBLISHED, REFRESH, mixed, mix}
+use Rattle.extents_map.specs.Mixes.{mixed, mix, makesMap, isMarkPublished}
+use Rattle.extents_map.specs.declared.scan.Mode.{Mode}
+use Rattle.extents_map.specs.declared.scan.Mode.the-variants.{Publish, MarkPublished, Refresh, ReadMap, ReadFresh}
 use Rattle.extents_meaning.specs.Pairs.{twoMaps, viewOf, belowOf}
 use Rattle.extents_pair.specs.Packing.{marked, Marked}
 use Rattle.extents_pair.proofs.Spots.{noRun, here-at}
@@ -29,13 +31,13 @@ use Rattle.extents_pair.proofs.Pairing.{Told, two-told, lentMap, map-le
 -- bytes g that have the cell c from a to e, and elsewhere the cells of f
 module _ (a e c : ℕ) (f g : Bytes) (inside : (b : ℕ) → a ≤ b → b < e → g b ≡ c) (before : (b : ℕ) → b < a → g b ≡ f b)
     (behind : (b : ℕ) → a ≤ b → e ≤ b → g b ≡ f b) where
-  -- behind the range they have the starts of f
+  -- Behind the range the bytes g have the starts of f.
   starts-behind : (n s p : ℕ) → a ≤ s → e ≤ s → starts n s p g ≡ starts n s p f
   unfolding starts
   starts-behind zero s p h k = refl
   starts-behind (suc n) s p h k = rw (behind s h k) (omega (arith, starts-behind n (suc s) (f s) (omega arith) (omega arith)))
 
-  -- from a byte of the range on they have at most one more
+  -- From a byte of the range on the bytes g have at most one start more.
   starts-inside : (n s p : ℕ) → a ≤ s → s ≤ e → starts n s c g ≤ starts n s p f + 1
   unfolding starts
   starts-inside zero s p h k = omega arith
@@ -48,7 +50,7 @@ module _ (a e c : ℕ) (f g : Bytes) (inside : (b : ℕ) → a ≤ b → b < e �
           let r = starts-behind n (suc s) (f s) (omega arith) (omega arith) in
           rw (behind s h (omega arith)) (omega (arith, begins-most (f s) c, r))
 
-  -- from a byte before it on at most two
+  -- From a byte before the range on the bytes g have at most two starts more.
   starts-before : (n s p : ℕ) → s ≤ a → starts n s p g ≤ starts n s p f + 2
   unfolding starts
   starts-before zero s p h = omega arith
@@ -122,24 +124,24 @@ module _ (rs : List Run) (law : Lawful rs) (w : Bytes) where
 
   module _ (start n c : ℕ) where
     -- publishing: two runs more for each unpublished one and two for the range
-    pub publish-most : length (runsOf (mix PUBLISH start n c (cellAt rs) w)) ≤ length (runsOf w) + 2 * length (marked rs) + 2
+    pub publish-most : length (runsOf (mix Publish start n c (cellAt rs) w)) ≤ length (runsOf w) + 2 * length (marked rs) + 2
     unfolding mixed
     publish-most =
         let u = laid cleared (marked rs) w in
-        let e = runs-same (mix PUBLISH start n c (cellAt rs) w) (overwrite start n c u)
+        let e = runs-same (mix Publish start n c (cellAt rs) w) (overwrite start n c u)
         (λ b _. ap (λ (k : ℕ). cond (inRange start n b) c k) (laid-over cleared b)) in
         omega (arith, ap (λ (l : List Run). length l) e, over-more start n c u, laid-more cleared (marked rs) w)
 
     -- a refresh: the same without the range
-    pub refresh-most : length (runsOf (mix REFRESH start n c (cellAt rs) w)) ≤ length (runsOf w) + 2 * length (marked rs) + 2
+    pub refresh-most : length (runsOf (mix Refresh start n c (cellAt rs) w)) ≤ length (runsOf w) + 2 * length (marked rs) + 2
     unfolding mixed
     refresh-most =
         let h : ℕ → ℕ = λ v. v in
-        let e = runs-same (mix REFRESH start n c (cellAt rs) w) (laid h (marked rs) w) (λ b _. laid-over h b) in
+        let e = runs-same (mix Refresh start n c (cellAt rs) w) (laid h (marked rs) w) (λ b _. laid-over h b) in
         omega (arith, ap (λ (l : List Run). length l) e, laid-more h (marked rs) w)
 
 -- the view then: two runs more for the range
-pub mark-published-most : (v w : Bytes) (start n c : ℕ) → length (runsOf (mix MARK-PUBLISHED start n c v w)) ≤ length (runsOf v) + 2
+pub mark-published-most : (v w : Bytes) (start n c : ℕ) → length (runsOf (mix MarkPublished start n c v w)) ≤ length (runsOf v) + 2
 unfolding mixed
 mark-published-most v w start n c = omega (arith, over-more start n c (asPublished v), runs-by cleared refl v)
 
@@ -166,7 +168,7 @@ module _ (space view below : ℕ) (xs : List ℕ) (two : twoMaps space view belo
         omega (arith, e, m .fit, map-space space k xs fit),
       )
 
-  -- so there is room to count
+  -- The count of a lent map's runs is at most the space.
   pub view-room : {k : ℕ} → k ≡ length (runs (lentMap space view xs)) → k ≤ space
   view-room e = omega (arith, e, lent-count view (told .view-in) (told .view-law) .1)
 
@@ -178,29 +180,31 @@ module _ (space view below : ℕ) (xs : List ℕ) (two : twoMaps space view belo
       omega (arith, e, marked-fewer (runs (mapAt space view xs)), ap (λ (l : List ℕ). length (runs l)) (map-lent space view xs), view-room refl)
 
   module _ (start n c : ℕ) where
-    -- the view marked published
-    pub most-mark-published : (mode : ℕ) → mode ≡ 1 → {k : ℕ} → k ≡ length (runs (lentMap space view xs)) →
+    -- The view marked published.
+    pub most-mark-published : (mode : Mode) → isMarkPublished mode ≡ true → {k : ℕ} → k ≡ length (runs (lentMap space view xs)) →
         length (runsOf (mix mode start n c own base)) ≤ k + 2
-    most-mark-published mode q e =
-        rw q (omega (arith, e, lent-count view (told .view-in) (told .view-law) .0, mark-published-most own base start n c))
+    most-mark-published MarkPublished q e =
+        omega (arith, e, lent-count view (told .view-in) (told .view-law) .0, mark-published-most own base start n c)
+    most-mark-published Publish q e = absurd (false≢true q)
+    most-mark-published Refresh q e = absurd (false≢true q)
+    most-mark-published ReadMap q e = absurd (false≢true q)
+    most-mark-published ReadFresh q e = absurd (false≢true q)
 
-    -- the published map, and the refreshed view
-    pub most-other : (mode : ℕ) → (mode ≡ 1 → ⊥) → mode ≤ 2 → {k u : ℕ} → k ≡ length (runs (lentMap space below xs)) →
-        u ≡ length (marked (runs (mapAt space view xs))) → length (runsOf (mix mode start n c own base)) ≤ k + 2 * u + 2
-    most-other mode q h {k} {u} e d = go (decLt mode 1)
-      where
-        rs : List Run
-        rs = runs (mapAt space view xs)
+    -- The published map after publishing, and the refreshed view: two runs more for each unpublished run, and two for the range.
+    module _ {k u : ℕ} (e : k ≡ length (runs (lentMap space below xs))) (d : u ≡ length (marked (runs (mapAt space view xs)))) where
+      law : Lawful (runs (mapAt space view xs))
+      law = lawful-map (mapAt space view xs) (told .view-law) .lawful-runs
 
-        law : Lawful rs
-        law = lawful-map (mapAt space view xs) (told .view-law) .lawful-runs
+      count : k ≡ length (runsOf base)
+      count = e ∙ lent-count below (told .below-in) (told .below-law) .0
 
-        count : k ≡ length (runsOf base)
-        count = e ∙ lent-count below (told .below-in) (told .below-law) .0
-
-        go : Dec (mode < 1) → length (runsOf (mix mode start n c own base)) ≤ k + 2 * u + 2
-        go (yes l) = let z : mode ≡ PUBLISH = omega (arith, l) in rw z (omega (arith, d, count, publish-most rs law base start n c))
-        go (no l) = let z : mode ≡ REFRESH = omega (arith, l, q, h) in rw z (omega (arith, d, count, refresh-most rs law base start n c))
+      pub most-other : (mode : Mode) → isMarkPublished mode ≡ false → makesMap mode ≡ true →
+          length (runsOf (mix mode start n c own base)) ≤ k + 2 * u + 2
+      most-other Publish q h = omega (arith, d, count, publish-most (runs (mapAt space view xs)) law base start n c)
+      most-other MarkPublished q h = absurd (false≢true (sym q))
+      most-other Refresh q h = omega (arith, d, count, refresh-most (runs (mapAt space view xs)) law base start n c)
+      most-other ReadMap q h = absurd (false≢true h)
+      most-other ReadFresh q h = absurd (false≢true h)
 
 -- all runs, counted from the first byte to the last
 pub all-most : (f : Bytes) {r : ℕ} → length (runsOf f) ≤ r → length (runsFrom (4294967295 - 0) 0 f) ≤ r
@@ -224,7 +228,7 @@ pub record Tally (xs : List ℕ) (n i : ℕ) : Type 0 where
   pub found : n + length (marked (drop i (runs xs))) ≡ length (marked (runs xs))
 
 module _ (xs : List ℕ) where
-  -- none yet
+  -- At first no unpublished run is counted.
   pub tally-none : Tally xs 0 0
   tally-none = record { passed = omega arith; found = omega arith }
 
@@ -248,7 +252,7 @@ module _ (xs : List ℕ) where
         ap (λ (l : List Run). length (marked l)) e ∙ marked-first one (drop (i + 1) (runs xs)) in
         record { passed = omega (arith, h); found = omega (arith, k .found, m, mark-here) }
 
-  -- in the end all of them
+  -- In the end all unpublished runs are counted.
   pub tally-all : {n i : ℕ} → Tally xs n i → length (runs xs) ≤ i → n ≡ length (marked (runs xs))
   unfolding marked
   tally-all {n} {i} k h =

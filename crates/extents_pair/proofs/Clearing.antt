@@ -11,7 +11,7 @@ use lib.Dec.{eqb}
 use borrow.Author.Tests.{eq-eqb}
 use Rattle.rows.specs.Limits.{OFFSET-MAX}
 use Rattle.extents_meaning.specs.Cells.{numberIn, markIn, cleared, inRange, asPublished}
-use Rattle.extents_meaning.specs.Runs.{Run, runOf, cellAt, Rising, Numbered, Lawful}
+use Rattle.extents_meaning.specs.Runs.{Run, runOf, cellAt, Rising, NumbersLegal, Lawful}
 use Rattle.extents_meaning.specs.Maps.{fours, mapOf, mapFor, spaceIn, runs, bytesOf, lawful}
 use Rattle.extents_meaning.proofs.Longest.{runs-same, runs-back}
 use Rattle.extents_meaning.proofs.Trips.{length-fours, map-back, map-lawful, lawful-map}
@@ -33,7 +33,7 @@ clearAt [] i = []
 clearAt (r ∷ rs) zero = clearRun r ∷ rs
 clearAt (r ∷ rs) (suc i) = r ∷ clearAt rs i
 
--- it has as many runs
+-- Clearing one mark keeps the number of runs.
 clear-length : (rs : List Run) (i : ℕ) → length (clearAt rs i) ≡ length rs
 unfolding clearAt
 clear-length [] i = refl
@@ -71,7 +71,7 @@ clear-mean (r ∷ rs) (suc i) b = go (inRange (r .start) (r .length) b) (clear-m
     go false e = e
 
 -- row numbers stay
-clear-numbered : (rs : List Run) (i : ℕ) → Numbered rs → Numbered (clearAt rs i)
+clear-numbered : (rs : List Run) (i : ℕ) → NumbersLegal rs → NumbersLegal (clearAt rs i)
 unfolding clearAt
 clear-numbered [] i n = tt
 clear-numbered (r ∷ rs) zero n = (omega (arith, n .0), omega (arith, n .1), n .2)
@@ -86,7 +86,7 @@ rising-cell top end c d (r ∷ rs) g h =
     (record { rising = n .rising; filled = n .filled; inside = n .inside; written = n .written; longest = h (omega arith) }, g .1)
 
 -- the list rises still, where the run is apart from both neighbours
-clear-rising : (top end c : ℕ) (rs : List Run) (i : ℕ) → i < length rs → Rising top end c rs → Numbered rs →
+clear-rising : (top end c : ℕ) (rs : List Run) (i : ℕ) → i < length rs → Rising top end c rs → NumbersLegal rs →
     (i ≡ 0 → end ≡ getD rs 0 noRun .start → numberIn c ≡ numberIn (getD rs 0 noRun .cell) → ⊥) →
     ((j : ℕ) → suc j ≡ i → Meet rs j → ⊥) → (Meet rs i → ⊥) → Rising top end c (clearAt rs i)
 unfolding clearAt
@@ -108,7 +108,7 @@ clear-rising top end c (r ∷ rs) (suc i) h g n first before behind = (
       (λ m. behind (omega (arith, m .0), m .1, m .2)),
 )
 
--- so it is lawful
+-- Clearing the mark of a run without such a neighbour keeps the list lawful.
 clear-lawful : (rs : List Run) (i : ℕ) → i < length rs → Lawful rs → Alone rs i → Lawful (clearAt rs i)
 clear-lawful rs i h l a =
     record {
@@ -151,7 +151,7 @@ module _ (xs : List ℕ) (law : lawful xs ≡ true) (i : ℕ) (h : i < length (r
   abbrev unmarked : List ℕ
   unmarked = set xs (i * 4 + 3) 0
 
-  -- it is the map of the list
+  -- The slice with one mark cleared is the map of the list with that mark cleared.
   unmarked-map : unmarked ≡ mapOf (spaceIn xs) (clearAt (runs xs) i)
   unmarked-map =
       let e : i * 4 + 3 ≡ 4 * i + 3 = omega arith in
@@ -176,11 +176,11 @@ module _ (xs : List ℕ) (law : lawful xs ≡ true) (i : ℕ) (h : i < length (r
     list-fit : length (clearAt (runs xs) i) ≤ spaceIn xs
     list-fit = omega (arith, clear-length (runs xs) i, lawful-map xs law .fit)
 
-    -- its runs
+    -- The runs of the slice with one mark cleared.
     unmarked-runs : runs unmarked ≡ clearAt (runs xs) i
     unmarked-runs = ap runs unmarked-map ∙ map-back (spaceIn xs) (clearAt (runs xs) i) list-lawful list-fit
 
-    -- it is lawful
+    -- The slice with one mark cleared is lawful.
     unmarked-lawful : lawful unmarked ≡ true
     unmarked-lawful = ap lawful unmarked-map ∙ map-lawful (spaceIn xs) (clearAt (runs xs) i) list-lawful list-fit
 
@@ -218,7 +218,7 @@ no-behind xs i law e m = let k = lawful-map xs law in absurd (omega (arith, e, m
 
 -- ---- The loop
 
--- what it keeps: `left` runs are unpublished, none of the first i among them, and every byte is marked published to the same as at the start
+-- Of the runs `left` are unpublished, none of the first i among them; every byte marked published is what it was at the start marked published.
 pub record Clearing (xs₀ xs : List ℕ) (left i : ℕ) : Type 0 where
   pub law : lawful xs ≡ true
   pub same : length xs ≡ length xs₀
@@ -227,7 +227,7 @@ pub record Clearing (xs₀ xs : List ℕ) (left i : ℕ) : Type 0 where
   pub rest : left ≡ length (marked (drop i (runs xs)))
   pub all : left ≡ length (marked (runs xs))
 
--- none cleared yet
+-- At first no mark is cleared.
 pub clear-start : (xs₀ : List ℕ) {own : ℕ} → lawful xs₀ ≡ true → own ≡ length (marked (runs xs₀)) → Clearing xs₀ xs₀ own 0
 clear-start xs₀ law e = record { law = law; same = refl; count = refl; mean = λ b. refl; rest = e; all = e }
 
@@ -251,7 +251,7 @@ module _ (xs₀ : List ℕ) {xs : List ℕ} {left i : ℕ} (k : Clearing xs₀ x
       let s : spaceIn xs ≡ spaceIn xs₀ = omega (arith, k .same) in
       e ∙ (λ j. mapOf (s j) (runs-same (asPublished (bytesOf xs)) (asPublished (bytesOf xs₀)) (λ b _. k .mean b) j))
 
-  -- none left: the map is marked published
+  -- With no unpublished run left the map is marked published.
   pub clear-end : left ≤ 0 → xs ≡ mapFor (spaceIn xs₀) (asPublished (bytesOf xs₀))
   clear-end h =
       let m = lawful-map xs (k .law) in

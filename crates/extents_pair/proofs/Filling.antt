@@ -13,18 +13,18 @@ use borrow.Author.Tests.{eqb-true, eqb-false, not-true}
 use Rattle.rows.specs.Limits.{OFFSET-MAX}
 use Rattle.extents_meaning.specs.Cells.{Bytes, markIn, unpublished}
 use Rattle.extents_meaning.specs.Runs.{Run, runOf, runsOf, runsFrom, cellAt}
-use Rattle.extents_meaning.specs.Maps.{fours, mapOf, mapFor, spaceIn, runs, lawful, noMarks}
+use Rattle.extents_meaning.specs.Maps.{fours, mapOf, mapFor, spaceIn, runs, lawful, noMarks, partAt, withPart}
 use Rattle.extents_meaning.proofs.Longest.{mean-first}
 use Rattle.extents_meaning.proofs.Trips.{length-fours, fours-append, lawful-map}
 use Rattle.rows.proofs.Bools.{and-out}
-use Rattle.extents_pair.specs.Packing.{partAt, withPart, packedIn, mergedOf, Packed}
+use Rattle.extents_pair.specs.Packing.{packedIn, mergedOf, Packed}
 use Rattle.extents_pair.proofs.Spots.{Here, here-behind, here-at, here-same, noRun, putAt, put-behind, put-after, outside, zeroed, zeroed-twice}
 use Rattle.extents_pair.proofs.Rests.{rest, rest-none}
 use Rattle.extents_pair.proofs.Ahead.{Ahead, gapOf, gap-high, gap-low, ahead-take, ahead-skip, ahead-pass, ahead-part, ahead-fewer}
 use Rattle.extents_pair.proofs.Marking.{next-at}
 
--- what the loop keeps: runs `done` at the front of the part at v, the unpublished runs `us` that are left at its end, from run j on, and no other
--- change, behind the runs done nowhere; the runs of the merge are those done and those of its bytes from x on
+-- The runs `done` stand at the front of the part at v and the unpublished runs `us` that are left at its end, from run j on; between them and
+-- outside of the part nothing has changed. The runs of the merge are those done and those of its bytes from x on.
 pub record Filling (space v w first : ℕ) (xs₀ xs : List ℕ) (j n i x : ℕ) : Type 0 where
   pub done : List Run
   pub us : List Run
@@ -35,9 +35,9 @@ pub record Filling (space v w first : ℕ) (xs₀ xs : List ℕ) (j n i x : ℕ)
   pub room : length mid + 4 * n ≡ 4 * j
   pub kept : (q : ℕ) → 4 * n ≤ q → getD xs (v + q) 0 ≡ getD xs₀ (v + q) 0
   pub within : x ≤ OFFSET-MAX
-  pub passed : i ≤ length (runs (partAt space w xs₀))
+  pub passed : i ≤ length (runs (partAt w (4 * space) xs₀))
   pub result : runsOf (mergedOf space v w first xs₀) ≡ done ++ rest OFFSET-MAX (mergedOf space v w first xs₀) x
-  pub ahead : Ahead OFFSET-MAX (mergedOf space v w first xs₀) x us (drop i (runs (partAt space w xs₀)))
+  pub ahead : Ahead OFFSET-MAX (mergedOf space v w first xs₀) x us (drop i (runs (partAt w (4 * space) xs₀)))
 
 -- what is told of the gap
 abbrev pub Told : ℕ → ℕ → List ℕ → ℕ → ℕ → Type 0
@@ -92,7 +92,7 @@ module _ {space v w all others first : ℕ} {xs₀ : List ℕ} (p : Packed space
 
   -- the published runs
   abbrev ws : List Run
-  ws = runs (partAt space w xs₀)
+  ws = runs (partAt w (4 * space) xs₀)
 
   -- what stands behind the part at v
   abbrev tail : List ℕ
@@ -103,16 +103,16 @@ module _ {space v w all others first : ℕ} {xs₀ : List ℕ} (p : Packed space
   front-length = length-take-le v xs₀ (omega (arith, p .inside))
 
   -- a part has its length
-  part-length : (q : ℕ) → q + 4 * space ≤ length xs₀ → length (partAt space q xs₀) ≡ 4 * space
+  part-length : (q : ℕ) → q + 4 * space ≤ length xs₀ → length (partAt q (4 * space) xs₀) ≡ 4 * space
   part-length q h = length-take-le (4 * space) (drop q xs₀) (omega (arith, length-drop q xs₀))
 
   -- the published map is lawful
-  below-lawful : lawful (partAt space w xs₀) ≡ true
-  below-lawful = and-out (lawful (partAt space w xs₀)) (noMarks ws) (p .below-law) .0
+  below-lawful : lawful (partAt w (4 * space) xs₀) ≡ true
+  below-lawful = and-out (lawful (partAt w (4 * space) xs₀)) (noMarks ws) (p .below-law) .0
 
   -- the published runs fit
   below-fit : length ws ≤ space
-  below-fit = let m = lawful-map (partAt space w xs₀) below-lawful in omega (arith, m .fit, part-length w (p .below-inside))
+  below-fit = let m = lawful-map (partAt w (4 * space) xs₀) below-lawful in omega (arith, m .fit, part-length w (p .below-inside))
 
   -- ---- The start
 
@@ -120,7 +120,7 @@ module _ {space v w all others first : ℕ} {xs₀ : List ℕ} (p : Packed space
   pub fill-start : Filling space v w first xs₀ xs₀ first 0 0 0
   unfolding fours
   fill-start =
-      let part = partAt space v xs₀ in
+      let part = partAt v (4 * space) xs₀ in
       let ys = packedIn space v first xs₀ in
       let m = lawful-map ys (p .own) in
       let l = part-length v (p .inside) in
@@ -147,8 +147,8 @@ module _ {space v w all others first : ℕ} {xs₀ : List ℕ} (p : Packed space
             record {
               own = m .lawful-runs .in-order;
               own-marked = p .own-marked;
-              others = lawful-map (partAt space w xs₀) below-lawful .lawful-runs .in-order;
-              others-plain = and-out (lawful (partAt space w xs₀)) (noMarks ws) (p .below-law) .1;
+              others = lawful-map (partAt w (4 * space) xs₀) below-lawful .lawful-runs .in-order;
+              others-plain = and-out (lawful (partAt w (4 * space) xs₀)) (noMarks ws) (p .below-law) .1;
               means = λ b h l. refl;
             };
       }
@@ -203,7 +203,7 @@ module _ {space v w all others first : ℕ} {xs₀ : List ℕ} (p : Packed space
 
     -- the next published run
     next-here : i < length ws → Here xs (w + i * 4) (getD ws i noRun)
-    next-here h = here-same (here-at (partAt space w xs₀) below-lawful i h) there
+    next-here h = here-same (here-at (partAt w (4 * space) xs₀) below-lawful i h) there
       where
         part : List ℕ
         part = fours (k .done) ++ (k .mid ++ fours (k .us))
@@ -221,7 +221,7 @@ module _ {space v w all others first : ℕ} {xs₀ : List ℕ} (p : Packed space
               k .room,
             )
 
-        there : (q : ℕ) → q < 4 → getD xs (w + i * 4 + q) 0 ≡ getD (partAt space w xs₀) (4 * i + q) 0
+        there : (q : ℕ) → q < 4 → getD xs (w + i * 4 + q) 0 ≡ getD (partAt w (4 * space) xs₀) (4 * i + q) 0
         there q l =
             let e : w + i * 4 + q ≡ w + (4 * i + q) = omega arith in
             let o : 4 * i + q < 4 * space = omega (arith, below-fit, h, l) in
@@ -231,20 +231,20 @@ module _ {space v w all others first : ℕ} {xs₀ : List ℕ} (p : Packed space
             ∙ sym (getD-drop w xs₀ (4 * i + q) 0)
             ∙ sym (getD-take (4 * space) (drop w xs₀) (4 * i + q) 0 o)
 
-    -- as a list
+    -- The published runs from run i on are run i and those behind it.
     next-first : i < length ws → drop i ws ≡ getD ws i noRun ∷ drop (suc i) ws
     next-first h = drop-cons ws i noRun h
 
-    -- it is in the slice
+    -- The next published run is in the slice.
     pub next-room : i < others → (w + i * 4 + 4 ≤ length xs) × (length xs ≡ length xs₀)
     next-room h = (omega (arith, fill-length, below-fit, p .below-all, p .below-inside), fill-length)
 
-    -- it ends in the offset range
+    -- The next published run ends in the offset range.
     pub next-inside : i < others → getD xs (w + i * 4) 0 + getD xs (w + i * 4 + 1) 0 ≤ OFFSET-MAX
     next-inside h =
         let o : i < length ws = omega (arith, p .below-all) in
         let e = next-here o in
-        omega (arith, e .start, e .size, next-at OFFSET-MAX 0 0 ws i (lawful-map (partAt space w xs₀) below-lawful .lawful-runs .in-order) o)
+        omega (arith, e .start, e .size, next-at OFFSET-MAX 0 0 ws i (lawful-map (partAt w (4 * space) xs₀) below-lawful .lawful-runs .in-order) o)
 
     -- the gap that is told is where the next unpublished run starts
     fill-gap : {gap : ℕ} → Told space v xs j gap → gap ≡ gapOf OFFSET-MAX (k .us)
@@ -254,7 +254,7 @@ module _ {space v w all others first : ℕ} {xs₀ : List ℕ} (p : Packed space
         go [] e = t .0 (omega (arith, k .left, ap length e))
         go (u ∷ us) e = t .1 (omega (arith, k .left, ap length e)) ∙ own-here u us e .start
 
-    -- it is at x or behind, in the offset range
+    -- The gap's end is at x or behind, in the offset range.
     pub gap-bounds : {gap : ℕ} → Told space v xs j gap → (x ≤ gap) × (gap ≤ OFFSET-MAX)
     gap-bounds t =
         let e = fill-gap t in
@@ -296,11 +296,11 @@ module _ {space v w all others first : ℕ} {xs₀ : List ℕ} (p : Packed space
       abbrev next : Run
       next = getD ws i noRun
 
-      -- those behind it
+      -- The published runs behind the next one.
       abbrev later : List Run
       later = drop (suc i) ws
 
-      -- it stands there
+      -- The next published run stands at its place.
       here : Here xs (w + i * 4) next
       here = next-here (omega (arith, p .below-all, h))
 
@@ -308,7 +308,7 @@ module _ {space v w all others first : ℕ} {xs₀ : List ℕ} (p : Packed space
       split : drop i ws ≡ next ∷ later
       split = next-first (omega (arith, p .below-all, h))
 
-      -- so the merge stands before it
+      -- The merge stands before the next published run.
       stands : Ahead OFFSET-MAX f x (k .us) (next ∷ later)
       stands = subst (Ahead OFFSET-MAX f x (k .us)) split (k .ahead)
 
@@ -320,7 +320,7 @@ module _ {space v w all others first : ℕ} {xs₀ : List ℕ} (p : Packed space
           ap (λ (rs : List Run). cellAt rs b) split
           ∙ mean-first OFFSET-MAX 0 0 next later (stands .others) b (omega (arith, q, l, here .start)))
 
-      -- it ends at x or before
+      -- The next published run ends at x or before: the merge passes it.
       pub fill-pass : getD xs (w + i * 4) 0 + getD xs (w + i * 4 + 1) 0 ≤ x → Filling space v w first xs₀ xs j n (i + 1) x
       fill-pass l =
           let a = ahead-pass OFFSET-MAX f stands (omega (arith, l, here .start, here .size)) in
@@ -342,7 +342,7 @@ module _ {space v w all others first : ℕ} {xs₀ : List ℕ} (p : Packed space
       module _ {gap s e : ℕ} (t : Told space v xs j gap) (apart : gap ≡ x → ⊥) (reaches : x < getD xs (w + i * 4) 0 + getD xs (w + i * 4 + 1) 0)
           (meets : getD xs (w + i * 4) 0 < gap) (ps : s ≡ max (getD xs (w + i * 4) 0) x)
           (pe : e ≡ min (getD xs (w + i * 4) 0 + getD xs (w + i * 4 + 1) 0) gap) where
-        -- its part before the gap
+        -- The part of the next published run before the gap's end is the next run of the merge.
         step : (rest OFFSET-MAX f x ≡ runOf s (e - s) (next .cell) ∷ rest OFFSET-MAX f e) × Ahead OFFSET-MAX f e (k .us) (next ∷ later)
         step =
             let g = fill-gap t in
@@ -362,17 +362,17 @@ module _ {space v w all others first : ℕ} {xs₀ : List ℕ} (p : Packed space
               k .left,
             )
 
-        -- its place is in the slice
+        -- The place of the part is in the slice.
         pub part-room : (v + n * 4 + 4 ≤ length xs) × (length xs ≡ length xs₀)
         part-room = let r = fill-room in (omega (arith, r, part-low), fill-length)
 
-        -- it is not empty, and ends in the offset range
+        -- The part is not empty, and ends in the offset range.
         pub part-bounds : (s ≤ e) × (x < e) × (e ≤ OFFSET-MAX)
         part-bounds =
             let g = gap-bounds t in
             (omega (arith, ps, pe, reaches, meets, g .0), omega (arith, pe, reaches, g .0, apart), omega (arith, pe, g .1))
 
-        -- it is put
+        -- With the part put, the merge goes on.
         pub fill-part : {ys : List ℕ} → ys ≡ putAt xs (v + n * 4) s (e - s) (getD xs (w + i * 4 + 2) 0) 0 →
             Filling space v w first xs₀ ys j (n + 1) i e
         unfolding noMarks
@@ -410,7 +410,7 @@ module _ {space v w all others first : ℕ} {xs₀ : List ℕ} (p : Packed space
       abbrev own : Run
       own = getD (k .us) 0 noRun
 
-      -- those behind it
+      -- The packed runs behind the next one.
       abbrev more : List Run
       more = drop 1 (k .us)
 
@@ -418,36 +418,36 @@ module _ {space v w all others first : ℕ} {xs₀ : List ℕ} (p : Packed space
       own-first : k .us ≡ own ∷ more
       own-first = first-of (k .us) (omega (arith, fill-gap t, meets, below))
 
-      -- so the merge stands before it
+      -- The merge stands before the next packed run.
       own-stands : Ahead OFFSET-MAX f x (own ∷ more) (drop i ws)
       own-stands = subst (λ (us : List Run). Ahead OFFSET-MAX f x us (drop i ws)) own-first (k .ahead)
 
-      -- its numbers stand there
+      -- The numbers of the next packed run stand at its place.
       own-there : Here xs (v + j * 4) own
       own-there = own-here own more own-first
 
-      -- it starts at x
+      -- The next packed run starts at x.
       starts : own .start ≡ x
       starts = sym (ap (gapOf OFFSET-MAX) own-first) ∙ sym (fill-gap t) ∙ meets
 
-      -- it is the next run of the merge
+      -- The next packed run is the next run of the merge.
       own-step : (rest OFFSET-MAX f x ≡ own ∷ rest OFFSET-MAX f (x + own .length)) × Ahead OFFSET-MAX f (x + own .length) more (drop i ws)
       own-step = ahead-take OFFSET-MAX f own-stands starts
 
-      -- it is in the slice, and so is the place to put it
+      -- The next packed run is in the slice, and so is the place to put it.
       pub own-room : (v + j * 4 + 4 ≤ length xs) × (v + n * 4 + 4 ≤ length xs) × (length xs ≡ length xs₀)
       own-room =
           let r = fill-room in
           let h : j < space = omega (arith, k .left, ap length own-first) in
           (omega (arith, r), omega (arith, r), fill-length)
 
-      -- it is not empty, and ends in the offset range
+      -- The next packed run is not empty, and ends in the offset range.
       pub own-bounds : (1 ≤ getD xs (v + j * 4 + 1) 0) × (x + getD xs (v + j * 4 + 1) 0 ≤ OFFSET-MAX)
       own-bounds =
           let o = own-stands .own .0 in
           (omega (arith, own-there .size, o .filled), omega (arith, own-there .size, starts, o .inside))
 
-      -- it is put
+      -- With the next packed run put, the merge goes on.
       pub fill-take : {ys : List ℕ} → ys ≡ putAt xs (v + n * 4) x (getD xs (v + j * 4 + 1) 0) (getD xs (v + j * 4 + 2) 0) 1 →
           Filling space v w first xs₀ ys (j + 1) (n + 1) i (x + getD xs (v + j * 4 + 1) 0)
       fill-take q =
@@ -486,7 +486,7 @@ module _ {space v w all others first : ℕ} {xs₀ : List ℕ} (p : Packed space
     -- ---- The end
 
     -- at the top the runs done are all, and the rest of the part is 0
-    fill-all : OFFSET-MAX ≤ x → {zs : List ℕ} → zs ≡ zeroed xs (v + n * 4) (v + space * 4) → zs ≡ withPart space v (mapFor space f) xs₀
+    fill-all : OFFSET-MAX ≤ x → {zs : List ℕ} → zs ≡ zeroed xs (v + n * 4) (v + space * 4) → zs ≡ withPart v (4 * space) (mapFor space f) xs₀
     unfolding mapOf
     fill-all h {zs} q =
         let done = k .done in
@@ -514,9 +514,9 @@ module _ {space v w all others first : ℕ} {xs₀ : List ℕ} (p : Packed space
         ∙ ap (λ (z : List ℕ). z ++ tail) (append-assoc (take v xs₀) (fours done) (replicate (4 * (space - length done)) 0))
         ∙ ap (λ (z : List Run). (take v xs₀ ++ mapOf space z) ++ tail) (sym all)
 
-    -- it is where 0 is put in the places of the first `all` runs and of the packed ones
+    -- The slice holds the merged map once 0 stands in the places of the first `all` runs and of the packed ones.
     pub fill-end : OFFSET-MAX ≤ x → {ys zs : List ℕ} {a b : ℕ} → a ≡ max n all → b ≡ max n first →
-        ys ≡ zeroed xs (v + n * 4) (v + a * 4) → zs ≡ zeroed ys (v + b * 4) (v + space * 4) → zs ≡ withPart space v (mapFor space f) xs₀
+        ys ≡ zeroed xs (v + n * 4) (v + a * 4) → zs ≡ zeroed ys (v + b * 4) (v + space * 4) → zs ≡ withPart v (4 * space) (mapFor space f) xs₀
     fill-end h {ys} {zs} {a} {b} ea eb y z =
         let r = fill-room in
         fill-all h

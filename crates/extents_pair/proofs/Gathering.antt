@@ -10,7 +10,7 @@ use lib.Seq.{length-take-le, take-take, take-at, drop-at, drop-cons, getD-take}
 use borrow.Author.Tests.{eq-eqb, ne-eqb, eqb-false}
 use Rattle.rows.specs.Limits.{OFFSET-MAX}
 use Rattle.extents_meaning.specs.Cells.{Bytes, markIn, unpublished, published, asPublished, refreshed}
-use Rattle.extents_meaning.specs.Runs.{Run, cellAt, Rising, Numbered, Lawful}
+use Rattle.extents_meaning.specs.Runs.{Run, cellAt, Rising, NumbersLegal, Lawful}
 use Rattle.extents_meaning.specs.Maps.{fours, spaceIn, runs, lawful}
 use Rattle.extents_meaning.proofs.Longest.{cell-first, cell-before, cell-behind, mean-before}
 use Rattle.extents_meaning.proofs.Trips.{lawful-map}
@@ -29,7 +29,7 @@ pub marked-out : (r : Run) (rs : List Run) → unpublished (r .cell) ≡ false �
 unfolding marked
 marked-out r rs e = rw e
 
--- there are no more of them than of all
+-- There are no more unpublished runs than runs.
 pub marked-fewer : (rs : List Run) → length (marked rs) ≤ length rs
 unfolding marked
 marked-fewer [] = omega arith
@@ -39,7 +39,7 @@ marked-fewer (r ∷ rs) = go (unpublished (r .cell)) (marked-fewer rs)
     go true h = omega arith
     go false h = omega arith
 
--- all of them are unpublished
+-- All runs of `marked` are unpublished.
 pub marked-all : (rs : List Run) → Marked (marked rs)
 unfolding marked
 marked-all [] = tt
@@ -49,7 +49,7 @@ marked-all (r ∷ rs) = go (unpublished (r .cell)) refl (marked-all rs)
     go true e m = (e, m)
     go false e m = m
 
--- they rise behind an end no later, of the same cell where it is the same
+-- The unpublished runs rise behind an end no later, of one cell where it is one end.
 marked-rising : (top end c e k : ℕ) (rs : List Run) → Rising top end c rs → e ≤ end → (e ≡ end → k ≡ c) → Rising top e k (marked rs)
 unfolding marked
 marked-rising top end c e k [] g h s = tt
@@ -68,17 +68,17 @@ marked-rising top end c e k (r ∷ rs) g h s =
         (record { rising = omega arith; filled = n .filled; inside = n .inside; written = n .written; longest = apart }, kept)
     go false kept gone = gone
 
--- they have row numbers
-marked-numbered : (rs : List Run) → Numbered rs → Numbered (marked rs)
+-- The unpublished runs have legal row numbers.
+marked-numbered : (rs : List Run) → NumbersLegal rs → NumbersLegal (marked rs)
 unfolding marked
 marked-numbered [] n = tt
 marked-numbered (r ∷ rs) n = go (unpublished (r .cell)) (marked-numbered rs (n .2))
   where
-    go : (t : Bool) → Numbered (marked rs) → Numbered (cond t (r ∷ marked rs) (marked rs))
+    go : (t : Bool) → NumbersLegal (marked rs) → NumbersLegal (cond t (r ∷ marked rs) (marked rs))
     go true m = (n .0, n .1, m)
     go false m = m
 
--- they are lawful
+-- The unpublished runs of a lawful list are lawful.
 pub marked-lawful : (rs : List Run) → Lawful rs → Lawful (marked rs)
 marked-lawful rs l =
     record {
@@ -86,7 +86,7 @@ marked-lawful rs l =
       numbered = marked-numbered rs (l .numbered);
     }
 
--- they mean the unpublished bytes
+-- The unpublished runs mean the unpublished bytes.
 pub marked-mean : (top end c : ℕ) (rs : List Run) → Rising top end c rs → (b : ℕ) →
     cellAt (marked rs) b ≡ cond (unpublished (cellAt rs b)) (cellAt rs b) 0
 unfolding marked cellAt
@@ -113,7 +113,7 @@ marked-mean top end c (r ∷ rs) g b =
         ih ∙ ap pick (mean-before top (r .start + r .length) (r .cell) rs (g .1) b k) ∙ sym (ap (λ (t : Bool). cond t (r .cell) 0) e)
         ∙ ap pick (sym (cell-first r rs b (omega arith) k))
 
--- so a refresh takes the same from them
+-- A refresh takes from the unpublished runs what it takes from all runs.
 pub marked-refresh : (rs : List Run) → Lawful rs → (f : ℕ → ℕ) (b : ℕ) → refreshed (cellAt (marked rs)) f b ≡ refreshed (cellAt rs) f b
 marked-refresh rs l f b = ap over (marked-mean OFFSET-MAX 0 0 rs (l .in-order) b) ∙ go (cellAt rs b) (unpublished (cellAt rs b)) refl
   where
@@ -137,7 +137,7 @@ marked-none rs l z b = go (unpublished (cellAt rs b)) refl (none (marked rs) z �
     go true e h = ap unpublished (sym h)
     go false e h = e
 
--- so a view is refreshed to the published map
+-- A view without unpublished runs is refreshed to the published map.
 pub refreshed-none : (rs : List Run) → Lawful rs → length (marked rs) ≡ 0 → (f : Bytes) (b : ℕ) → refreshed (cellAt rs) f b ≡ f b
 refreshed-none rs l z f b = rw (marked-none rs l z b)
 
@@ -145,7 +145,7 @@ refreshed-none rs l z f b = rw (marked-none rs l z b)
 pub published-none : (rs : List Run) → Lawful rs → length (marked rs) ≡ 0 → (f : Bytes) (b : ℕ) → published (cellAt rs) f b ≡ f b
 published-none rs l z f b = rw (marked-none rs l z b)
 
--- and has no mark to clear
+-- A view without unpublished runs has no mark to clear.
 pub as-published-none : (rs : List Run) → Lawful rs → length (marked rs) ≡ 0 → (b : ℕ) → asPublished (cellAt rs) b ≡ cellAt rs b
 as-published-none rs l z b =
     let m : markIn (cellAt rs b) ≡ 1 → ⊥ = eqb-false (markIn (cellAt rs b)) 1 (marked-none rs l z b) in
@@ -153,7 +153,7 @@ as-published-none rs l z b =
 
 -- ---- Taking them to the end
 
--- what the loop keeps: all before run `to` is as it was, with the first i runs, and the unpublished ones of the others stand from there on
+-- All numbers before place `to` are as they were, with the first i runs; the unpublished ones of the other runs stand from there on.
 pub record Gathering (xs₀ xs : List ℕ) (i to : ℕ) : Type 0 where
   pub passed : i ≤ length (runs xs₀)
   pub size : length xs ≡ length xs₀
@@ -162,7 +162,7 @@ pub record Gathering (xs₀ xs : List ℕ) (i to : ℕ) : Type 0 where
   pub room : to + length (marked (drop i (runs xs₀))) ≡ spaceIn xs₀
 
 module _ (xs₀ : List ℕ) (law : lawful xs₀ ≡ true) where
-  -- none yet
+  -- At first no run is packed.
   pub gather-start : {all : ℕ} → all ≡ length (runs xs₀) → Gathering xs₀ xs₀ all (length xs₀ / 4)
   unfolding fours marked
   gather-start {all} e =
@@ -179,13 +179,13 @@ module _ (xs₀ : List ℕ) (law : lawful xs₀ ≡ true) where
       }
 
   module _ {xs : List ℕ} {i to : ℕ} (k : Gathering xs₀ xs i to) where
-    -- none of those left is written
+    -- Packing has not written over the runs that are left.
     gather-apart : i ≤ to
     gather-apart =
         let m = lawful-map xs₀ law in
         omega (arith, marked-fewer (drop i (runs xs₀)), length-drop i (runs xs₀), k .passed, k .room, m .fit)
 
-    -- those taken stand within the slice
+    -- The packed runs stand within the slice.
     gather-inside : 4 * to ≤ length xs
     gather-inside = let m = lawful-map xs₀ law in omega (arith, m .fours-in, k .room, k .size)
 
@@ -198,7 +198,7 @@ module _ (xs₀ : List ℕ) (law : lawful xs₀ ≡ true) where
       abbrev last : Run
       last = getD (runs xs₀) (i - 1) noRun
 
-      -- its numbers stand there still
+      -- The numbers of the last run left stand at its place still.
       last-here : Here xs ((i - 1) * 4) last
       last-here = here-same (here-at xs₀ law (i - 1) (omega (arith, k .passed))) there
         where
@@ -210,13 +210,13 @@ module _ (xs₀ : List ℕ) (law : lawful xs₀ ≡ true) where
               ap (λ (j : ℕ). getD xs j 0) e ∙ sym (getD-take (4 * to) xs p 0 o)
               ∙ ap (λ (l : List ℕ). getD l p 0) (k .front) ∙ getD-take (4 * to) xs₀ p 0 o
 
-      -- it is the first of those not left
+      -- The last run left is the first of those from run i - 1 on.
       last-first : drop (i - 1) (runs xs₀) ≡ last ∷ drop i (runs xs₀)
       last-first =
           let e : suc (i - 1) ≡ i = omega arith in
           drop-cons (runs xs₀) (i - 1) noRun (omega (arith, k .passed)) ∙ ap (λ (j : ℕ). last ∷ drop j (runs xs₀)) e
 
-      -- it is published
+      -- The last run left is published: packing skips it.
       pub gather-skip : (getD xs ((i - 1) * 4 + 3) 0 ≡ 1 → ⊥) → Gathering xs₀ xs (i - 1) to
       gather-skip n =
           let o : unpublished (last .cell) ≡ false = ne-eqb (markIn (last .cell)) 1 (λ e. n (last-here .mark ∙ e)) in
@@ -229,7 +229,7 @@ module _ (xs₀ : List ℕ) (law : lawful xs₀ ≡ true) where
             room = ap (λ (l : List Run). to + length l) e ∙ k .room;
           }
 
-      -- or it is put before the others
+      -- The last run left is unpublished: packing puts it before the others.
       pub gather-put : getD xs ((i - 1) * 4 + 3) 0 ≡ 1 → {ys : List ℕ} →
           ys ≡ putAt xs ((to - 1) * 4) (getD xs ((i - 1) * 4) 0) (getD xs ((i - 1) * 4 + 1) 0) (getD xs ((i - 1) * 4 + 2) 0) 1 →
           length ys ≡ length xs →
@@ -265,7 +265,7 @@ module _ (xs₀ : List ℕ) (law : lawful xs₀ ≡ true) where
             room = ap (λ (z : List Run). to - 1 + length z) m ∙ omega (arith, a, k .room);
           }
 
-  -- in the end all of them
+  -- In the end all unpublished runs are packed.
   pub gather-end : {xs : List ℕ} {i to : ℕ} → Gathering xs₀ xs i to → i ≤ 0 →
       (to + length (marked (runs xs₀)) ≡ spaceIn xs₀) × (drop (4 * to) xs ≡ fours (marked (runs xs₀))) × (take (4 * to) xs ≡ take (4 * to) xs₀)
   gather-end {xs} {i} k h = let z : i ≡ 0 = omega arith in (rw z at (k .room), rw z at (k .back), k .front)

@@ -10,7 +10,7 @@ use lib.Dec.{eqb}
 use borrow.Author.Tests.{eqb-true, eqb-false}
 use Rattle.rows.specs.Limits.{OFFSET-MAX}
 use Rattle.extents_meaning.specs.Cells.{Bytes, cellOf, numberIn, cleared, inRange, asPublished}
-use Rattle.extents_meaning.specs.Runs.{Run, runOf, cellAt, runsOf, Next, Rising, Numbered, Lawful}
+use Rattle.extents_meaning.specs.Runs.{Run, runOf, cellAt, runsOf, Next, Rising, NumbersLegal, Lawful}
 use Rattle.extents_meaning.proofs.Longest.{unique-from, range-in, range-before, range-behind}
 use Rattle.extents_pair.proofs.Spots.{noRun}
 
@@ -39,7 +39,7 @@ unfolding glue
 glue-apart s l m r rs e = rw e
 
 -- the runs rise
-glue-rising : (top end c k s l m : ℕ) (rs : List Run) → Next top end c (runOf s l (cellOf m 0)) → Rising top (s + l) k rs → Numbered rs →
+glue-rising : (top end c k s l m : ℕ) (rs : List Run) → Next top end c (runOf s l (cellOf m 0)) → Rising top (s + l) k rs → NumbersLegal rs →
     Rising top end c (glue s l m rs)
 unfolding glue
 glue-rising top end c k s l m [] n g w = (n, tt)
@@ -52,11 +52,11 @@ glue-rising top end c k s l m (r ∷ rs) n g w =
     next h = let o = g .0 in record { rising = o .rising; filled = o .filled; inside = o .inside; written = omega (arith, w .0); longest = h }
 
     go : (x : Bool) → eqb (s + l) (r .start) ≡ x → (y : Bool) → eqb m (numberIn (r .cell)) ≡ y →
-        (Next top end c (runOf s (l + r .length) (cellOf m 0)) → Rising top (s + (l + r .length)) (r .cell) rs → Numbered rs →
+        (Next top end c (runOf s (l + r .length) (cellOf m 0)) → Rising top (s + (l + r .length)) (r .cell) rs → NumbersLegal rs →
         Rising top end c (glue s (l + r .length) m rs)) →
         (Next top (s + l) (cellOf m 0) (runOf (r .start) (r .length) (cellOf (numberIn (r .cell)) 0)) →
         Rising top (r .start + r .length) (r .cell) rs →
-        Numbered rs → Rising top (s + l) (cellOf m 0) (glue (r .start) (r .length) (numberIn (r .cell)) rs)) →
+        NumbersLegal rs → Rising top (s + l) (cellOf m 0) (glue (r .start) (r .length) (numberIn (r .cell)) rs)) →
         Rising top end c (cond (x && y) (glue s (l + r .length) m rs) (runOf s l (cellOf m 0) ∷ glue (r .start) (r .length) (numberIn (r .cell)) rs))
     go true p true q long new =
         let o = g .0 in
@@ -72,7 +72,7 @@ range-clear : (t : Bool) (c d : ℕ) → cond t (cellOf (numberIn c) 0) (cleared
 range-clear true c d = refl
 range-clear false c d = refl
 
--- what they mean
+-- The meaning of glued runs.
 glue-mean : (s l m : ℕ) (rs : List Run) (b : ℕ) → cellAt (glue s l m rs) b ≡ cond (inRange s l b) (cellOf m 0) (cleared (cellAt rs b))
 unfolding glue cellAt
 glue-mean s l m [] b = refl

@@ -10,11 +10,11 @@ use borrow.Rule.Slice.PartMut.{putMid}
 use Rattle.rows.specs.Limits.{OFFSET-MAX}
 use Rattle.extents_meaning.specs.Cells.{Bytes, unpublished, cleared, overwrite, published}
 use Rattle.extents_meaning.specs.Runs.{Run, runOf, cellAt, runsOf, Lawful}
-use Rattle.extents_meaning.specs.Maps.{mapFor, spaceIn, runs, bytesOf}
+use Rattle.extents_meaning.specs.Maps.{mapFor, spaceIn, runs, bytesOf, partAt}
 use Rattle.extents_meaning.proofs.Longest.{Fine, runs-same, runs-back}
 use Rattle.extents_meaning.proofs.Trips.{lawful-map}
 use Rattle.extents_pair.specs.declared.share.RangeWrite.{RangeWrite}
-use Rattle.extents_pair.specs.RangeWrites.{rangeWriteOf, rangeWrite, partAt, withBytes, Two}
+use Rattle.extents_pair.specs.RangeWrites.{rangeWriteOf, rangeWrite, withBytes, MapsApart}
 use Rattle.extents_pair.specs.Packing.{marked}
 use Rattle.extents_pair.proofs.Sweeps.{Good, Fits, good-over, over-same}
 use Rattle.extents_pair.proofs.Overwriting.{clear-fine}
@@ -38,12 +38,12 @@ fewer-later zero rs = omega arith
 fewer-later (suc i) [] = omega arith
 fewer-later (suc i) (r ∷ rs) = omega (arith, fewer-later i rs, marked-first r rs)
 
-module _ (size v w : ℕ) (xs : List ℕ) (t : Two size v w xs) where
+module _ (size v w : ℕ) (xs : List ℕ) (t : MapsApart size v w xs) where
   -- the view's runs
   abbrev rs : List Run
   rs = runs (partAt v size xs)
 
-  -- they are lawful
+  -- The view's runs are lawful.
   law : Lawful rs
   law = lawful-map (partAt v size xs) (t .view) .lawful-runs
 
@@ -51,7 +51,7 @@ module _ (size v w : ℕ) (xs : List ℕ) (t : Two size v w xs) where
   abbrev old : Bytes
   old = bytesOf (partAt w size xs)
 
-  -- its bytes with the unpublished runs from run i on
+  -- The published map's bytes with the unpublished runs from run i on laid over them.
   abbrev pub after : ℕ → Bytes
   after i = laid cleared (marked (drop i rs)) old
 
@@ -79,7 +79,7 @@ module _ (size v w : ℕ) (xs : List ℕ) (t : Two size v w xs) where
   inside : (i : ℕ) → runAmong rs i .start + runAmong rs i .length ≤ OFFSET-MAX
   inside i = inside-at rs i 0 0 (law .in-order)
 
-  -- and its cell is fine without its mark
+  -- A run's cell is fine without its mark.
   fine : (i : ℕ) → Fine (cleared (runAmong rs i .cell))
   fine i = clear-fine (runAmong rs i .cell) (fine-at rs i (law .numbered))
 
@@ -100,7 +100,7 @@ module _ (size v w : ℕ) (xs : List ℕ) (t : Two size v w xs) where
       go false u g = subst Good (sym (after-skip i h u)) g
 
   module _ (room : length (runs (partAt w size xs)) + 2 * length (marked rs) ≤ size / 4) where
-    -- they fit
+    -- The bytes with the runs from run i on fit.
     after-fits : (i : ℕ) → i ≤ length rs → Fits (size / 4) (after i)
     after-fits i h =
         record {
@@ -134,11 +134,11 @@ module _ (size v w : ℕ) (xs : List ℕ) (t : Two size v w xs) where
       abbrev r : Run
       r = runAmong rs (i - 1)
 
-      -- it is unpublished
+      -- The run is unpublished.
       shown : unpublished (r .cell) ≡ true
       shown = ap (λ (l : List ℕ). unpublished (runAmong (runs l) (i - 1) .cell)) (sym (lent-view t k)) ∙ own
 
-      -- what is written of it
+      -- The range write of the run is the whole run.
       whole : s ≡ rangeWriteOf (r .start) (r .start + r .length) (cleared (r .cell))
       whole =
           p ∙ ap (λ (l : List ℕ). rangeWrite 0 OFFSET-MAX (runAmong (runs l) (i - 1))) (lent-view t k) ∙ whole-range-write r shown (inside (i - 1))
@@ -156,11 +156,11 @@ module _ (size v w : ℕ) (xs : List ℕ) (t : Two size v w xs) where
           ∙ (λ o. overwrite (r .start) (q o) (cleared (r .cell)) (after (suc (i - 1))) x)
           ∙ (λ o. sym (after-step (i - 1) (omega arith) shown) o x)
 
-      -- its cell is fine
+      -- The cell to be laid is fine.
       pub lay-fine : Fine (s .cell)
       lay-fine = subst (λ (o : RangeWrite). Fine (o .cell)) (sym whole) (fine (i - 1))
 
-      -- they fit
+      -- The bytes with the range laid fit.
       pub lay-fit : length (runsOf written) ≤ spaceIn (take (w + size - w) (drop w ys))
       lay-fit =
           omega (
@@ -170,12 +170,12 @@ module _ (size v w : ℕ) (xs : List ℕ) (t : Two size v w xs) where
             ap length (runs-same written (after (i - 1)) (λ x _. written-after x)),
           )
 
-      -- and are left
+      -- After the turn the slice holds the bytes with the runs from run i - 1 on.
       pub lay-next : {last : List ℕ} → last ≡ mapFor (spaceIn (take (w + size - w) (drop w ys))) written →
           Holds size w xs (after (i - 1)) (putMid w (w + size - w) ys last)
       lay-next q = lent-next t k (after (i - 1)) written (after-fits (i - 1) (omega arith)) written-after q
 
-    -- all of them are the published bytes
+    -- With all unpublished runs laid the bytes are the published ones.
     after-all : (b : ℕ) → after 0 b ≡ published (cellAt rs) old b
     after-all b = sym (laid-over rs law old cleared b)
 
@@ -191,7 +191,7 @@ module _ (size v w : ℕ) (xs : List ℕ) (t : Two size v w xs) where
           few = omega (arith, a .few, ap length (runs-same (after 0) (published (cellAt rs) old) (λ b _. after-all b)));
         }
 
-    -- and are what is left in the end
+    -- In the end the slice holds the published bytes.
     pub lay-end : {i : ℕ} {ys : List ℕ} → Holds size w xs (after i) ys → i ≡ 0 → ys ≡ withBytes size w (published (cellAt rs) old) xs
     lay-end {i} {ys} k z =
         holds-same (published (cellAt rs) old) all-fits (λ b. (λ o. after (z o) b) ∙ after-all b) k .same

@@ -29,12 +29,12 @@ drop-none : (rs : List Run) → length rs ≡ 0 → rs ≡ []
 drop-none [] h = refl
 drop-none (r ∷ rs) h = absurd (omega arith)
 
--- its numbers
+-- No run has no numbers.
 fours-none : fours [] ≡ []
 unfolding fours
 fours-none = refl
 
--- what the loop keeps: a run in hand, of `number` and published, those put before it, and the runs not yet read
+-- A published run of `number` is in hand, behind the runs put before, and the runs from run i on are not yet read.
 pub record Marking (xs₀ xs : List ℕ) (start size number n i : ℕ) : Type 0 where
   pub older : List Run
   pub mid : List ℕ
@@ -117,7 +117,7 @@ module _ (xs₀ : List ℕ) (law : lawful xs₀ ≡ true) where
             ∙ getD-append-add (fours (k .older) ++ k .mid) (drop (4 * i) xs₀) q 0
             ∙ getD-drop (4 * i) xs₀ q 0
 
-    -- its bounds, as the code reads it
+    -- The run that the code reads ends in the offset range.
     pub mark-published-inside : i < length (runs xs₀) → getD xs (i * 4) 0 + getD xs (i * 4 + 1) 0 ≤ OFFSET-MAX
     mark-published-inside h =
         let e = mark-published-here h in
@@ -136,7 +136,7 @@ module _ (xs₀ : List ℕ) (law : lawful xs₀ ≡ true) where
         (sym (take-append-drop 4 (drop (4 * i) xs₀)) ∙ ap (λ (t : List ℕ). q ++ t) (behind-there i xs₀))
         ∙ ap (λ (t : List ℕ). fours (k .older) ++ t) (sym (append-assoc (k .mid) q (drop (4 * (i + 1)) xs₀)))
 
-    -- it fills the room up to the next run
+    -- The numbers put and the run in hand fill the room up to the next run.
     more-room : i < length (runs xs₀) → length more + 4 * n ≡ 4 * (i + 1)
     more-room h =
         let d = drop (4 * i) xs₀ in
@@ -152,7 +152,7 @@ module _ (xs₀ : List ℕ) (law : lawful xs₀ ≡ true) where
         eqb (start + size) (getD (runs xs₀) i noRun .start) && eqb number (numberIn (getD (runs xs₀) i noRun .cell)) ≡ t
     test h e t = let r = mark-published-here h in (λ j. eqb (start + size) (sym (r .start) j) && eqb number (sym (r .number) j)) ∙ sym e ∙ t
 
-    -- it is joined to the run in hand
+    -- The next run touches: it joins the run in hand.
     pub mark-published-join : i < length (runs xs₀) → {b : Bool} →
         b ≡ eqb (start + size) (getD xs (i * 4) 0) && eqb number (getD xs (i * 4 + 2) 0) → b ≡ true →
         Marking xs₀ xs start (size + getD xs (i * 4 + 1) 0) number n (i + 1)
@@ -174,7 +174,7 @@ module _ (xs₀ : List ℕ) (law : lawful xs₀ ≡ true) where
               ∙ (λ j. glue start (size + sym (r .size) j) number (drop (sym (add-one i) j) (runs xs₀))));
         }
 
-    -- or the run in hand is put, and it is taken in hand
+    -- The next run does not touch: the run in hand is put, and the next one is taken in hand.
     pub mark-published-put : i < length (runs xs₀) → {b : Bool} →
         b ≡ eqb (start + size) (getD xs (i * 4) 0) && eqb number (getD xs (i * 4 + 2) 0) → b ≡ false →
         {ys : List ℕ} → ys ≡ putAt xs (n * 4) start size number 0 →
@@ -203,7 +203,7 @@ module _ (xs₀ : List ℕ) (law : lawful xs₀ ≡ true) where
               ∙ sym (append-snoc (k .older) o (glue (getD xs (i * 4) 0) (getD xs (i * 4 + 1) 0) (getD xs (i * 4 + 2) 0) (drop (i + 1) (runs xs₀))));
         }
 
-    -- at the end it is put, and the rest is 0
+    -- At the end the run in hand is put, and the rest is 0.
     pub mark-published-end : {all : ℕ} → i ≡ all → all ≡ length (runs xs₀) → {ys zs : List ℕ} → ys ≡ putAt xs (n * 4) start size number 0 →
         zs ≡ zeroed ys (n * 4 + 4) (all * 4) → zs ≡ mapFor (spaceIn xs₀) (asPublished (bytesOf xs₀))
     unfolding mapOf

@@ -14,7 +14,7 @@ use Rattle.extents_meaning.proofs.Longest.{Fine, range-in, range-before, range-
 use Rattle.extents_meaning.proofs.Passes.{over-before}
 use Rattle.extents_pair.specs.declared.share.RangeWrite.{RangeWrite}
 use Rattle.extents_pair.specs.RangeWrites.{rangeWriteOf, clamped, rangeWrite, rangeWrites, downs, taken}
-use Rattle.extents_pair.proofs.Sweeps.{over-at, over-past, over-none, Good, good-over, Rises, Drawn, downs-before, downs-overwritten, overwritten-self, overwritten-downs, overwritten-one}
+use Rattle.extents_pair.proofs.Sweeps.{over-at, over-past, over-none, Good, good-over, Rises, Overwritten, downs-before, downs-overwritten, overwritten-self, overwritten-downs, overwritten-one}
 
 -- ---- A published byte
 
@@ -22,7 +22,7 @@ use Rattle.extents_pair.proofs.Sweeps.{over-at, over-past, over-none, G
 take-one : (v f : Bytes) (b : ℕ) → unpublished (v b) ≡ true → published v f b ≡ cleared (v b)
 take-one v f b e = rw e
 
--- and nothing else
+-- Publishing takes no other byte.
 take-none : (v f : Bytes) (b : ℕ) → unpublished (v b) ≡ false → published v f b ≡ f b
 take-none v f b e = rw e
 
@@ -35,7 +35,7 @@ pub clear-fine : (c : ℕ) → Fine c → Fine (cleared c)
 clear-fine c (inl e) = inl (omega arith)
 clear-fine c (inr h) = inr (omega arith)
 
--- so good bytes make good ones
+-- Publishing good bytes on good bytes makes good ones.
 published-good : (v f : Bytes) → Good v → Good f → Good (published v f)
 published-good v f g k = record { fine = λ b. go b (unpublished (v b)); ends = λ b l. take-zero v f b (g .ends b l) ∙ k .ends b l }
   where
@@ -55,7 +55,7 @@ taken-before : (lo hi : ℕ) (v f : Bytes) (b : ℕ) → b < lo → taken lo hi 
 unfolding taken
 taken-before lo hi v f b h = rw (range-before lo (hi - lo) b h)
 
--- or behind it
+-- A byte behind the range keeps its cell.
 taken-behind : (lo hi : ℕ) (v f : Bytes) (b : ℕ) → lo ≤ b → hi ≤ b → taken lo hi v f b ≡ f b
 unfolding taken
 taken-behind lo hi v f b h k = rw (range-behind lo (hi - lo) b (omega arith))
@@ -73,7 +73,7 @@ taken-same : (lo hi : ℕ) (v f g : Bytes) → ((b : ℕ) → f b ≡ g b) → (
 unfolding taken
 taken-same lo hi v f g h b = λ i. cond (inRange lo (hi - lo) b) (cond (unpublished (v b)) (cleared (v b)) (h b i)) (h b i)
 
--- and good ones good
+-- Taking good bytes into good ones makes good ones.
 pub taken-good : (lo hi : ℕ) (v f : Bytes) → Good v → Good f → Good (taken lo hi v f)
 unfolding taken
 taken-good lo hi v f g k =
@@ -115,7 +115,7 @@ part-end : (x : Bool) (s n : ℕ) → (s ≤ cond x (s + n) s) × (cond x (s + n
 part-end true s n = omega arith
 part-end false s n = omega arith
 
--- they rise
+-- The range writes of runs rise.
 range-writes-rise : (lo hi : ℕ) (rs : List Run) (p e c : ℕ) → lo ≤ hi → hi ≤ OFFSET-MAX → p ≤ clamped lo hi e → Rising OFFSET-MAX e c rs →
     Rises p (rangeWrites lo hi rs)
 unfolding rangeWrites rangeWrite
@@ -130,9 +130,9 @@ range-writes-rise lo hi (r ∷ rs) p e c h k q t =
       range-writes-rise lo hi rs (rangeWrite lo hi r .to) end (r .cell) h k (omega arith) (t .1),
     )
 
--- they overwrites the published bytes
+-- The range writes overwrite the published bytes.
 range-writes-overwritten : (lo hi : ℕ) (rs : List Run) (p e c : ℕ) (f g : Bytes) → lo ≤ p → p ≤ clamped lo hi e → Rising OFFSET-MAX e c rs →
-    ((b : ℕ) → p ≤ b → b < hi → g b ≡ published (cellAt rs) f b) → ((b : ℕ) → p ≤ b → hi ≤ b → g b ≡ f b) → Drawn p (rangeWrites lo hi rs) f g
+    ((b : ℕ) → p ≤ b → b < hi → g b ≡ published (cellAt rs) f b) → ((b : ℕ) → p ≤ b → hi ≤ b → g b ≡ f b) → Overwritten p (rangeWrites lo hi rs) f g
 unfolding rangeWrites rangeWrite cellAt
 range-writes-overwritten lo hi [] p e c f g l q t h z = λ b k. go b k (decLt b hi)
   where
@@ -158,14 +158,14 @@ range-writes-overwritten lo hi (r ∷ rs) p e c f g l q t h z = go (unpublished 
     after : (b : ℕ) → clamped lo hi (r .start) ≤ b → p ≤ b
     after b k = omega (arith, q, rising, k)
 
-    -- behind it the later runs say all
+    -- Behind the first run the later runs say all.
     later : (b : ℕ) → end ≤ b → published all f b ≡ published (cellAt rs) f b
     later b k = ap (λ (v : ℕ). cond (unpublished v) (cleared v) (f b)) (cell-behind r rs b k)
 
     go : (x : Bool) → unpublished (r .cell) ≡ x →
         ((p e c : ℕ) (f g : Bytes) → lo ≤ p → p ≤ clamped lo hi e → Rising OFFSET-MAX e c rs →
-        ((b : ℕ) → p ≤ b → b < hi → g b ≡ published (cellAt rs) f b) → ((b : ℕ) → p ≤ b → hi ≤ b → g b ≡ f b) → Drawn p (rangeWrites lo hi rs) f g) →
-        Drawn p (rangeWriteOf (clamped lo hi (r .start)) (clamped lo hi (cond x end (r .start))) (cleared (r .cell)) ∷ rangeWrites lo hi rs) f g
+        ((b : ℕ) → p ≤ b → b < hi → g b ≡ published (cellAt rs) f b) → ((b : ℕ) → p ≤ b → hi ≤ b → g b ≡ f b) → Overwritten p (rangeWrites lo hi rs) f g) →
+        Overwritten p (rangeWriteOf (clamped lo hi (r .start)) (clamped lo hi (cond x end (r .start))) (cleared (r .cell)) ∷ rangeWrites lo hi rs) f g
     go true u ih = (
       gap,
       λ b k m.
@@ -191,18 +191,18 @@ range-writes-overwritten lo hi (r ∷ rs) p e c f g l q t h z = go (unpublished 
 -- ---- A pass of the ranges of lawful runs
 
 module _ (lo hi : ℕ) (rs : List Run) (w : Lawful rs) where
-  -- they rise from the first byte on
+  -- The range writes of a pass rise from the first byte on.
   pub pass-rises : lo ≤ hi → hi ≤ OFFSET-MAX → Rises lo (rangeWrites lo hi rs)
   pass-rises h k = range-writes-rise lo hi rs lo 0 0 h k (omega arith) (w .in-order)
 
-  -- they overwrites what is taken
-  pub taken-overwritten : (f : Bytes) → Drawn lo (rangeWrites lo hi rs) f (taken lo hi (cellAt rs) f)
+  -- The range writes of a pass overwrite what is taken.
+  pub taken-overwritten : (f : Bytes) → Overwritten lo (rangeWrites lo hi rs) f (taken lo hi (cellAt rs) f)
   taken-overwritten f =
       range-writes-overwritten lo hi rs lo 0 0 f (taken lo hi (cellAt rs) f) (omega arith) (omega arith) (w .in-order) (taken-in lo hi (cellAt rs) f)
       (taken-behind lo hi (cellAt rs) f)
 
   -- after the pass down of written bytes these are taken
-  pub taken-back : lo ≤ hi → hi ≤ OFFSET-MAX → (f g h : Bytes) → Drawn lo (rangeWrites lo hi rs) f g → ((b : ℕ) → h b ≡ downs (rangeWrites lo hi rs) g b) →
+  pub taken-back : lo ≤ hi → hi ≤ OFFSET-MAX → (f g h : Bytes) → Overwritten lo (rangeWrites lo hi rs) f g → ((b : ℕ) → h b ≡ downs (rangeWrites lo hi rs) g b) →
       (b : ℕ) → taken lo hi (cellAt rs) h b ≡ g b
   taken-back i k f g h d e b = taken-same lo hi (cellAt rs) h (downs us g) e b ∙ go (decLt b lo)
     where
@@ -225,11 +225,11 @@ goal rs f start end c = overwrite start (end - start) c (published (cellAt rs) f
 abbrev pub lefts : List Run → ℕ → List RangeWrite
 lefts rs start = rangeWrites 0 start rs
 
--- those on its right
+-- The range writes on the right of the range.
 abbrev pub rights : List Run → ℕ → List RangeWrite
 rights rs end = rangeWrites end OFFSET-MAX rs
 
--- and the range with these
+-- The range, and the range writes on its right.
 abbrev pub others : List Run → ℕ → ℕ → ℕ → List RangeWrite
 others rs start end c = rangeWriteOf start end c ∷ rights rs end
 
@@ -254,27 +254,27 @@ module _ (rs : List Run) (w : Lawful rs) (f : Bytes) (start end c : ℕ) (h : st
   pub rights-rise : Rises end (rights rs end)
   rights-rise = pass-rises end OFFSET-MAX rs w m (omega arith)
 
-  -- so do the range and those
+  -- The range and the range writes on its right rise.
   pub others-rise : Rises start us
   others-rise = (omega arith, h, m, rights-rise)
 
-  -- and those on the left
+  -- The range writes on the left rise.
   pub lefts-rise : Rises 0 (lefts rs start)
   lefts-rise = pass-rises 0 start rs w (omega arith) (omega arith)
 
-  -- those on the right overwrites the bytes at the end from there on
-  pub rights-overwritten : Drawn end (rights rs end) f new
+  -- The range writes on the right overwrite the bytes at the end from there on.
+  pub rights-overwritten : Overwritten end (rights rs end) f new
   rights-overwritten =
       range-writes-overwritten end OFFSET-MAX rs end 0 0 f new (omega arith) (omega arith) (w .in-order)
       (λ b l k. over-past start end c (published (cellAt rs) f) b (omega arith) l)
       (λ b l k. over-past start end c (published (cellAt rs) f) b (omega arith) l ∙ take-zero (cellAt rs) f b (view-ends b k))
 
   -- the range and those from the range on
-  others-overwritten : Drawn start us f new
+  others-overwritten : Overwritten start us f new
   others-overwritten = (λ b l k. absurd (omega arith), over-at start end c (published (cellAt rs) f), rights-overwritten)
 
-  -- and those on the left all, where the others are passed down
-  pub lefts-overwritten : Drawn 0 (lefts rs start) (downs us f) (downs us new)
+  -- The range writes on the left overwrite all, where the others are passed down.
+  pub lefts-overwritten : Overwritten 0 (lefts rs start) (downs us f) (downs us new)
   lefts-overwritten =
       range-writes-overwritten 0 start rs 0 0 0 (downs us f) (downs us new) (omega arith) (omega arith) (w .in-order)
       (λ b l k.

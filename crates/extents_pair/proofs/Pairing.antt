@@ -48,7 +48,7 @@ module _ (space k n : ℕ) where
 
 -- ---- Two maps
 
--- what is known of them
+-- Two maps stand inside a slice, and both are lawful.
 pub record Told (space view below : ℕ) (xs : List ℕ) : Type 0 where
   pub view-in : (view + 1) * (4 * space) ≤ length xs
   pub below-in : (below + 1) * (4 * space) ≤ length xs
@@ -110,7 +110,7 @@ module _ (space k : ℕ) (xs : List ℕ) where
   abbrev pub lentMap : List ℕ
   lentMap = take (k * (4 * space) + 4 * space - k * (4 * space)) (drop (k * (4 * space)) xs)
 
-  -- it is the map
+  -- The lent map is map k.
   pub map-lent : lentMap ≡ mapAt space k xs
   map-lent = lent (k * (4 * space)) (4 * space) xs
 
@@ -122,7 +122,7 @@ module _ (space k : ℕ) (xs : List ℕ) where
     pub map-space : spaceIn (mapAt space k xs) ≡ space
     map-space = omega (arith, map-length)
 
-    -- what its bytes write
+    -- The bytes of a lawful map write that map.
     pub map-whole : lawful (mapAt space k xs) ≡ true → mapFor space (bytesOf (mapAt space k xs)) ≡ mapAt space k xs
     map-whole law =
         let m = lawful-map (mapAt space k xs) law in
@@ -203,7 +203,7 @@ module _ (space j k : ℕ) (xs : List ℕ) (j-fit : (j + 1) * (4 * space) ≤ le
   at-map t i h = getD-take (4 * space) (drop (t * (4 * space)) xs) i 0 h ∙ getD-drop (t * (4 * space)) xs i 0
 
   module _ (j-law : lawful (mapAt space j xs) ≡ true) (k-law : lawful (mapAt space k xs) ≡ true) where
-    -- as far as runs stand in one of two lawful maps
+    -- Copying as far as runs stand in one of two lawful maps copies the whole map.
     pub copied-end : {a b n : ℕ} → a ≡ length (runs (lentMap space j xs)) → b ≡ length (runs (lentMap space k xs)) → n ≡ max a b →
         (length (runs (mapAt space j xs)) * 4 ≤ n * 4) × (length (runs (mapAt space k xs)) * 4 ≤ n * 4) × (n * 4 ≤ 4 * space)
     copied-end ea eb en =

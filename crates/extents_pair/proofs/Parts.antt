@@ -14,10 +14,10 @@ use borrow.Rule.Slice.PartMut.{putMid}
 use Rattle.rows.specs.Limits.{OFFSET-MAX}
 use Rattle.extents_meaning.specs.Cells.{Bytes, overwrite}
 use Rattle.extents_meaning.specs.Runs.{Run, cellAt, runsOf, Lawful}
-use Rattle.extents_meaning.specs.Maps.{mapOf, mapFor, spaceIn, runs, bytesOf, lawful}
+use Rattle.extents_meaning.specs.Maps.{mapOf, mapFor, spaceIn, runs, bytesOf, lawful, partAt, withPart}
 use Rattle.extents_meaning.proofs.Longest.{mean-behind, runs-mean, runs-same, runs-lawful, runs-back, lawful-fine}
 use Rattle.extents_meaning.proofs.Trips.{length-map, map-back, map-lawful, lawful-map}
-use Rattle.extents_pair.specs.RangeWrites.{rangeWriteOf, filled, downs, partAt, withPart, withBytes, Two}
+use Rattle.extents_pair.specs.RangeWrites.{rangeWriteOf, filled, downs, withBytes, MapsApart}
 use Rattle.extents_pair.proofs.Sweeps.{over-none, Fits, downs-fits}
 
 -- ---- A part lent and home again
@@ -26,7 +26,7 @@ use Rattle.extents_pair.proofs.Sweeps.{over-none, Fits, downs-fits}
 pub lent : (at size : ℕ) (xs : List ℕ) → take (at + size - at) (drop at xs) ≡ partAt at size xs
 lent at size xs = let e : at + size - at ≡ size = omega arith in ap (λ (n : ℕ). take n (drop at xs)) e
 
--- and comes back changed
+-- A lent part comes back changed.
 pub home : (at size : ℕ) (xs m : List ℕ) → putMid at (at + size - at) xs m ≡ withPart at size m xs
 home at size xs m =
     let e : at + (at + size - at) ≡ at + size = omega arith in
@@ -40,7 +40,7 @@ module _ (at size : ℕ) (xs : List ℕ) (h : at + size ≤ length xs) where
   pub part-length : length (partAt at size xs) ≡ size
   part-length = length-take-le size (drop at xs) (omega (arith, length-drop at xs))
 
-  -- and of what lies before it
+  -- The length of what lies before the part.
   before-length : length (take at xs) ≡ at
   before-length = length-take-le at xs (omega arith)
 
@@ -53,16 +53,16 @@ module _ (at size : ℕ) (xs : List ℕ) (h : at + size ≤ length xs) where
       ∙ take-append-drop at xs
 
   module _ (m : List ℕ) (l : length m ≡ size) where
-    -- and of both
+    -- The length of what lies before the part and of the part.
     both-length : length (take at xs ++ m) ≡ at + size
     both-length = omega (arith, length-append (take at xs) m, before-length)
 
-    -- what lies before the part is as it was
+    -- The numbers before the part stay.
     take-with : take at (withPart at size m xs) ≡ take at xs
     take-with =
         ap (take at) (append-assoc (take at xs) m (drop (at + size) xs)) ∙ take-at (take at xs) (m ++ drop (at + size) xs) at before-length
 
-    -- and what lies behind it
+    -- What lies behind the part stays.
     drop-with : drop (at + size) (withPart at size m xs) ≡ drop (at + size) xs
     drop-with = drop-at (take at xs ++ m) (drop (at + size) xs) (at + size) both-length
 
@@ -103,7 +103,7 @@ module _ (at size : ℕ) (xs : List ℕ) (h : at + size ≤ length xs) where
 
 -- ---- Bytes of maps
 
--- those of a lawful map are good and fit
+-- The bytes of a lawful map are good and fit.
 pub bytes-fit : (xs : List ℕ) → lawful xs ≡ true → Fits (spaceIn xs) (bytesOf xs)
 bytes-fit xs e =
     let m = lawful-map xs e in
@@ -112,7 +112,7 @@ bytes-fit xs e =
       few = omega (arith, ap length (runs-back (runs xs) (m .lawful-runs)), m .fit);
     }
 
--- and make the map again
+-- The bytes of a lawful map make the map again.
 pub bytes-map : (xs : List ℕ) → lawful xs ≡ true → mapFor (spaceIn xs) (bytesOf xs) ≡ xs
 bytes-map xs e = let m = lawful-map xs e in ap (mapOf (spaceIn xs)) (runs-back (runs xs) (m .lawful-runs)) ∙ sym (m .whole)
 
@@ -125,7 +125,7 @@ module _ (space : ℕ) (f : Bytes) (k : Fits space f) where
   pub fits-lawful : lawful (mapFor space f) ≡ true
   fits-lawful = map-lawful space (runsOf f) fits-runs (k .few)
 
-  -- and has them
+  -- The map of bytes that fit has those bytes.
   pub fits-back : (b : ℕ) → bytesOf (mapFor space f) b ≡ f b
   fits-back b = ap (λ (rs : List Run). cellAt rs b) (map-back space (runsOf f) fits-runs (k .few)) ∙ go (decLt b OFFSET-MAX)
     where
@@ -139,16 +139,16 @@ map-same space f g h = ap (mapOf space) (runs-same f g (λ b _. h b))
 
 -- ---- Two maps in a slice
 
-module _ {size v w : ℕ} {xs : List ℕ} (t : Two size v w xs) where
+module _ {size v w : ℕ} {xs : List ℕ} (t : MapsApart size v w xs) where
   -- the published map fills its part
   two-length : length (partAt w size xs) ≡ size
   two-length = part-length w size xs (t .below-in)
 
-  -- which has four numbers for each run of its space
+  -- The part has four numbers for each run of its space.
   two-fours : 4 * (size / 4) ≡ size
   two-fours = omega (arith, lawful-map (partAt w size xs) (t .below) .fours-in, two-length)
 
-  -- so its space is a quarter of the part
+  -- The published map's space is a quarter of its part.
   two-space : spaceIn (partAt w size xs) ≡ size / 4
   two-space = ap (λ (n : ℕ). n / 4) two-length
 
@@ -164,7 +164,7 @@ holds-same {size} {w} {xs} {ys} {f} g a e k =
     record { fits = a; same = k .same ∙ ap (λ (m : List ℕ). withPart w size m xs) (map-same (size / 4) f g e) }
 
 -- a slice holds the bytes of its own map
-pub holds-start : {size v w : ℕ} {xs : List ℕ} → Two size v w xs → Holds size w xs (bytesOf (partAt w size xs)) xs
+pub holds-start : {size v w : ℕ} {xs : List ℕ} → MapsApart size v w xs → Holds size w xs (bytesOf (partAt w size xs)) xs
 holds-start {size} {v} {w} {xs} t =
     let m = partAt w size xs in
     record {
@@ -174,12 +174,12 @@ holds-start {size} {v} {w} {xs} t =
           ∙ ap (λ (l : List ℕ). withPart w size l xs) (sym (bytes-map m (t .below)) ∙ (λ i. mapFor (two-space t i) (bytesOf m)));
     }
 
-module _ {size v w : ℕ} {xs : List ℕ} (t : Two size v w xs) {f : Bytes} {ys : List ℕ} (k : Holds size w xs f ys) where
+module _ {size v w : ℕ} {xs : List ℕ} (t : MapsApart size v w xs) {f : Bytes} {ys : List ℕ} (k : Holds size w xs f ys) where
   -- the map of the bytes
   abbrev map : List ℕ
   map = mapFor (size / 4) f
 
-  -- it fills its part
+  -- The map of the bytes fills its part.
   map-length : length map ≡ size
   map-length = length-map (size / 4) (runsOf f) (k .fits .few) ∙ two-fours t
 
@@ -195,12 +195,12 @@ module _ {size v w : ℕ} {xs : List ℕ} (t : Two size v w xs) {f : Bytes} {ys 
   holds-below : partAt w size ys ≡ map
   holds-below = ap (partAt w size) (k .same) ∙ part-with w size xs (t .below-in) map map-length
 
-  -- it has them
+  -- The map in the slice has the bytes.
   pub holds-bytes : (b : ℕ) → bytesOf (partAt w size ys) b ≡ f b
   holds-bytes b = ap (λ (m : List ℕ). bytesOf m b) holds-below ∙ fits-back (size / 4) f (k .fits) b
 
   -- both maps are lawful still
-  pub holds-two : Two size v w ys
+  pub holds-two : MapsApart size v w ys
   holds-two =
       record {
         view-in = omega (arith, t .view-in, holds-length);
@@ -210,7 +210,7 @@ module _ {size v w : ℕ} {xs : List ℕ} (t : Two size v w xs) {f : Bytes} {ys 
         below = ap lawful holds-below ∙ fits-lawful (size / 4) f (k .fits);
       }
 
-  -- then the map of other bytes takes its place
+  -- The map of other bytes takes the place of the map.
   pub holds-next : {zs : List ℕ} (g h : Bytes) → Fits (size / 4) g → ((b : ℕ) → h b ≡ g b) → zs ≡ withBytes size w h ys → Holds size w xs g zs
   holds-next g h a e q =
       record {
@@ -225,7 +225,7 @@ module _ {size v w : ℕ} {xs : List ℕ} (t : Two size v w xs) {f : Bytes} {ys 
   pub lent-view : take (v + size - v) (drop v ys) ≡ partAt v size xs
   lent-view = lent v size ys ∙ holds-view
 
-  -- so it is lawful
+  -- The lent view is lawful.
   pub lent-lawful : lawful (take (v + size - v) (drop v ys)) ≡ true
   lent-lawful = ap lawful lent-view ∙ t .view
 
@@ -233,15 +233,15 @@ module _ {size v w : ℕ} {xs : List ℕ} (t : Two size v w xs) {f : Bytes} {ys 
   pub lent-below : lawful (take (w + size - w) (drop w ys)) ≡ true
   lent-below = ap lawful (lent w size ys) ∙ holds-two .below
 
-  -- it has its space
+  -- The lent published map has its space.
   pub lent-space : spaceIn (take (w + size - w) (drop w ys)) ≡ size / 4
   lent-space = ap spaceIn (lent w size ys) ∙ two-space holds-two
 
-  -- and the bytes
+  -- The lent published map has the bytes.
   pub lent-bytes : (b : ℕ) → bytesOf (take (w + size - w) (drop w ys)) b ≡ f b
   lent-bytes b = ap (λ (l : List ℕ). bytesOf l b) (lent w size ys) ∙ holds-bytes b
 
-  -- it comes back with other bytes
+  -- The lent published map comes back with other bytes.
   pub lent-next : (g h : Bytes) → Fits (size / 4) g → ((b : ℕ) → h b ≡ g b) → {last : List ℕ} →
       last ≡ mapFor (spaceIn (take (w + size - w) (drop w ys))) h → Holds size w xs g (putMid w (w + size - w) ys last)
   lent-next g h a e {last} q =
@@ -266,7 +266,7 @@ pub laid-fit : (xs : List ℕ) (f : Bytes) {r : Bool} {ys : List ℕ} → length
     r ≡ leb (length (runsOf f)) (spaceIn xs) → ys ≡ cond r (mapFor (spaceIn xs) f) xs → ys ≡ mapFor (spaceIn xs) f
 laid-fit xs f {r} {ys} h a b = b ∙ ap (λ (x : Bool). cond x (mapFor (spaceIn xs) f) xs) (a ∙ le-leb (length (runsOf f)) (spaceIn xs) h)
 
--- and so is the cell behind a range
+-- Giving a range the cell behind it always fits.
 pub laid-filled : (xs : List ℕ) → lawful xs ≡ true → (from to : ℕ) → from ≤ to → to ≤ OFFSET-MAX →
     {c : ℕ} → c ≡ bytesOf xs to → {r : Bool} {ys : List ℕ} → r ≡ leb (length (runsOf (overwrite from (to - from) c (bytesOf xs)))) (spaceIn xs) →
     ys ≡ cond r (mapFor (spaceIn xs) (overwrite from (to - from) c (bytesOf xs))) xs → ys ≡ mapFor (spaceIn xs) (filled from to (bytesOf xs))

@@ -10,12 +10,12 @@ use borrow.Rule.Slice.PartMut.{putMid}
 use Rattle.rows.specs.Limits.{OFFSET-MAX}
 use Rattle.extents_meaning.specs.Cells.{Bytes, unpublished, overwrite}
 use Rattle.extents_meaning.specs.Runs.{Run, runOf, cellAt, runsOf, Lawful}
-use Rattle.extents_meaning.specs.Maps.{mapFor, spaceIn, runs, bytesOf, lawful}
+use Rattle.extents_meaning.specs.Maps.{mapFor, spaceIn, runs, bytesOf, lawful, partAt, withPart}
 use Rattle.extents_meaning.proofs.Longest.{Fine, runs-same}
 use Rattle.extents_meaning.proofs.Trips.{lawful-map}
 use Rattle.extents_pair.specs.declared.share.RangeWrite.{RangeWrite}
-use Rattle.extents_pair.specs.RangeWrites.{rangeWrite, rangeWrites, filled, downs, partAt, withPart, withBytes, Two, passedDown, passedUp, Ready}
-use Rattle.extents_pair.proofs.Sweeps.{over-none, over-same, fill-same, Fits, Rises, Drawn, downs-fits, up-step, rises-later, overwritten-later}
+use Rattle.extents_pair.specs.RangeWrites.{rangeWrite, rangeWrites, filled, downs, withBytes, MapsApart, passedDown, passedUp, PassUpReady}
+use Rattle.extents_pair.proofs.Sweeps.{over-none, over-same, fill-same, Fits, Rises, Overwritten, downs-fits, up-step, rises-later, overwritten-later}
 use Rattle.extents_pair.proofs.Overwriting.{clear-fine, taken-none, range-writes-later, range-write-empty, downs-none, pass-rises, taken-good, taken-overwritten}
 use Rattle.extents_pair.proofs.Parts.{bytes-fit, map-same, Holds, holds-same, holds-start, holds-next, lent-view, lent-space, lent-bytes, lent-next}
 use Rattle.extents_pair.proofs.Taking.{runAmong, fine-at, there}
@@ -63,7 +63,7 @@ module _ (lo hi : ℕ) (rs : List Run) where
     state-fits g space k i = let r = state-rises i in downs-fits (rangeWrites lo hi (drop i rs)) (r .0) g space (r .1) k
 
     -- the pass up goes on with run i
-    state-up : (f g : Bytes) → Drawn lo (rangeWrites lo hi rs) f g → (i : ℕ) → i < length rs → (x : ℕ) →
+    state-up : (f g : Bytes) → Overwritten lo (rangeWrites lo hi rs) f g → (i : ℕ) → i < length rs → (x : ℕ) →
         overwrite (rangeWrite lo hi (runAmong rs i) .from) (rangeWrite lo hi (runAmong rs i) .to - rangeWrite lo hi (runAmong rs i) .from)
         (rangeWrite lo hi (runAmong rs i) .cell) (state lo hi rs g i) x
         ≡ state lo hi rs g (suc i) x
@@ -74,13 +74,13 @@ module _ (lo hi : ℕ) (rs : List Run) where
         let r = state-rises i in
         let o = overwritten-later i (rangeWrites lo hi rs) lo f g d in
         let p : Rises (r .0) (s ∷ us) = subst (λ (us : List RangeWrite). Rises (r .0) us) e (r .1) in
-        let q : Drawn (o .0) (s ∷ us) f g = subst (λ (us : List RangeWrite). Drawn (o .0) us f g) (sym (range-writes-later lo hi i rs) ∙ e) (o .1) in
+        let q : Overwritten (o .0) (s ∷ us) f g = subst (λ (us : List RangeWrite). Overwritten (o .0) us f g) (sym (range-writes-later lo hi i rs) ∙ e) (o .1) in
         ap (λ (us : List RangeWrite). overwrite (s .from) (s .to - s .from) (s .cell) (downs us g) x) e ∙ up-step s us (r .0) g p (q .1) x
 
 -- ---- The slice after a part of a pass
 
 -- a run of the view can be read
-pub lent-run : {size v w : ℕ} {xs : List ℕ} → Two size v w xs → {f : Bytes} {ys : List ℕ} → Holds size w xs f ys → (i : ℕ) →
+pub lent-run : {size v w : ℕ} {xs : List ℕ} → MapsApart size v w xs → {f : Bytes} {ys : List ℕ} → Holds size w xs f ys → (i : ℕ) →
     i < length (runs (partAt v size xs)) →
     (lawful (take (v + size - v) (drop v ys)) ≡ true) × (i < length (runs (take (v + size - v) (drop v ys))))
     × (i * 4 + 4 ≤ length (take (v + size - v) (drop v ys)))
@@ -88,12 +88,12 @@ lent-run {size} {v} {w} {xs} t k i h =
     subst (λ (l : List ℕ). (lawful l ≡ true) × (i < length (runs l)) × (i * 4 + 4 ≤ length l)) (sym (lent-view t k))
     (t .view, h, there (partAt v size xs) i (t .view) h .room)
 
-module _ (size v w lo hi : ℕ) (xs : List ℕ) (t : Two size v w xs) (a : lo ≤ hi) (b : hi ≤ OFFSET-MAX) where
+module _ (size v w lo hi : ℕ) (xs : List ℕ) (t : MapsApart size v w xs) (a : lo ≤ hi) (b : hi ≤ OFFSET-MAX) where
   -- the view's runs
   abbrev rs : List Run
   rs = runs (partAt v size xs)
 
-  -- they are lawful
+  -- The view's runs are lawful.
   law : Lawful rs
   law = lawful-map (partAt v size xs) (t .view) .lawful-runs
 
@@ -117,7 +117,7 @@ module _ (size v w lo hi : ℕ) (xs : List ℕ) (t : Two size v w xs) (a : lo �
   pub down-start : (n : ℕ) → length rs ≤ n → Holds size w xs (state lo hi rs old n) xs
   down-start n h = subst (λ (f : Bytes). Holds size w xs f xs) (sym (state-end lo hi rs old n h)) (holds-start t)
 
-  -- and goes on with the run before
+  -- The pass down goes on with the run before.
   pub down-next : (i : ℕ) {ys : List ℕ} → Holds size w xs (state lo hi rs old i) ys → 0 < i → i ≤ length rs → {s : RangeWrite} {last : List ℕ} →
       s ≡ rangeWrite lo hi (runAmong (runs (take (v + size - v) (drop v ys))) (i - 1)) →
       last ≡ mapFor (spaceIn (take (w + size - w) (drop w ys))) (filled (s .from) (s .to) (bytesOf (take (w + size - w) (drop w ys)))) →
@@ -134,7 +134,7 @@ module _ (size v w lo hi : ℕ) (xs : List ℕ) (t : Two size v w xs) (a : lo �
       ∙ (λ o. sym (state-down lo hi rs old j (omega arith)) o x))
       q
 
-  -- which it skips where that is published
+  -- The pass down skips a published run.
   pub down-skip : (i : ℕ) {ys : List ℕ} → Holds size w xs (state lo hi rs old i) ys → 0 < i → i ≤ length rs → {r : Bool} →
       r ≡ unpublished (runAmong (runs (take (v + size - v) (drop v ys))) (i - 1) .cell) → r ≡ false →
       Holds size w xs (state lo hi rs old (i - 1)) ys
@@ -164,7 +164,7 @@ module _ (size v w lo hi : ℕ) (xs : List ℕ) (t : Two size v w xs) (a : lo �
       holds-start t .same
       ∙ ap (λ (m : List ℕ). withPart w size m xs) (map-same (size / 4) old new (λ x. sym (taken-none lo hi (cellAt rs) old h x)))
 
-  module _ (y : Ready size v w lo hi xs) where
+  module _ (y : PassUpReady size v w lo hi xs) where
     -- the bytes fit on the way
     up-fits : (i : ℕ) → Fits (size / 4) (state lo hi rs new i)
     up-fits =
@@ -175,7 +175,7 @@ module _ (size v w lo hi : ℕ) (xs : List ℕ) (t : Two size v w xs) (a : lo �
     pub up-start : Holds size w xs (state lo hi rs new 0) xs
     up-start = let u = holds-start t in holds-next t u (state lo hi rs new 0) old (up-fits 0) (y .level) (u .same)
 
-    -- it skips a published run
+    -- The pass up skips a published run.
     pub up-skip : (i : ℕ) {ys : List ℕ} → Holds size w xs (state lo hi rs new i) ys → i < length rs → {r : Bool} →
         r ≡ unpublished (runAmong (runs (take (v + size - v) (drop v ys))) i .cell) → r ≡ false → Holds size w xs (state lo hi rs new (i + 1)) ys
     up-skip i k m q z =
@@ -190,7 +190,7 @@ module _ (size v w lo hi : ℕ) (xs : List ℕ) (t : Two size v w xs) (a : lo �
       abbrev written : Bytes
       written = overwrite (s .from) (s .to - s .from) (s .cell) (bytesOf (take (w + size - w) (drop w ys)))
 
-      -- they are those of the next step
+      -- The bytes written are those of the next step.
       up-bytes : (x : ℕ) → written x ≡ state lo hi rs new (i + 1) x
       up-bytes x =
           let z = range-write-there k i p in

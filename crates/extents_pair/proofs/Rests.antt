@@ -23,7 +23,7 @@ rising-earlier top end c x (r ∷ rs) h g =
     let n = g .0 in
     (record { rising = omega arith; filled = n .filled; inside = n .inside; written = n .written; longest = λ a b. omega arith }, g .1)
 
--- and behind a run of a cell that their first byte has not
+-- Runs rise behind a run of a cell that their first byte has not.
 rising-behind : (top end c : ℕ) (rs : List Run) → (cellAt rs end ≡ c → ⊥) → Rising top end 0 rs → Rising top end c rs
 rising-behind top end c [] h g = tt
 rising-behind top end c (r ∷ rs) h g =
@@ -51,21 +51,21 @@ longer n s f = go (eqb (f s) 0)
     go false = joined-longer s (f s) (runsFrom n (suc s) f)
 
 module _ (top : ℕ) (f : Bytes) where
-  -- they rise
+  -- The runs from a byte on rise.
   pub rest-rising : (x : ℕ) → x ≤ top → Rising top x 0 (rest top f x)
   rest-rising x h = let e : x + (top - x) ≡ top = omega arith in subst (λ (t : ℕ). Rising t x 0 (rest top f x)) e (rising-from (top - x) x f)
 
-  -- they mean the bytes
+  -- The runs from a byte on mean the bytes.
   pub rest-mean : (x b : ℕ) → x ≤ b → b < top → cellAt (rest top f x) b ≡ f b
   rest-mean x b h k = mean-in (top - x) x f b h (omega arith)
 
-  -- what rises and means the bytes is they
+  -- Runs that rise and mean the bytes are the runs from that byte on.
   pub rest-unique : (x : ℕ) (rs : List Run) → x ≤ top → Rising top x 0 rs → ((b : ℕ) → x ≤ b → b < top → cellAt rs b ≡ f b) → rest top f x ≡ rs
   rest-unique x rs h g m =
       let e : top ≡ x + (top - x) = omega arith in
       sym (unique-from (top - x) x f rs (subst (λ (t : ℕ). Rising t x 0 rs) e g) (λ b l k. m b l (omega arith)))
 
-  -- none is left at the top
+  -- No run is left at the top.
   pub rest-none : (x : ℕ) → top ≤ x → rest top f x ≡ []
   unfolding runsFrom
   rest-none x h = let e : top - x ≡ 0 = omega arith in ap (λ (n : ℕ). runsFrom n x f) e
@@ -115,6 +115,6 @@ module _ (top : ℕ) (f : Bytes) where
       let r : top - x ≡ suc (top - suc x) = omega arith in
       rw (e, r) (omega (arith, rest-later d (suc x) (omega arith), longer (top - suc x) x f))
 
-  -- so from any later byte
+  -- From a later byte on there are no more runs.
   pub rest-shorter : (x y : ℕ) → x ≤ y → y ≤ top → length (rest top f y) ≤ length (rest top f x)
   rest-shorter x y h k = let e : x + (y - x) ≡ y = omega arith in rw e at (rest-later (y - x) x (omega arith))

@@ -16,7 +16,8 @@ use Rattle.extents_meaning.specs.Points.{starts}
 use Rattle.extents_meaning.proofs.Longest.{runs-back}
 use Rattle.extents_meaning.proofs.Trips.{lawful-map}
 use Rattle.extents_meaning.proofs.Points.{begins, begins-same, begins-one, begins-most, count-starts}
-use Rattle.extents_map.specs.Mixes.{REFRESH, READ-MAP, READ-FRESH, mixed, mix}
+use Rattle.extents_map.specs.Mixes.{mixed, mix}
+use Rattle.extents_map.specs.declared.scan.Mode.the-variants.{Refresh, ReadMap, ReadFresh}
 
 -- the pieces of the same range, said by its end
 pub pieces-there : (f : Bytes) (start n : ℕ) → piecesOf f start (start + n - start) ≡ piecesOf f start n
@@ -66,7 +67,7 @@ module _ (f : Bytes) where
   unfolding runsOf piecesOf
   pieces-few s n h = omega (arith, count-starts n s named, count-starts OFFSET-MAX 0 f, named-part s OFFSET-MAX n 0 0 s (omega arith) h)
 
-  -- so they fit a room for as many
+  -- A room for two pieces of each run, and one more, is enough.
   pub room-enough : (s n room : ℕ) {k : ℕ} → s + n ≤ OFFSET-MAX → length (runsOf f) ≤ k → 2 * k + 1 ≤ room →
       false ≡ ltb room (length (piecesOf f s n))
   room-enough s n room h m l = sym (le-ltb room (length (piecesOf f s n)) (omega (arith, pieces-few s n h)))
@@ -81,18 +82,18 @@ module _ (s n : ℕ) where
       let m = ap (λ (l : List Run). length l) (runs-back (runs xs) (lawful-map xs law .lawful-runs)) in
       room-enough (bytesOf xs) s n room h (omega (arith, e, m)) l
 
-  -- and for those of a view after a refresh, whose runs the mix has
-  pub fresh-enough : (v w : Bytes) (room : ℕ) {k : ℕ} → s + n ≤ OFFSET-MAX → length (runsOf (mix REFRESH 0 0 0 v w)) ≤ k → 2 * k + 1 ≤ room →
+  -- There is room for the pieces of a view after a refresh, whose runs the mix has.
+  pub fresh-enough : (v w : Bytes) (room : ℕ) {k : ℕ} → s + n ≤ OFFSET-MAX → length (runsOf (mix Refresh 0 0 0 v w)) ≤ k → 2 * k + 1 ≤ room →
       false ≡ ltb room (length (piecesOf (refreshed v w) s n))
   unfolding mixed
   fresh-enough v w room = room-enough (refreshed v w) s n room
 
   -- the walk counts the pieces
-  pub map-counted : (v w : Bytes) {r : ℕ} → r ≡ length (runsFrom n s (mix READ-MAP 0 0 0 v w)) → r ≡ length (piecesOf v s n)
+  pub map-counted : (v w : Bytes) {r : ℕ} → r ≡ length (runsFrom n s (mix ReadMap 0 0 0 v w)) → r ≡ length (piecesOf v s n)
   unfolding mixed piecesOf
   map-counted v w e = e
 
-  pub fresh-counted : (v w : Bytes) {r : ℕ} → r ≡ length (runsFrom n s (mix READ-FRESH 0 0 0 v w)) → r ≡ length (piecesOf (refreshed v w) s n)
+  pub fresh-counted : (v w : Bytes) {r : ℕ} → r ≡ length (runsFrom n s (mix ReadFresh 0 0 0 v w)) → r ≡ length (piecesOf (refreshed v w) s n)
   unfolding mixed piecesOf
   fresh-counted v w e = e
 
@@ -102,10 +103,10 @@ module _ (f : Bytes) (s n size : ℕ) {r : Bool} (e : r ≡ ltb (size / 3) (leng
   there : length (piecesOf f s (s + n - s)) ≡ length (piecesOf f s n)
   there = ap (λ (l : List Run). length l) (pieces-there f s n)
 
-  -- they do not fit
+  -- The pieces do not fit the answer slice.
   pub slice-short : r ≡ true → size < 3 * length (piecesOf f s n)
   slice-short q = omega (arith, there, ltb-true (size / 3) (length (piecesOf f s (s + n - s))) (sym e ∙ q))
 
-  -- they do
+  -- The pieces fit the answer slice.
   pub slice-enough : r ≡ false → 3 * length (piecesOf f s n) ≤ size
   slice-enough q = omega (arith, there, ltb-false (size / 3) (length (piecesOf f s (s + n - s))) (sym e ∙ q))

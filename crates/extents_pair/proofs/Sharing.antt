@@ -14,29 +14,30 @@ use borrow.Rule.Slice.PartMut.{putMid}
 use Rattle.rows.specs.Limits.{ROWS, OFFSET-MAX}
 use Rattle.extents_meaning.specs.Cells.{Bytes, cellOf, overwrite, published}
 use Rattle.extents_meaning.specs.Runs.{Run, cellAt, runsOf, Lawful}
-use Rattle.extents_meaning.specs.Maps.{mapFor, spaceIn, runs, bytesOf, lawful, mapAt, withMap}
+use Rattle.extents_meaning.specs.Maps.{mapFor, spaceIn, runs, bytesOf, lawful, mapAt, withMap, partAt, withPart}
 use Rattle.extents_meaning.proofs.Longest.{Fine, runs-same}
 use Rattle.extents_meaning.proofs.Trips.{lawful-map}
 use Rattle.rows.proofs.Bools.{and-out}
 use Rattle.extents_pair.specs.declared.share.RangeWrite.{RangeWrite}
-use Rattle.extents_map.specs.Mixes.{PUBLISH, mixed, mix}
+use Rattle.extents_map.specs.Mixes.{mixed, mix}
+use Rattle.extents_map.specs.declared.scan.Mode.the-variants.{Publish}
 use Rattle.extents_meaning.specs.Pairs.{twoMaps, viewOf, belowOf}
 use Rattle.extents_pair.specs.Packing.{marked}
-use Rattle.extents_pair.specs.RangeWrites.{rangeWriteOf, rangeWrites, filled, downs, taken, partAt, withPart, Two, passedDown, passedUp, withBytes, Ready}
+use Rattle.extents_pair.specs.RangeWrites.{rangeWriteOf, rangeWrites, filled, downs, taken, MapsApart, passedDown, passedUp, withBytes, PassUpReady}
 use Rattle.extents_pair.proofs.Gathering.{published-none}
-use Rattle.extents_pair.proofs.Sweeps.{over-at, over-same, fill-same, Fits, Rises, Drawn, downs-fits, downs-overwritten, downs-same, up-step}
+use Rattle.extents_pair.proofs.Sweeps.{over-at, over-same, fill-same, Fits, Rises, Overwritten, downs-fits, downs-overwritten, downs-same, up-step}
 use Rattle.extents_pair.proofs.Overwriting.{taken-back, goal, lefts, rights, others, goal-good, rights-rise, others-rise, lefts-rise, rights-overwritten, lefts-overwritten}
 use Rattle.extents_pair.proofs.Laying.{all-fits}
 use Rattle.extents_pair.proofs.Parts.{lent, lent-below, Holds, holds-start, holds-same, holds-view, holds-bytes, holds-next, lent-space, lent-bytes, lent-next}
 
 -- ---- A pass down and a pass up, in a slice that holds some bytes
 
-module _ (size v w lo hi : ℕ) (xs : List ℕ) (t : Two size v w xs) (a : lo ≤ hi) (b : hi ≤ OFFSET-MAX) where
+module _ (size v w lo hi : ℕ) (xs : List ℕ) (t : MapsApart size v w xs) (a : lo ≤ hi) (b : hi ≤ OFFSET-MAX) where
   -- the view's runs
   abbrev rs : List Run
   rs = runs (partAt v size xs)
 
-  -- their ranges
+  -- The ranges that a pass writes.
   abbrev us : List RangeWrite
   us = rangeWrites lo hi rs
 
@@ -56,15 +57,15 @@ module _ (size v w lo hi : ℕ) (xs : List ℕ) (t : Two size v w xs) (a : lo �
         (λ x. (λ i. downs (rangeWrites lo hi (runs (holds-view t k i))) below x) ∙ downs-same us below f (holds-bytes t k) x) q
 
     -- up to bytes that the ranges overwrites
-    module _ (d g : Bytes) (e : Drawn lo us d g) (z : (x : ℕ) → f x ≡ downs us g x) (n : Fits (size / 4) g) where
+    module _ (d g : Bytes) (e : Overwritten lo us d g) (z : (x : ℕ) → f x ≡ downs us g x) (n : Fits (size / 4) g) where
       -- a pass up takes the bytes that the ranges overwrites
       up-goal : (x : ℕ) → passedUp size v w lo hi ys x ≡ g x
       up-goal x =
           (λ i. taken lo hi (bytesOf (holds-view t k i)) below x)
           ∙ taken-back lo hi rs law a b d g below e (λ y. holds-bytes t k y ∙ z y) x
 
-      -- it is ready
-      ready-up : Ready size v w lo hi ys
+      -- The pass up is ready.
+      ready-up : PassUpReady size v w lo hi ys
       ready-up =
           record {
             fit = omega (arith, n .few, ap length (runs-same (passedUp size v w lo hi ys) g (λ x _. up-goal x)));
@@ -73,15 +74,15 @@ module _ (size v w lo hi : ℕ) (xs : List ℕ) (t : Two size v w xs) (a : lo �
                 ∙ (λ i. downs (rangeWrites lo hi (runs (sym (holds-view t k) i))) (passedUp size v w lo hi ys) x);
           }
 
-      -- and leaves them
+      -- The pass up leaves the bytes g.
       go-up : {zs : List ℕ} → zs ≡ withBytes size w (passedUp size v w lo hi ys) ys → Holds size w xs g zs
       go-up q = holds-next t k g (passedUp size v w lo hi ys) n up-goal q
 
 -- ---- The six steps
 
--- what they rely on: two maps, a range, a fine cell, and a map at the end that fits
+-- The six steps rely on two maps, a range, a fine cell, and a map at the end that fits.
 pub record Shared (size v w start end c : ℕ) (xs : List ℕ) : Type 0 where
-  pub two : Two size v w xs
+  pub two : MapsApart size v w xs
   pub order : start ≤ end
   pub inside : end ≤ OFFSET-MAX
   pub fine : Fine c
@@ -100,7 +101,7 @@ module _ {size v w start end c : ℕ} {xs : List ℕ} (s : Shared size v w start
   abbrev left : List RangeWrite
   left = lefts all start
 
-  -- those on the right
+  -- The range writes on the right of the range.
   abbrev right : List RangeWrite
   right = rights all end
 
@@ -124,11 +125,11 @@ module _ {size v w start end c : ℕ} {xs : List ℕ} (s : Shared size v w start
   right-rises : Rises end right
   right-rises = rights-rise all all-law old start end c (s .order) (s .inside)
 
-  -- so do the range and those
+  -- The range and the range writes on its right rise.
   other-rises : Rises start other
   other-rises = others-rise all all-law old start end c (s .order) (s .inside)
 
-  -- and those on the left
+  -- The range writes on the left rise.
   left-rises : Rises 0 left
   left-rises = lefts-rise all all-law old start end c (s .order) (s .inside)
 
@@ -140,7 +141,7 @@ module _ {size v w start end c : ℕ} {xs : List ℕ} (s : Shared size v w start
   two-fits : Fits (size / 4) (downs other old)
   two-fits = downs-fits other start old (size / 4) other-rises (begin .fits)
 
-  -- so do those at the end
+  -- The bytes at the end fit.
   new-fits : Fits (size / 4) new
   new-fits = record { good = goal-good all all-law old start end c (s .order) (s .inside) (begin .fits .good) (s .fine); few = s .fit }
 
@@ -165,20 +166,20 @@ module _ {size v w start end c : ℕ} {xs : List ℕ} (s : Shared size v w start
       Holds size w xs all-out ys
   out-laid room q = record { fits = all-fits size v w xs (s .two) room; same = q }
 
-  -- then the range is all that is to be written
+  -- Where the unpublished runs are published, the range is all that is to be written.
   module _ {ys : List ℕ} (k : Holds size w xs all-out ys) where
     abbrev alone : Bytes
     alone = overwrite start (end - start) c (bytesOf (take (w + size - w) (drop w ys)))
 
-    -- its bytes are those at the end
+    -- The bytes with the range written are those at the end.
     alone-bytes : (b : ℕ) → alone b ≡ new b
     alone-bytes = over-same start end c (bytesOf (take (w + size - w) (drop w ys))) all-out (lent-bytes (s .two) k)
 
-    -- they fit
+    -- The bytes with the range written fit.
     pub alone-fit : length (runsOf alone) ≤ spaceIn (take (w + size - w) (drop w ys))
     alone-fit = omega (arith, new-fits .few, lent-space (s .two) k, ap length (runs-same alone new (λ b _. alone-bytes b)))
 
-    -- and are left
+    -- The slice holds the bytes at the end.
     pub alone-end : {last : List ℕ} → last ≡ mapFor (spaceIn (take (w + size - w) (drop w ys))) alone →
         Holds size w xs new (putMid w (w + size - w) ys last)
     alone-end q = lent-next (s .two) k new alone new-fits alone-bytes q
@@ -204,7 +205,7 @@ module _ {size v w start end c : ℕ} {xs : List ℕ} (s : Shared size v w start
       go-down size v w 0 start xs (s .two) (omega arith) left-end k (downs-fits left 0 (downs other old) (size / 4) left-rises two-fits) q
 
   -- the ranges on the left overwrites what the fourth step is to leave
-  left-overwritten : Drawn 0 left (downs other old) (downs other new)
+  left-overwritten : Overwritten 0 left (downs other old) (downs other new)
   left-overwritten = lefts-overwritten all all-law old start end c (s .order) (s .inside)
 
   -- the third step leaves the same as one from there
@@ -217,10 +218,10 @@ module _ {size v w start end c : ℕ} {xs : List ℕ} (s : Shared size v w start
 
   module _ {ys : List ℕ} (k : Holds size w xs (downs left (downs other old)) ys) where
     -- the fourth: up on the left, which is ready
-    pub ready-left : Ready size v w 0 start ys
+    pub ready-left : PassUpReady size v w 0 start ys
     ready-left = ready-up size v w 0 start xs (s .two) (omega arith) left-end k (downs other old) (downs other new) left-overwritten left-level left-fits
 
-    -- and leaves that
+    -- The pass up on the left leaves the bytes at the end, the range and the right passed down.
     pub up-left : {zs : List ℕ} → zs ≡ withBytes size w (passedUp size v w 0 start ys) ys → Holds size w xs (downs other new) zs
     up-left q = go-up size v w 0 start xs (s .two) (omega arith) left-end k (downs other old) (downs other new) left-overwritten left-level left-fits q
 
@@ -233,31 +234,31 @@ module _ {size v w start end c : ℕ} {xs : List ℕ} (s : Shared size v w start
     abbrev written : Bytes
     written = overwrite start (end - start) c (bytesOf (take (w + size - w) (drop w ys)))
 
-    -- its bytes
+    -- The bytes with the range written.
     range-bytes : (b : ℕ) → written b ≡ downs right new b
     range-bytes b =
         over-same start end c (bytesOf (take (w + size - w) (drop w ys))) (downs other new) (lent-bytes (s .two) k) b
         ∙ up-step (rangeWriteOf start end c) right start new other-rises (over-at start end c (published (cellAt all) old)) b
 
-    -- they fit
+    -- The bytes with the range written fit.
     pub range-fit : length (runsOf written) ≤ spaceIn (take (w + size - w) (drop w ys))
     range-fit = omega (arith, right-fits .few, lent-space (s .two) k, ap length (runs-same written (downs right new) (λ b _. range-bytes b)))
 
-    -- and it leaves them
+    -- Writing the range leaves the bytes at the end, the right passed down.
     pub up-range : {last : List ℕ} → last ≡ mapFor (spaceIn (take (w + size - w) (drop w ys))) written →
         Holds size w xs (downs right new) (putMid w (w + size - w) ys last)
     up-range q = lent-next (s .two) k (downs right new) written right-fits range-bytes q
 
   -- the ranges on the right overwrites the bytes at the end
-  right-overwritten : Drawn end right old new
+  right-overwritten : Overwritten end right old new
   right-overwritten = rights-overwritten all all-law old start end c (s .order) (s .inside)
 
   module _ {ys : List ℕ} (k : Holds size w xs (downs right new) ys) where
     -- the sixth: up on the right, which is ready
-    pub ready-right : Ready size v w end OFFSET-MAX ys
+    pub ready-right : PassUpReady size v w end OFFSET-MAX ys
     ready-right = ready-up size v w end OFFSET-MAX xs (s .two) (s .inside) (omega arith) k old new right-overwritten (λ b. refl) new-fits
 
-    -- and leaves the bytes at the end
+    -- The pass up on the right leaves the bytes at the end.
     pub up-right : {zs : List ℕ} → zs ≡ withBytes size w (passedUp size v w end OFFSET-MAX ys) ys → Holds size w xs new zs
     up-right q = go-up size v w end OFFSET-MAX xs (s .two) (s .inside) (omega arith) k old new right-overwritten (λ b. refl) new-fits q
 
@@ -284,7 +285,7 @@ map-part space k xs = let e : 4 * space ≡ space * 4 = omega arith in λ i. par
 
 -- two maps stand apart in the slice
 pub two-parts : (space view below : ℕ) (xs : List ℕ) → twoMaps space view below xs ≡ true →
-    Two (space * 4) (view * (space * 4)) (below * (space * 4)) xs
+    MapsApart (space * 4) (view * (space * 4)) (below * (space * 4)) xs
 two-parts space view below xs e =
     let e1 = and-out (not (eqb view below)) _ e in
     let e2 = and-out (leb ((view + 1) * (4 * space)) (length xs)) _ (e1 .1) in
@@ -309,9 +310,9 @@ module _ (space view below start end number : ℕ) (xs : List ℕ) where
 
   -- what the contract says
   abbrev to : Bytes
-  to = mix PUBLISH start (end - start) (cellOf number 0) (viewOf space view below xs) (belowOf space view below xs)
+  to = mix Publish start (end - start) (cellOf number 0) (viewOf space view below xs) (belowOf space view below xs)
 
-  -- they are the same
+  -- The steps publish what the contract says.
   mix-part : from ≡ to
   unfolding mixed
   mix-part =
@@ -326,7 +327,7 @@ module _ (space view below start end number : ℕ) (xs : List ℕ) where
       go (yes l) = inr (omega arith)
       go (no l) = inl (omega arith)
 
-  -- as many unpublished runs
+  -- The part has as many unpublished runs as the map.
   pub own-part : {k : ℕ} → k ≡ length (marked (runs (mapAt space view xs))) →
       k ≡ length (marked (runs (partAt (view * (space * 4)) (space * 4) xs)))
   own-part e = e ∙ ap (λ (m : List ℕ). length (marked (runs m))) (map-part space view xs)
@@ -360,7 +361,7 @@ module _ (space view below start end number : ℕ) (xs : List ℕ) where
         fit = omega (arith, z, ap (λ (f : Bytes). length (runsOf f)) mix-part);
       }
 
-  -- and leave what is to be published
+  -- The steps leave what is to be published.
   pub shared-end : {ys : List ℕ} → Holds (space * 4) (below * (space * 4)) xs from ys → ys ≡ withMap space below (mapFor space to) xs
   shared-end k =
       let p : space * 4 ≡ 4 * space = omega arith in

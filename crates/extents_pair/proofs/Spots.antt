@@ -22,7 +22,7 @@ pub record Here (xs : List ℕ) (p : ℕ) (r : Run) : Type 0 where
   pub number : getD xs (p + 2) 0 ≡ numberIn (r .cell)
   pub mark : getD xs (p + 3) 0 ≡ markIn (r .cell)
 
--- so where its numbers stand behind others
+-- A run stands where its numbers stand behind others.
 pub here-behind : (xs a : List ℕ) (r : Run) (t : List ℕ) (p : ℕ) → xs ≡ a ++ (fours (r ∷ []) ++ t) → length a ≡ p → Here xs p r
 unfolding fours
 here-behind xs a r t p e l =
@@ -46,7 +46,7 @@ here-at xs e i h =
     let f = run-at xs e (take i rs) (drop (suc i) rs) (getD rs i noRun) i (split-at rs i noRun h) (length-take-le i rs (omega arith)) in
     record { start = f .0; size = f .1; number = f .2; mark = f .3 }
 
--- the same numbers in another slice
+-- A run stands in another slice that has its numbers.
 pub here-same : {xs ys : List ℕ} {p q : ℕ} {r : Run} → Here xs p r → ((k : ℕ) → k < 4 → getD ys (q + k) 0 ≡ getD xs (p + k) 0) → Here ys q r
 here-same {xs} {ys} {p} {q} h e =
     let z : q ≡ q + 0 = omega arith in
@@ -114,28 +114,6 @@ put-after xs p s l n k i h m =
 -- 0 from a place up to another
 abbrev pub zeroed : List ℕ → ℕ → ℕ → List ℕ
 zeroed xs from to = (take from xs ++ replicate (to - from) 0) ++ drop to xs
-
--- none yet
-pub zeroed-none : (xs : List ℕ) (from : ℕ) → xs ≡ zeroed xs from from
-zeroed-none xs from =
-    let z : from - from ≡ 0 = omega arith in
-    sym (rw (z, append-nil, take-append-drop))
-
--- one more
-pub zeroed-next : (xs : List ℕ) (from i : ℕ) → from ≤ i → i < length xs → set (zeroed xs from i) i 0 ≡ zeroed xs from (i + 1)
-zeroed-next xs from i h k =
-    let n = i - from in
-    let e : n + 1 ≡ i + 1 - from = omega arith in
-    let p = take from xs ++ replicate n 0 in
-    let l : length p ≡ i =
-    omega (arith, length-append (take from xs) (replicate n 0), length-take-le from xs (omega arith), length-replicate {A = ℕ} n 0) in
-    let longer : p ++ (0 ∷ []) ≡ take from xs ++ replicate (i + 1 - from) 0 =
-    append-assoc (take from xs) (replicate n 0) (0 ∷ [])
-    ∙ ap (λ (q : List ℕ). take from xs ++ q) (replicate-append-replicate n 1 0 ∙ ap (λ (m : ℕ). replicate m 0) e) in
-    ap (λ (q : List ℕ). set (p ++ q) i 0) (drop-cons xs i 0 k)
-    ∙ set-at p (getD xs i 0) (drop (suc i) xs) 0 i l
-    ∙ sym (append-snoc p 0 (drop (suc i) xs))
-    ∙ (λ j. longer j ++ drop (sym (add-one i) j) xs)
 
 -- a number within is 0
 zeroed-in : (xs : List ℕ) (from to i : ℕ) → to ≤ length xs → from ≤ i → i < to → getD (zeroed xs from to) i 0 ≡ 0

@@ -35,7 +35,7 @@ place from to b = go (decLt b from) (decLt b to)
 pub over-at : (from to c : ℕ) (f : Bytes) (b : ℕ) → from ≤ b → b < to → overwrite from (to - from) c f b ≡ c
 over-at from to c f b h k = over-in from (to - from) c f b h (omega arith)
 
--- those behind it keep theirs
+-- The bytes behind the range keep their cells.
 pub over-past : (from to c : ℕ) (f : Bytes) (b : ℕ) → from ≤ b → to ≤ b → overwrite from (to - from) c f b ≡ f b
 over-past from to c f b h k = over-behind from (to - from) c f b (omega arith)
 
@@ -52,13 +52,13 @@ over-none from to c f b h = go (place from to b)
 pub over-same : (from to c : ℕ) (f g : Bytes) → ((b : ℕ) → f b ≡ g b) → (b : ℕ) → overwrite from (to - from) c f b ≡ overwrite from (to - from) c g b
 over-same from to c f g h b = λ i. cond (inRange from (to - from) b) c (h b i)
 
--- also where the cell behind fills the range
+-- Equal bytes stay equal where the cell behind fills the range.
 pub fill-same : (from to : ℕ) (f g : Bytes) → ((b : ℕ) → f b ≡ g b) → (b : ℕ) → filled from to f b ≡ filled from to g b
 fill-same from to f g h b = λ i. cond (inRange from (to - from) b) (h to i) (h b i)
 
 -- ---- Bytes that a map can hold
 
--- their cells are fine, and nothing is written from the end of all bytes on
+-- Good bytes: their cells are fine, and nothing is written from the end of all bytes on.
 pub record Good (f : Bytes) : Type 0 where
   pub fine : (b : ℕ) → Fine (f b)
   pub ends : (b : ℕ) → OFFSET-MAX ≤ b → f b ≡ 0
@@ -90,14 +90,14 @@ Rises p [] = Unit {0}
 Rises p (s ∷ us) = (p ≤ s .from) × (s .from ≤ s .to) × (s .to ≤ OFFSET-MAX) × Rises (s .to) us
 
 -- from a byte on g has in each range its cell, and between them the cells of f
-abbrev pub Drawn : ℕ → List RangeWrite → Bytes → Bytes → Type 0
-Drawn p [] f g = (b : ℕ) → p ≤ b → g b ≡ f b
-Drawn p (s ∷ us) f g =
-    ((b : ℕ) → p ≤ b → b < s .from → g b ≡ f b) × ((b : ℕ) → s .from ≤ b → b < s .to → g b ≡ s .cell) × Drawn (s .to) us f g
+abbrev pub Overwritten : ℕ → List RangeWrite → Bytes → Bytes → Type 0
+Overwritten p [] f g = (b : ℕ) → p ≤ b → g b ≡ f b
+Overwritten p (s ∷ us) f g =
+    ((b : ℕ) → p ≤ b → b < s .from → g b ≡ f b) × ((b : ℕ) → s .from ≤ b → b < s .to → g b ≡ s .cell) × Overwritten (s .to) us f g
 
 -- ---- The pass down
 
--- it keeps the bytes before the ranges
+-- A pass down keeps the bytes before its ranges.
 pub downs-before : (us : List RangeWrite) (p : ℕ) (f : Bytes) → Rises p us → (b : ℕ) → b < p → downs us f b ≡ f b
 unfolding downs
 downs-before [] p f r b h = refl
@@ -105,7 +105,7 @@ downs-before (s ∷ us) p f r b h =
     over-before (s .from) (s .to - s .from) (downs us f (s .to)) (downs us f) b (omega (arith, r .0))
     ∙ downs-before us (s .to) f (r .3) b (omega (arith, r .0, r .1))
 
--- and those before the first of them
+-- A pass down keeps the bytes before the first of its ranges.
 downs-gap : (s : RangeWrite) (us : List RangeWrite) (p : ℕ) (f : Bytes) → Rises p (s ∷ us) → (b : ℕ) → b < s .from → downs (s ∷ us) f b ≡ f b
 downs-gap s us p f r = downs-before (s ∷ us) (s .from) f (omega arith, r .1, r .2, r .3)
 
@@ -122,7 +122,7 @@ downs-good (s ∷ us) p f r g =
     let k = downs-good us (s .to) f (r .3) g in
     good-over (s .from) (s .to) (downs us f (s .to)) (downs us f) (r .2) (k .fine (s .to)) k
 
--- it makes no more runs
+-- A pass down makes no more runs.
 downs-fewer : (us : List RangeWrite) (p : ℕ) (f : Bytes) → Rises p us → Good f → length (runsOf (downs us f)) ≤ length (runsOf f)
 unfolding downs
 downs-fewer [] p f r g = omega arith
@@ -135,13 +135,13 @@ downs-fewer (s ∷ us) p f r g =
     let q : n (s .to) ≤ length (runsOf h) = subst (λ (k : ℕ). n k ≤ length (runsOf h)) e (pass-down h (s .from) (s .to - s .from) i z) in
     omega (arith, q, downs-fewer us (s .to) f (r .3) g)
 
--- so what fits still does
+-- A pass down of bytes that fit leaves bytes that fit.
 pub downs-fits : (us : List RangeWrite) (p : ℕ) (f : Bytes) (space : ℕ) → Rises p us → Fits space f → Fits space (downs us f)
 downs-fits us p f space r k =
     record { good = downs-good us p f r (k .good); few = omega (arith, downs-fewer us p f r (k .good), k .few) }
 
--- it asks only for the bytes between the ranges
-pub downs-overwritten : (us : List RangeWrite) (p : ℕ) (f g : Bytes) → Rises p us → Drawn p us f g → (b : ℕ) → p ≤ b → downs us f b ≡ downs us g b
+-- A pass down depends only on the bytes between its ranges.
+pub downs-overwritten : (us : List RangeWrite) (p : ℕ) (f g : Bytes) → Rises p us → Overwritten p us f g → (b : ℕ) → p ≤ b → downs us f b ≡ downs us g b
 unfolding downs
 downs-overwritten [] p f g r d b h = sym (d b h)
 downs-overwritten (s ∷ us) p f g r d b h = go (place (s .from) (s .to) b) (downs-overwritten us (s .to) f g (r .3) (d .2))
@@ -180,33 +180,33 @@ up-step s us p g r own b = go (place (s .from) (s .to) b)
 
 -- ---- Later ranges
 
--- they rise too
+-- The ranges from range i on rise.
 pub rises-later : (i : ℕ) (us : List RangeWrite) (p : ℕ) → Rises p us → (q : ℕ) × Rises q (drop i us)
 rises-later zero us p r = (p, r)
 rises-later (suc i) [] p r = (p, r)
 rises-later (suc i) (s ∷ us) p r = rises-later i us (s .to) (r .3)
 
--- and are written
-pub overwritten-later : (i : ℕ) (us : List RangeWrite) (p : ℕ) (f g : Bytes) → Drawn p us f g → (q : ℕ) × Drawn q (drop i us) f g
+-- The ranges from range i on are overwritten.
+pub overwritten-later : (i : ℕ) (us : List RangeWrite) (p : ℕ) (f g : Bytes) → Overwritten p us f g → (q : ℕ) × Overwritten q (drop i us) f g
 overwritten-later zero us p f g d = (p, d)
 overwritten-later (suc i) [] p f g d = (p, d)
 overwritten-later (suc i) (s ∷ us) p f g d = overwritten-later i us (s .to) f g (d .2)
 
--- ---- Drawn bytes
+-- ---- Overwritten bytes
 
 -- written again nothing changes
-pub overwritten-self : (us : List RangeWrite) (p : ℕ) (f g : Bytes) → Drawn p us f g → Drawn p us g g
+pub overwritten-self : (us : List RangeWrite) (p : ℕ) (f g : Bytes) → Overwritten p us f g → Overwritten p us g g
 overwritten-self [] p f g d = λ b l. refl
 overwritten-self (s ∷ us) p f g d = (λ b l k. refl, d .1, overwritten-self us (s .to) f g (d .2))
 
 -- equal bytes serve as well
-overwritten-same : (us : List RangeWrite) (p : ℕ) (f f′ g : Bytes) → Rises p us → ((b : ℕ) → p ≤ b → f b ≡ f′ b) → Drawn p us f g → Drawn p us f′ g
+overwritten-same : (us : List RangeWrite) (p : ℕ) (f f′ g : Bytes) → Rises p us → ((b : ℕ) → p ≤ b → f b ≡ f′ b) → Overwritten p us f g → Overwritten p us f′ g
 overwritten-same [] p f f′ g r h d = λ b l. d b l ∙ h b l
 overwritten-same (s ∷ us) p f f′ g r h d =
     (λ b l k. d .0 b l k ∙ h b l, d .1, overwritten-same us (s .to) f f′ g (r .3) (λ b l. h b (omega (arith, r .0, r .1))) (d .2))
 
 -- the pass down may be made first
-pub overwritten-downs : (us : List RangeWrite) (p : ℕ) (f g : Bytes) → Rises p us → Drawn p us f g → Drawn p us (downs us f) g
+pub overwritten-downs : (us : List RangeWrite) (p : ℕ) (f g : Bytes) → Rises p us → Overwritten p us f g → Overwritten p us (downs us f) g
 unfolding downs
 overwritten-downs [] p f g r d = d
 overwritten-downs (s ∷ us) p f g r d = (
@@ -217,7 +217,7 @@ overwritten-downs (s ∷ us) p f g r d = (
 )
 
 -- there is one way to overwrites
-pub overwritten-one : (us : List RangeWrite) (p : ℕ) (f g h : Bytes) → Drawn p us f g → Drawn p us f h → (b : ℕ) → p ≤ b → g b ≡ h b
+pub overwritten-one : (us : List RangeWrite) (p : ℕ) (f g h : Bytes) → Overwritten p us f g → Overwritten p us f h → (b : ℕ) → p ≤ b → g b ≡ h b
 overwritten-one [] p f g h d e b l = d b l ∙ sym (e b l)
 overwritten-one (s ∷ us) p f g h d e b l = go (place (s .from) (s .to) b) (overwritten-one us (s .to) f g h (d .2) (e .2) b)
   where

@@ -9,7 +9,7 @@ use lib.ListN.{length, take, drop, getD}
 use lib.Seq.{length-take-le, split-at}
 use Rattle.rows.specs.Limits.{ROWS, OFFSET-MAX}
 use Rattle.extents_meaning.specs.Cells.{numberIn, markIn, unpublished, cleared}
-use Rattle.extents_meaning.specs.Runs.{Run, runOf, Rising, Numbered}
+use Rattle.extents_meaning.specs.Runs.{Run, runOf, Rising, NumbersLegal}
 use Rattle.extents_meaning.specs.Maps.{runs, lawful}
 use Rattle.extents_meaning.proofs.Longest.{Fine}
 use Rattle.extents_meaning.proofs.Trips.{lawful-map, run-at}
@@ -19,24 +19,24 @@ use Rattle.extents_pair.specs.RangeWrites.{rangeWriteOf, clamped, rangeW
 abbrev pub runAmong : List Run → ℕ → Run
 runAmong rs i = getD rs i (runOf 0 0 0)
 
--- it ends clamped all bytes, and its row number is small
+-- A run ends within all bytes.
 pub inside-at : (rs : List Run) (i e c : ℕ) → Rising OFFSET-MAX e c rs → runAmong rs i .start + runAmong rs i .length ≤ OFFSET-MAX
 inside-at [] i e c t = omega arith
 inside-at (r ∷ rs) zero e c t = t .0 .inside
 inside-at (r ∷ rs) (suc i) e c t = inside-at rs i (r .start + r .length) (r .cell) (t .1)
 
--- its cell is fine
-pub fine-at : (rs : List Run) (i : ℕ) → Numbered rs → Fine (runAmong rs i .cell)
+-- A run's cell is fine.
+pub fine-at : (rs : List Run) (i : ℕ) → NumbersLegal rs → Fine (runAmong rs i .cell)
 fine-at [] i n = inl refl
 fine-at (r ∷ rs) zero n = inr (n .0, n .1)
 fine-at (r ∷ rs) (suc i) n = fine-at rs i (n .2)
 
--- so its row number is small
+-- A fine cell has a row number to 4,096.
 small : (c : ℕ) → Fine c → numberIn c ≤ ROWS
 small c (inl e) = omega arith
 small c (inr h) = h .1
 
--- its four numbers stand at place i * 4 of the map
+-- The four numbers of run i stand at place i * 4 of the map.
 pub record There (xs : List ℕ) (i : ℕ) (r : Run) : Type 0 where
   pub room : i * 4 + 4 ≤ length xs
   pub start : getD xs (i * 4) 0 ≡ r .start
@@ -46,7 +46,7 @@ pub record There (xs : List ℕ) (i : ℕ) (r : Run) : Type 0 where
   pub inside : r .start + r .length ≤ OFFSET-MAX
   pub low : numberIn (r .cell) ≤ ROWS
 
--- so it is for each run of a lawful map
+-- Each run of a lawful map stands at its place.
 pub there : (xs : List ℕ) (i : ℕ) → lawful xs ≡ true → i < length (runs xs) → There xs i (runAmong (runs xs) i)
 there xs i e h =
     let m = lawful-map xs e in

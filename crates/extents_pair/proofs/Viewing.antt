@@ -16,12 +16,12 @@ use borrow.Author.Tests.{leb-true, eqb-false, not-true}
 use borrow.Rule.Slice.PartMut.{putMid}
 use Rattle.extents_meaning.specs.Cells.{refreshed}
 use Rattle.extents_meaning.specs.Runs.{Run, runsOf, cellAt, Lawful}
-use Rattle.extents_meaning.specs.Maps.{fours, mapOf, mapFor, spaceIn, runs, bytesOf, lawful, lawfulPublished, mapAt, withMap}
+use Rattle.extents_meaning.specs.Maps.{fours, mapOf, mapFor, spaceIn, runs, bytesOf, lawful, lawfulPublished, mapAt, withMap, partAt, withPart}
 use Rattle.extents_meaning.proofs.Longest.{runs-same}
 use Rattle.extents_meaning.proofs.Trips.{lawful-map, map-back, map-lawful}
 use Rattle.rows.proofs.Bools.{and-out}
 use Rattle.extents_meaning.specs.Pairs.{twoMaps, viewOf, belowOf}
-use Rattle.extents_pair.specs.Packing.{marked, Marked, partAt, withPart, packedIn, mergedOf, Packed}
+use Rattle.extents_pair.specs.Packing.{marked, Marked, packedIn, mergedOf, Packed}
 use Rattle.extents_pair.proofs.Spots.{outside, zero-behind}
 use Rattle.extents_pair.proofs.Gathering.{marked-all, marked-lawful, marked-refresh, refreshed-none}
 use Rattle.extents_pair.proofs.Filling.{beside}
@@ -42,7 +42,7 @@ lent space k xs = take (placeOf space k + space * 4 - placeOf space k) (drop (pl
 place-is : (space k : ℕ) → placeOf space k ≡ k * (4 * space)
 place-is space k = let e : space * 4 ≡ 4 * space = omega arith in ap (λ (n : ℕ). k * n) e
 
--- it is map k
+-- The lent part is map k.
 pub lent-is : (space k : ℕ) (xs : List ℕ) → lent space k xs ≡ mapAt space k xs
 lent-is space k xs =
     let e : placeOf space k + space * 4 - placeOf space k ≡ 4 * space = omega arith in
@@ -55,15 +55,15 @@ next-place k size = ap (λ (n : ℕ). n * size) (add-one k) ∙ suc-mul k size
 -- ---- Two maps
 
 -- both maps: apart, within the slice, and lawful
-pub record Two (space view below : ℕ) (xs : List ℕ) : Type 0 where
+pub record ViewAndBelow (space view below : ℕ) (xs : List ℕ) : Type 0 where
   pub apart : (placeOf space below + 4 * space ≤ placeOf space view) ⊎ (placeOf space view + 4 * space ≤ placeOf space below)
   pub view-in : placeOf space view + space * 4 ≤ length xs
   pub below-in : placeOf space below + space * 4 ≤ length xs
   pub view-law : lawful (mapAt space view xs) ≡ true
   pub below-law : lawfulPublished (mapAt space below xs) ≡ true
 
--- so where the test passes
-pub two-maps : (space view below : ℕ) (xs : List ℕ) → twoMaps space view below xs ≡ true → Two space view below xs
+-- Where the test passes, the two maps keep all of that.
+pub two-maps : (space view below : ℕ) (xs : List ℕ) → twoMaps space view below xs ≡ true → ViewAndBelow space view below xs
 two-maps space view below xs t =
     let a = and-out (not (eqb view below)) _ t in
     let b = and-out (leb ((view + 1) * (4 * space)) (length xs)) _ (a .1) in
@@ -125,7 +125,7 @@ beside-same xs v w size part h k l a =
         ∙ outside xs v size part (w + i) h l (beside size a (omega arith) (omega (arith, q)))
         ∙ sym (getD-drop w xs i 0) ∙ sym (getD-take size (drop w xs) i 0 q)
 
-module _ {space view below : ℕ} {xs : List ℕ} (m : Two space view below xs) (first all others : ℕ) (last : List ℕ)
+module _ {space view below : ℕ} {xs : List ℕ} (m : ViewAndBelow space view below xs) (first all others : ℕ) (last : List ℕ)
     (tells : (first + length (marked (runs (lent space view xs))) ≡ spaceIn (lent space view xs))
     × (drop (4 * first) last ≡ fours (marked (runs (lent space view xs)))) × (take (4 * first) last ≡ take (4 * first) (lent space view xs)))
     (kept : length last ≡ length (lent space view xs)) (own : all ≡ length (runs (lent space view xs)))
@@ -193,21 +193,21 @@ module _ {space view below : ℕ} {xs : List ℕ} (m : Two space view below xs) 
   us-lawful : Lawful us
   us-lawful = marked-lawful (runs (mapAt space view xs)) (lawful-map (mapAt space view xs) (m .view-law) .lawful-runs)
 
-  -- they are read back
+  -- The packed runs are read back.
   own-runs : runs (packedIn space v first ms) ≡ us
   own-runs = ap runs own-is ∙ map-back (length us) us us-lawful (omega arith)
 
-  -- they end where the map ends
+  -- The packed runs end where the map ends.
   own-count : first + length us ≡ space
   own-count =
       let e = lent-is space view xs in
       omega (arith, ap (λ (q : List ℕ). first + length (marked (runs q))) (sym e) ∙ tells .0 ∙ ap spaceIn e, view-length)
 
-  -- as many runs as the view had
+  -- The count `all` is that of the view's runs.
   own-all : all ≡ length (runs (mapAt space view xs))
   own-all = own ∙ ap (λ (q : List ℕ). length (runs q)) (lent-is space view xs)
 
-  -- behind them, up to the packed ones, all is 0
+  -- Between the place of run `all` and the packed runs all is 0.
   own-between : (q : ℕ) → 4 * all ≤ q → q < 4 * first → getD ms (v + q) 0 ≡ 0
   own-between q h l =
       let e : v + q ≡ length (take v xs) + q = omega (arith, front-length) in
@@ -220,9 +220,9 @@ module _ {space view below : ℕ} {xs : List ℕ} (m : Two space view below xs) 
       ∙ zero-behind (mapAt space view xs) (m .view-law) q (omega (arith, own-all, h))
 
   -- the published map is as it was
-  below-is : partAt space w ms ≡ mapAt space below xs
+  below-is : partAt w (4 * space) ms ≡ mapAt space below xs
   below-is =
-      ap (λ (q : List ℕ). partAt space w q) parts
+      ap (λ (q : List ℕ). partAt w (4 * space) q) parts
       ∙ beside-same xs v w (4 * space) last (omega (arith, m .view-in)) (omega (arith, m .below-in)) last-length (m .apart)
       ∙ ap (λ (q : ℕ). take (4 * space) (drop q xs)) (place-is space below)
 
@@ -232,11 +232,11 @@ module _ {space view below : ℕ} {xs : List ℕ} (m : Two space view below xs) 
       (λ i. refreshed (cellAt (own-runs i)) (bytesOf (below-is i)) b)
       ∙ marked-refresh (runs (mapAt space view xs)) (lawful-map (mapAt space view xs) (m .view-law) .lawful-runs) (belowOf space view below xs) b
 
-  -- and has its runs
+  -- The merge has the runs of the refreshed view.
   merged-runs : runsOf (mergedOf space v w first ms) ≡ runsOf (refreshed (viewOf space view below xs) (belowOf space view below xs))
   merged-runs = runs-same _ _ (λ b h. merged-same b)
 
-  -- so the view is ready to be merged
+  -- The view is ready to be merged.
   pub view-packed : Packed space v w all others first ms
   view-packed =
       record {
@@ -253,8 +253,8 @@ module _ {space view below : ℕ} {xs : List ℕ} (m : Two space view below xs) 
         between = own-between;
       }
 
-  -- and the slice with it is what a refresh leaves
-  pub view-refreshed : {zs : List ℕ} → zs ≡ withPart space v (mapFor space (mergedOf space v w first ms)) ms →
+  -- The slice with the merged map is what a refresh leaves.
+  pub view-refreshed : {zs : List ℕ} → zs ≡ withPart v (4 * space) (mapFor space (mergedOf space v w first ms)) ms →
       zs ≡ withMap space view (mapFor space (refreshed (viewOf space view below xs) (belowOf space view below xs))) xs
   view-refreshed q =
       let a : take v ms ≡ take v xs = ap (take v) parts ∙ take-at (take v xs) (last ++ drop (v + 4 * space) xs) v front-length in
@@ -278,7 +278,7 @@ module _ (space view below : ℕ) (xs : List ℕ) (two : twoMaps space view belo
       let t = two-told space view below xs two in
       ((t .below-in, t .view-in, λ q. two-apart space view below xs two (sym q)), (t .below-law, t .view-law))
 
-  -- and the slice with the copy is what a refresh leaves
+  -- The slice with the copy is what a refresh leaves.
   pub view-copied : {own : ℕ} → own ≡ length (marked (runs (mapAt space view xs))) → own ≡ 0 → {zs : List ℕ} →
       zs ≡ withMap space view (mapAt space below xs) xs →
       zs ≡ withMap space view (mapFor space (refreshed (viewOf space view below xs) (belowOf space view below xs))) xs

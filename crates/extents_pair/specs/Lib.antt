@@ -1,2 +1,3 @@
 pub mod RangeWrites
 pub mod Packing
+pub mod InPairs

@@ -4,10 +4,10 @@ use mathlib.Core.Path.{_≡_}
 use mathlib.Core.Logic.{_⊎_}
 use mathlib.Core.Bool.{true, cond}
 use mathlib.Core.List.{List, [], _∷_, _++_}
-use lib.ListN.{length, take, drop}
+use lib.ListN.{length}
 use Rattle.extents_meaning.specs.Cells.{Bytes, unpublished, cleared, inRange, overwrite, published}
 use Rattle.extents_meaning.specs.Runs.{Run, runsOf}
-use Rattle.extents_meaning.specs.Maps.{mapFor, runs, bytesOf, lawful}
+use Rattle.extents_meaning.specs.Maps.{mapFor, runs, bytesOf, lawful, partAt, withPart}
 use Rattle.extents_pair.specs.declared.share.RangeWrite.{RangeWrite}
 
 -- ---- Ranges to be written
@@ -25,7 +25,7 @@ unfoldable pub rangeWrite : ℕ → ℕ → Run → RangeWrite
 rangeWrite lo hi r =
     rangeWriteOf (clamped lo hi (r .start)) (clamped lo hi (cond (unpublished (r .cell)) (r .start + r .length) (r .start))) (cleared (r .cell))
 
--- those of all runs
+-- The range writes of all runs.
 unfoldable pub rangeWrites : ℕ → ℕ → List Run → List RangeWrite
 rangeWrites lo hi [] = []
 rangeWrites lo hi (r ∷ rs) = rangeWrite lo hi r ∷ rangeWrites lo hi rs
@@ -47,20 +47,12 @@ taken lo hi view below b = cond (inRange lo (hi - lo) b) (published view below b
 
 -- ---- Two maps in a slice
 
--- a part of a slice, and the slice with another part
-abbrev pub partAt : ℕ → ℕ → List ℕ → List ℕ
-partAt at size xs = take size (drop at xs)
-
--- the slice with another part
-abbrev pub withPart : ℕ → ℕ → List ℕ → List ℕ → List ℕ
-withPart at size m xs = (take at xs ++ m) ++ drop (at + size) xs
-
--- the slice with the map of some bytes in that place
+-- The slice with the map of some bytes in place of a part.
 abbrev pub withBytes : ℕ → ℕ → Bytes → List ℕ → List ℕ
 withBytes size at f xs = withPart at size (mapFor (size / 4) f) xs
 
--- two lawful maps stand apart in a slice
-pub record Two (size v w : ℕ) (xs : List ℕ) : Type 0 where
+-- Two lawful maps stand apart in a slice.
+pub record MapsApart (size v w : ℕ) (xs : List ℕ) : Type 0 where
   pub view-in : v + size ≤ length xs
   pub below-in : w + size ≤ length xs
   pub apart : (v + size ≤ w) ⊎ (w + size ≤ v)
@@ -76,11 +68,11 @@ module _ (size v w lo hi : ℕ) (xs : List ℕ) where
   abbrev pub passedDown : Bytes
   passedDown = downs passing (bytesOf (partAt w size xs))
 
-  -- what the pass up makes of them
+  -- What the pass up makes of the published map's bytes.
   abbrev pub passedUp : Bytes
   passedUp = taken lo hi (bytesOf (partAt v size xs)) (bytesOf (partAt w size xs))
 
-  -- a pass up is ready: a pass down was made, and the map fits at the end
-  pub record Ready : Type 0 where
+  -- A pass up may start: a pass down was made, and the map fits at the end.
+  pub record PassUpReady : Type 0 where
     pub fit : length (runsOf passedUp) ≤ size / 4
     pub level : (b : ℕ) → bytesOf (partAt w size xs) b ≡ downs passing passedUp b

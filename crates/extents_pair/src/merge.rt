@@ -3,17 +3,17 @@ ghost use Prim.Native.Nat.{_+_, _*_, _-_, _≤_, _<_, max};
 ghost use mathlib.Core.Path.{_≡_};
 ghost use mathlib.Core.Bool.{true, false, _&&_};
 ghost use mathlib.Core.List.{[], _∷_, _++_};
-ghost use lib.ListN.{length, getD, take, drop, replicate};
+ghost use lib.ListN.{length, getD, take, drop};
 ghost use lib.Dec.{eqb};
 ghost use Rattle.extents_meaning.specs.Cells.{asPublished, refreshed};
 ghost use Rattle.extents_meaning.specs.Runs.{runsOf};
-ghost use Rattle.extents_meaning.specs.Maps.{fours, mapFor, spaceIn, runs, bytesOf, lawful, mapAt, withMap};
+ghost use Rattle.extents_meaning.specs.Maps.{fours, mapFor, spaceIn, runs, bytesOf, lawful, mapAt, withMap, withPart};
 ghost use Rattle.extents_meaning.specs.Pairs.{twoMaps, viewOf, belowOf};
-ghost use Rattle.extents_pair.specs.Packing.{marked, Meet, Alone, withPart, mergedOf, Packed};
+ghost use Rattle.extents_pair.specs.Packing.{marked, Meet, Alone, mergedOf, Packed};
 ghost use Rattle.rows.specs.Limits.{OFFSET-MAX};
 
-// Marks the unpublished runs of a map published, of which there are `own`: a mark is put to 0 where no neighbour touches the run with the same
-// row; where one does, all runs are gone through and joined.
+// Marks the `own` unpublished runs of a map published: the loop clears a mark where no neighbour touches the run with the same row; where one
+// does, `mark_all_published` joins the runs.
 pub(crate) fn mark_published(map: &mut [u32], own: usize)
     requires { ⌜ (lawful (now map) ≡ true) × (own ≡ length (marked (runs (now map)))) ⌝ }
     ensures { λ _. ⌜ now (map .exit) ≡ mapFor (spaceIn (now (map .entry))) (asPublished (bytesOf (now (map .entry)))) ⌝ }
@@ -59,8 +59,8 @@ fn meets(map: &[u32], i: usize) -> bool
     touches(end, map[at + 4], map[at + 2], map[at + 6])
 }
 
-// Marks every run of a map published, and joins neighbours that then have the same cell, from the front: a run is held while those behind it
-// touch it with the same row, and then put behind those put before.
+// Marks every run of a map published, and joins neighbours that then have the same cell. The loop goes from the front: it holds a run while the
+// runs behind touch it with the same row, and then puts it behind those put before.
 fn mark_all_published(map: &mut [u32])
     requires { ⌜ lawful (now map) ≡ true ⌝ }
     ensures { λ _. ⌜ now (map .exit) ≡ mapFor (spaceIn (now (map .entry))) (asPublished (bytesOf (now (map .entry)))) ⌝ }
@@ -91,7 +91,7 @@ fn mark_all_published(map: &mut [u32])
         }
     }
     put_run(map, n * 4, start, size, number, 0);
-    clear_from(map, n * 4 + 4, all * 4);
+    extents_map::splice::clear_between(map, n * 4 + 4, all * 4);
 }
 
 // Does a run that starts at a byte follow an end at once, with the same row?
@@ -113,19 +113,7 @@ fn put_run(map: &mut [u32], at: usize, start: u32, size: u32, number: u32, mark:
     map[at + 3] = mark;
 }
 
-// Puts 0 from a place up to another.
-fn clear_from(map: &mut [u32], from: usize, to: usize)
-    requires { ⌜ (from ≤ to) × (to ≤ length (now map)) ⌝ }
-    ensures { λ _. ⌜ now (map .exit) ≡ (take from (now (map .entry)) ++ replicate (to - from) 0) ++ drop to (now (map .entry)) ⌝ }
-{
-    let mut i = from;
-    while i < to {
-        map[i] = 0;
-        i += 1;
-    }
-}
-
-// Takes the unpublished runs of a view to the end of its map, and answers where they start. What stands before them stays.
+// Moves the unpublished runs of a view to the end of its map, and answers where they start. The numbers before them stay.
 fn pack(map: &mut [u32], all: usize) -> usize
     requires { ⌜ (lawful (now map) ≡ true) × (all ≡ length (runs (now map))) ⌝ }
     ensures { λ r. ⌜ (r + length (marked (runs (now (map .entry)))) ≡ spaceIn (now (map .entry)))
@@ -148,7 +136,7 @@ fn pack(map: &mut [u32], all: usize) -> usize
     to
 }
 
-// Refreshes a view that fits then, of whose runs `own` are unpublished: these, and the published map's in the gaps.
+// Refreshes a view that fits then: its `own` unpublished runs stay, and the published map's runs fill the gaps.
 pub fn refresh(maps: &mut [u32], space: usize, view: usize, below: usize, own: usize)
     requires { ⌜ twoMaps space view below (now maps) ≡ true ⌝ }
     requires { ⌜ length (runsOf (refreshed (viewOf space view below (now maps)) (belowOf space view below (now maps)))) ≤ space ⌝ }
@@ -170,8 +158,8 @@ pub fn refresh(maps: &mut [u32], space: usize, view: usize, below: usize, own: u
 }
 
 // Writes the refreshed view from the front of its map at v: its unpublished runs, packed there from run `first` on, and those of the published
-// map at w, clipped to the gaps. A run is read before its place is written, since every packed run still gives a run. Then 0 is put where runs
-// stood, the first `all` of the map and the packed ones: all else is 0.
+// map at w, clipped to the gaps. The loop reads a run before it writes the run's place, since every packed run still gives a run. Then zeros
+// replace the runs that stood there, the first `all` of the map and the packed ones: all else is 0.
 fn interleave(
     maps: &mut [u32],
     v: usize,
@@ -182,7 +170,7 @@ fn interleave(
     first: usize,
 )
     requires { ⌜ Packed space v w all others first (now maps) ⌝ }
-    ensures { λ _. ⌜ now (maps .exit) ≡ withPart space v (mapFor space (mergedOf space v w first (now (maps .entry)))) (now (maps .entry)) ⌝ }
+    ensures { λ _. ⌜ now (maps .exit) ≡ withPart v (4 * space) (mapFor space (mergedOf space v w first (now (maps .entry)))) (now (maps .entry)) ⌝ }
 {
     let mut j = first;
     let mut n = 0;
@@ -218,8 +206,8 @@ fn interleave(
             }
         }
     }
-    clear_from(maps, v + n * 4, v + larger(n, all) * 4);
-    clear_from(maps, v + larger(n, first) * 4, v + space * 4);
+    extents_map::splice::clear_between(maps, v + n * 4, v + larger(n, all) * 4);
+    extents_map::splice::clear_between(maps, v + larger(n, first) * 4, v + space * 4);
 }
 
 // The larger of two numbers.
@@ -229,7 +217,7 @@ pub(crate) fn larger(a: usize, b: usize) -> usize
     if a < b { b } else { a }
 }
 
-// Where run j starts, and the end of all bytes where there is none.
+// Where run j starts, or the end of all bytes where there is no run j.
 fn start_of(maps: &[u32], v: usize, j: usize, space: usize) -> u32
     requires { ⌜ (j < space → v + j * 4 < length (now maps)) ⌝ }
     ensures { λ r. ⌜ (space ≤ j → r ≡ OFFSET-MAX) × (j < space → r ≡ getD (now (maps .entry)) (v + j * 4) 0) ⌝ }

@@ -8,12 +8,23 @@ ghost use lib.Dec.{leb, ltb};
 ghost use Rattle.extents_meaning.specs.Cells.{numberIn, overwrite, asPublished, refreshed};
 ghost use Rattle.extents_meaning.specs.Runs.{runsFrom, runsOf, piecesOf};
 ghost use Rattle.extents_meaning.specs.Maps.{mapFor, runs, bytesOf, lawful, mapAt, withMap, listedIn};
-ghost use Rattle.extents_map.specs.Mixes.{mix};
-ghost use Rattle.extents_meaning.specs.Pairs.{twoMaps, viewOf, belowOf};
+ghost use Rattle.extents_map.specs.Mixes.{mix, mixIn, makesMap, isMarkPublished};
+ghost use Rattle.extents_meaning.specs.Pairs.{twoMaps};
+ghost use Rattle.extents_pair.specs.InPairs.{twoMapsIn, viewIn, belowIn, OwnCounted};
 ghost use Rattle.extents_pair.specs.Packing.{marked};
 ghost use Rattle.rows.specs.Limits.{OFFSET-MAX, ROWS};
+use extents_map::scan::Mix;
+use extents_map::scan::Mode;
 
-// Two lawful maps at two places of a slice, the second one published.
+// A view and the published map: two maps of one space by their numbers in a slice, and how many runs of the view are unpublished.
+pub struct Pair {
+    pub space: usize,
+    pub view: usize,
+    pub below: usize,
+    pub own: usize,
+}
+
+// Do two lawful maps stand at two places of a slice, the second one published?
 pub fn two_maps(maps: &[u32], space: usize, view: usize, below: usize) -> bool
     ensures { λ r. ⌜ r ≡ twoMaps space view below (now (maps .entry)) ⌝ }
 {
@@ -35,7 +46,7 @@ pub fn two_maps(maps: &[u32], space: usize, view: usize, below: usize) -> bool
     extents_map::scan::is_published(&maps[w..w + size])
 }
 
-// The slice is long enough for map k.
+// Is the slice long enough for map k?
 fn has_map(maps: &[u32], space: usize, k: usize) -> bool
     ensures { λ r. ⌜ r ≡ leb ((k + 1) * (4 * space)) (length (now (maps .entry))) ⌝ }
 {
@@ -48,36 +59,19 @@ fn has_map(maps: &[u32], space: usize, k: usize) -> bool
     k < maps.len() / (4 * space)
 }
 
-// How many runs a mix of a view, the published map and a range has.
-fn count(
-    maps: &[u32],
-    space: usize,
-    view: usize,
-    below: usize,
-    mode: u32,
-    from: u32,
-    to: u32,
-    start: u32,
-    end: u32,
-    cell: u32,
-) -> usize
-    requires { ⌜ twoMaps space view below (now maps) ≡ true ⌝ }
-    requires { ⌜ (from ≤ to) × (start ≤ end) ⌝ }
-    ensures { λ r. ⌜ r ≡ length (runsFrom (to - from) from (mix mode start (end - start) cell (viewOf space view below (now (maps .entry))) (belowOf space view below (now (maps .entry))))) ⌝ }
+// How many runs a mix of a view, the published map and a range has from one byte to another.
+fn count(maps: &[u32], pair: Pair, mix: Mix, from: u32, to: u32) -> usize
+    requires { ⌜ twoMapsIn pair (now maps) ≡ true ⌝ }
+    requires { ⌜ (from ≤ to) × (mix .start ≤ mix .end) ⌝ }
+    ensures { λ r. ⌜ r ≡ length (runsFrom (to - from) from (mixIn mix (viewIn pair (now (maps .entry))) (belowIn pair (now (maps .entry))))) ⌝ }
 {
+    let space = pair.space;
+    let view = pair.view;
+    let below = pair.below;
     let size = 4 * space;
     let v = view * size;
     let w = below * size;
-    extents_map::scan::count(
-        &maps[v..v + size],
-        &maps[w..w + size],
-        mode,
-        from,
-        to,
-        start,
-        end,
-        cell,
-    )
+    extents_map::scan::count(&maps[v..v + size], &maps[w..w + size], mix, from, to)
 }
 
 // How many runs of map k are unpublished.
@@ -91,78 +85,77 @@ pub fn own_runs(maps: &[u32], space: usize, k: usize) -> usize
     marked_in(&maps[at..at + size])
 }
 
-// Does a mix of a view, of whose runs `own` are unpublished, the published map and a range fit a map's space? Its runs are counted only where
-// the most that there can be are too many.
-pub fn fits(
-    maps: &[u32],
-    space: usize,
-    view: usize,
-    below: usize,
-    own: usize,
-    mode: u32,
-    start: u32,
-    end: u32,
-    cell: u32,
-) -> bool
-    requires { ⌜ twoMaps space view below (now maps) ≡ true ⌝ }
-    requires { ⌜ (mode ≤ 2) × (start ≤ end) × (own ≡ length (marked (runs (mapAt space view (now maps))))) ⌝ }
+// Does a mix of a view, the published map and a range fit a map's space? The walk counts its runs only where the most that there can be are too
+// many.
+pub fn fits(maps: &[u32], pair: Pair, mode: Mode, start: u32, end: u32, cell: u32) -> bool
+    requires { ⌜ twoMapsIn pair (now maps) ≡ true ⌝ }
+    requires { ⌜ (makesMap mode ≡ true) × (start ≤ end) × OwnCounted pair (now maps) ⌝ }
     ensures { λ r. ⌜ r ≡ leb (length (runsFrom (OFFSET-MAX - 0) 0 (mix mode start (end - start) cell
-        (viewOf space view below (now (maps .entry))) (belowOf space view below (now (maps .entry)))))) space ⌝ }
+        (viewIn pair (now (maps .entry))) (belowIn pair (now (maps .entry)))))) (pair .space) ⌝ }
 {
-    if most_runs(maps, space, view, below, own, mode) <= space {
+    let space = pair.space;
+    if most_runs(maps, pair, mode) <= space {
         return true;
     }
-    count(
-        maps,
-        space,
-        view,
-        below,
-        mode,
-        0,
-        rows::OFFSET_MAX,
-        start,
-        end,
-        cell,
-    )
-        <= space
+    let made = Mix {
+        mode: mode,
+        start: start,
+        end: end,
+        cell: cell,
+    };
+    count(maps, pair, made, 0, rows::OFFSET_MAX) <= space
 }
 
-// No mix of a view, the published map and any range has more runs.
-fn most_runs(maps: &[u32], space: usize, view: usize, below: usize, own: usize, mode: u32) -> usize
-    requires { ⌜ (twoMaps space view below (now maps) ≡ true) × (mode ≤ 2) × (own ≡ length (marked (runs (mapAt space view (now maps))))) ⌝ }
+// The most runs that a mix of a view, the published map and any range can have.
+fn most_runs(maps: &[u32], pair: Pair, mode: Mode) -> usize
+    requires { ⌜ (twoMapsIn pair (now maps) ≡ true) × (makesMap mode ≡ true) × OwnCounted pair (now maps) ⌝ }
     ensures { λ r. ⌜ ((start n cell : ℕ) → length (runsOf (mix mode start n cell
-        (viewOf space view below (now (maps .entry))) (belowOf space view below (now (maps .entry))))) ≤ r) ⌝ }
+        (viewIn pair (now (maps .entry))) (belowIn pair (now (maps .entry))))) ≤ r) ⌝ }
 {
+    let space = pair.space;
+    let view = pair.view;
+    let below = pair.below;
+    let own = pair.own;
     let size = 4 * space;
     let v = view * size;
-    if mode == 1 {
+    if is_mark_published(mode) {
         return extents_map::splice::runs_in(&maps[v..v + size]) + 2;
     }
     let w = below * size;
     extents_map::splice::runs_in(&maps[w..w + size]) + 2 * own + 2
 }
 
-// Has a range of a view, of whose runs `own` are unpublished, more pieces after a refresh than there is room for? A range has at most two for each
-// run, and one more: they are counted only where the room may lack.
-pub fn lacks(
-    maps: &[u32],
-    space: usize,
-    view: usize,
-    below: usize,
-    own: usize,
-    from: u32,
-    to: u32,
-    room: usize,
-) -> bool
-    requires { ⌜ twoMaps space view below (now maps) ≡ true ⌝ }
-    requires { ⌜ (from ≤ to) × (own ≡ length (marked (runs (mapAt space view (now maps))))) ⌝ }
-    ensures { λ r. ⌜ r ≡ ltb room (length (piecesOf (refreshed
-        (viewOf space view below (now (maps .entry))) (belowOf space view below (now (maps .entry)))) from (to - from))) ⌝ }
+// Does the mode mark the view published?
+fn is_mark_published(mode: Mode) -> bool
+    ensures { λ r. ⌜ r ≡ isMarkPublished mode ⌝ }
 {
-    if most_runs(maps, space, view, below, own, 2) < room / 2 {
+    match mode {
+        Mode::Publish => false,
+        Mode::MarkPublished => true,
+        Mode::Refresh => false,
+        Mode::ReadMap => false,
+        Mode::ReadFresh => false,
+    }
+}
+
+// Has a range of a view more pieces after a refresh than there is room for? A range has at most two for each run, and one more: the walk counts
+// them only where the room may lack.
+pub fn lacks(maps: &[u32], pair: Pair, from: u32, to: u32, room: usize) -> bool
+    requires { ⌜ twoMapsIn pair (now maps) ≡ true ⌝ }
+    requires { ⌜ (from ≤ to) × OwnCounted pair (now maps) ⌝ }
+    ensures { λ r. ⌜ r ≡ ltb room (length (piecesOf (refreshed
+        (viewIn pair (now (maps .entry))) (belowIn pair (now (maps .entry)))) from (to - from))) ⌝ }
+{
+    if most_runs(maps, pair, Mode::Refresh) < room / 2 {
         return false;
     }
-    room < count(maps, space, view, below, 4, from, to, 0, 0, 0)
+    let pieces = Mix {
+        mode: Mode::ReadFresh,
+        start: 0,
+        end: 0,
+        cell: 0,
+    };
+    room < count(maps, pair, pieces, from, to)
 }
 
 // How many runs of a map are unpublished.
@@ -180,7 +173,7 @@ fn marked_in(map: &[u32]) -> usize
     n
 }
 
-// Marks a map published, of whose runs `own` are not.
+// Marks the `own` unpublished runs of map k published.
 pub fn mark_published(maps: &mut [u32], space: usize, k: usize, own: usize)
     requires { ⌜ (k + 1) * (4 * space) ≤ length (now maps) ⌝ }
     requires { ⌜ (lawful (mapAt space k (now maps)) ≡ true) × (own ≡ length (marked (runs (mapAt space k (now maps))))) ⌝ }
@@ -191,7 +184,7 @@ pub fn mark_published(maps: &mut [u32], space: usize, k: usize, own: usize)
     crate::merge::mark_published(&mut maps[at..at + size], own);
 }
 
-// Gives a range of a map a cell, where it fits then.
+// Gives a range of map k a cell, where the map fits then.
 pub fn lay(maps: &mut [u32], space: usize, k: usize, start: u32, end: u32, cell: u32)
     requires { ⌜ (k + 1) * (4 * space) ≤ length (now maps) ⌝ }
     requires { ⌜ lawful (mapAt space k (now maps)) ≡ true ⌝ }

@@ -9,30 +9,26 @@ ghost use lib.ListN.{length, getD};
 ghost use Rattle.rows.specs.Limits.{ROWS};
 ghost use Rattle.extents_meaning.specs.Cells.{numberIn, cellOf, unpublished, overwrite, published};
 ghost use Rattle.extents_meaning.specs.Runs.{runOf, runsOf};
-ghost use Rattle.extents_meaning.specs.Maps.{mapFor, spaceIn, runs, bytesOf, lawful, mapAt, withMap};
-ghost use Rattle.extents_map.specs.Mixes.{PUBLISH, mix};
-ghost use Rattle.extents_meaning.specs.Pairs.{twoMaps, viewOf, belowOf};
+ghost use Rattle.extents_meaning.specs.Maps.{mapFor, spaceIn, runs, bytesOf, lawful, mapAt, withMap, partAt};
+ghost use Rattle.extents_map.specs.Mixes.{mix};
+ghost use Rattle.extents_map.specs.declared.scan.Mode.the-variants.{Publish};
 ghost use Rattle.extents_pair.specs.Packing.{marked};
-ghost use Rattle.extents_pair.specs.RangeWrites.{clamped, rangeWrite, filled, partAt, withBytes, Two, passedDown, passedUp, Ready};
+ghost use Rattle.extents_pair.specs.InPairs.{twoMapsIn, viewIn, belowIn, OwnCounted};
+ghost use Rattle.extents_pair.specs.RangeWrites.{clamped, rangeWrite, filled, withBytes, MapsApart, passedDown, passedUp, PassUpReady};
+use crate::pair::Pair;
 
-// Publishes a view, of whose runs `own` are unpublished, and a range of a row number, 0 where the range is empty, on a published map that fits
-// then.
-pub fn share(
-    maps: &mut [u32],
-    space: usize,
-    view: usize,
-    below: usize,
-    own: usize,
-    start: u32,
-    end: u32,
-    number: u32,
-)
-    requires { ⌜ twoMaps space view below (now maps) ≡ true ⌝ }
-    requires { ⌜ (start ≤ end) × (start < end → 1 ≤ number) × (number ≤ ROWS) × (own ≡ length (marked (runs (mapAt space view (now maps))))) ⌝ }
-    requires { ⌜ length (runsOf (mix PUBLISH start (end - start) (cellOf number 0) (viewOf space view below (now maps)) (belowOf space view below (now maps)))) ≤ space ⌝ }
-    ensures { λ _. ⌜ now (maps .exit) ≡ withMap space below
-        (mapFor space (mix PUBLISH start (end - start) (cellOf number 0) (viewOf space view below (now (maps .entry))) (belowOf space view below (now (maps .entry))))) (now (maps .entry)) ⌝ }
+// Publishes a view and a range of a row number, 0 where the range is empty, on a published map that fits then.
+pub fn share(maps: &mut [u32], pair: Pair, start: u32, end: u32, number: u32)
+    requires { ⌜ twoMapsIn pair (now maps) ≡ true ⌝ }
+    requires { ⌜ (start ≤ end) × (start < end → 1 ≤ number) × (number ≤ ROWS) × OwnCounted pair (now maps) ⌝ }
+    requires { ⌜ length (runsOf (mix Publish start (end - start) (cellOf number 0) (viewIn pair (now maps)) (belowIn pair (now maps)))) ≤ pair .space ⌝ }
+    ensures { λ _. ⌜ now (maps .exit) ≡ withMap (pair .space) (pair .below)
+        (mapFor (pair .space) (mix Publish start (end - start) (cellOf number 0) (viewIn pair (now (maps .entry))) (belowIn pair (now (maps .entry))))) (now (maps .entry)) ⌝ }
 {
+    let space = pair.space;
+    let view = pair.view;
+    let below = pair.below;
+    let own = pair.own;
     let size = space * 4;
     let v = view * size;
     let w = below * size;
@@ -56,7 +52,7 @@ pub fn share(
 
 // Lays the unpublished runs of a view on the published map one by one, where there is room for two runs more for each.
 fn lay_own(maps: &mut [u32], size: usize, v: usize, w: usize)
-    requires { ⌜ Two size v w (now maps)
+    requires { ⌜ MapsApart size v w (now maps)
         × (length (runs (partAt w size (now maps))) + 2 * length (marked (runs (partAt v size (now maps)))) ≤ size / 4) ⌝ }
     ensures { λ _. ⌜ now (maps .exit) ≡ withBytes size w
         (published (bytesOf (partAt v size (now (maps .entry)))) (bytesOf (partAt w size (now (maps .entry))))) (now (maps .entry)) ⌝ }
@@ -80,7 +76,7 @@ struct RangeWrite {
 
 // Gives each unpublished range of a view between two bytes the cell behind it, from right to left.
 fn pass_down(maps: &mut [u32], size: usize, v: usize, w: usize, lo: u32, hi: u32)
-    requires { ⌜ Two size v w (now maps) × (lo ≤ hi) ⌝ }
+    requires { ⌜ MapsApart size v w (now maps) × (lo ≤ hi) ⌝ }
     ensures { λ _. ⌜ now (maps .exit) ≡ withBytes size w (passedDown size v w lo hi (now (maps .entry))) (now (maps .entry)) ⌝ }
 {
     if hi <= lo {
@@ -96,9 +92,9 @@ fn pass_down(maps: &mut [u32], size: usize, v: usize, w: usize, lo: u32, hi: u32
     }
 }
 
-// Gives each its own cell, from left to right.
+// Gives each unpublished range of a view between two bytes its own cell, from left to right.
 fn pass_up(maps: &mut [u32], size: usize, v: usize, w: usize, lo: u32, hi: u32)
-    requires { ⌜ Two size v w (now maps) × (lo ≤ hi) × Ready size v w lo hi (now maps) ⌝ }
+    requires { ⌜ MapsApart size v w (now maps) × (lo ≤ hi) × PassUpReady size v w lo hi (now maps) ⌝ }
     ensures { λ _. ⌜ now (maps .exit) ≡ withBytes size w (passedUp size v w lo hi (now (maps .entry))) (now (maps .entry)) ⌝ }
 {
     if hi <= lo {
@@ -124,7 +120,7 @@ fn is_own(map: &[u32], i: usize) -> bool
     map[i * 4 + 3] == 1
 }
 
-// What is to be written of run i, an unpublished one, between two bytes.
+// The part of run i, an unpublished one, that a pass between two bytes writes.
 fn range_write_at(map: &[u32], i: usize, lo: u32, hi: u32) -> RangeWrite
     requires { ⌜ (lawful (now map) ≡ true) × (i < length (runs (now map))) × (i * 4 + 4 ≤ length (now map))
         × (unpublished (getD (runs (now map)) i (runOf 0 0 0) .cell) ≡ true) ⌝ }

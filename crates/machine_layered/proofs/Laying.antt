@@ -30,7 +30,7 @@ use Rattle.machine_meaning.proofs.Stepping.{AllYes}
 use Rattle.extents.specs.declared.Answer as extents
 use Rattle.extents.specs.declared.Answer.the-variants.{Done, Refused}
 use Rattle.extents_meaning.specs.Pairs.{twoMaps, viewOf, belowOf}
-use Rattle.extents.specs.Entries.{bothMaps, orRefused, orKept, countOf, writeRefusal, writtenMap, listRefusal, publishRefusal, publishedMaps, refreshRefusal, refreshedMaps, syncRefusal, syncedMaps, writeThroughRefusal, writtenThroughMaps, readRefusal}
+use Rattle.extents.specs.Entries.{bothMaps, orRefused, orKept, listedCount, writeRefusal, writtenMap, listRefusal, publishRefusal, publishedMaps, refreshRefusal, refreshedMaps, syncRefusal, syncedMaps, writeThroughRefusal, writtenThroughMaps, readRefusal}
 use Rattle.extents.proofs.Lent.{home, two-told, lentMap, map-lent, map-space}
 use Rattle.machine_state.specs.Answers.{answerOf, Steps, Ready}
 use Rattle.machine_state.proofs.Maps.{first-map, state-two, state-view, state-in, anew, fit-both, to-both, to-view-alone, shared′, view′, row-both}
@@ -280,7 +280,7 @@ module _ {h : Header} {xs : List ℕ} {r : Row} {number : ℕ} (k : Ready h xs r
     -- a read lists the pieces of its range
     by-read : eqb (r .kind) READ ≡ true → (out : List ℕ) → {n : ℕ} {answer : extents.Answer} {maps′ out′ ys : List ℕ} →
         let ps = piecesOf v (r .offset) (r .length) in n ≡ cond fits (cond (leb (3 * length ps) (length out)) 0 17) 16 →
-        answer ≡ orRefused n (countOf ps) → maps′ ≡ orKept n ys xs → out′ ≡ orKept n (listedIn ps out) out →
+        answer ≡ orRefused n (listedCount ps) → maps′ ≡ orKept n ys xs → out′ ≡ orKept n (listedIn ps out) out →
         (fits ≡ true → ys ≡ layersTo h state xs) → Steps (stepOf h xs r number out) answer maps′ out′
     unfolding firstNo
     by-read is out {n} e a m o t =
@@ -451,7 +451,7 @@ module _ {h : Header} {xs : List ℕ} {r : Row} {number : ℕ} (k : Ready h xs r
       pub read-fresh : refreshes (h .model) 0 ≡ true → let p = r .process + 1 in
           let n = readRefusal (h .space) p 0 xs (r .offset) (r .length) (length out) in
           let ps = piecesOf (refreshed (viewOf (h .space) p 0 xs) (belowOf (h .space) p 0 xs)) (r .offset) (r .length) in
-          answer ≡ orRefused n (countOf ps) → maps′ ≡ orKept n (refreshedMaps (h .space) p 0 xs) xs → out′ ≡ orKept n (listedIn ps out) out →
+          answer ≡ orRefused n (listedCount ps) → maps′ ≡ orKept n (refreshedMaps (h .space) p 0 xs) xs → out′ ≡ orKept n (listedIn ps out) out →
           Steps (stepOf h xs r number out) answer maps′ out′
       unfolding firstNo readRefusal refreshedMaps
       read-fresh f a m o =
@@ -464,7 +464,7 @@ module _ {h : Header} {xs : List ℕ} {r : Row} {number : ℕ} (k : Ready h xs r
           by-read k v (old k .shared) (rw (read-plain, read-stays, q)) (rw read-stays) read-is out
           {n = n (suc (r .process))}
           (rw (two k, le-leb _ _ (b .0), le-leb _ _ (b .1), le-leb _ _ (b .2), and-comm (plainFits h v) (plainFits h (old k .shared))))
-          (a ∙ (λ i. orRefused (n (e i)) (countOf (ps (e i)))))
+          (a ∙ (λ i. orRefused (n (e i)) (listedCount (ps (e i)))))
           (m ∙ (λ i. orKept (n (e i)) (refreshedMaps (h .space) (e i) 0 xs) xs))
           (o ∙ (λ i. orKept (n (e i)) (listedIn (ps (e i)) out) out))
           (λ t. sym (both-to k v (old k .shared) (rw (read-plain, read-stays, q)) (rw read-stays) t))
@@ -474,7 +474,7 @@ module _ {h : Header} {xs : List ℕ} {r : Row} {number : ℕ} (k : Ready h xs r
         let m = lentMap (h .space) (r .process + 1) xs in
         let n = listRefusal m (r .offset) (r .length) (length out) in
         let ps = piecesOf (bytesOf m) (r .offset) (r .length) in
-        answer ≡ orRefused n (countOf ps) → out′ ≡ orKept n (listedIn ps out) out → Steps (stepOf h xs r number out) answer xs out′
+        answer ≡ orRefused n (listedCount ps) → out′ ≡ orKept n (listedIn ps out) out → Steps (stepOf h xs r number out) answer xs out′
     unfolding firstNo listRefusal
     read-own f a o =
         let q : refreshes (h .model) (r .kind) ≡ false = ap (refreshes (h .model)) kind ∙ f in
@@ -486,7 +486,7 @@ module _ {h : Header} {xs : List ℕ} {r : Row} {number : ℕ} (k : Ready h xs r
         by-read k (own k) (old k .shared) (rw (read-plain, read-stays, q)) (rw read-stays) read-is out
         {n = n (mapAt (h .space) (suc (r .process)) xs)}
         (rw (law, le-leb _ _ (b .0), le-leb _ _ (b .1), le-leb _ _ (b .2), shared-fits k, own-fits k))
-        (a ∙ (λ i. orRefused (n (e i)) (countOf (ps (e i)))))
+        (a ∙ (λ i. orRefused (n (e i)) (listedCount (ps (e i)))))
         (same-kept (n (mapAt (h .space) (suc (r .process)) xs)) refl)
         (o ∙ (λ i. orKept (n (e i)) (listedIn (ps (e i)) out) out))
         (λ t. sym (still-to k))

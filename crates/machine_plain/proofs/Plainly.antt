@@ -23,7 +23,7 @@ use Rattle.machine_meaning.proofs.Lawful.{here-fit, here-again}
 use Rattle.machine_meaning.proofs.Stepping.{AllYes}
 use Rattle.extents.specs.declared.Answer as extents
 use Rattle.extents.specs.declared.Answer.the-variants.{Done, Refused}
-use Rattle.extents.specs.Entries.{orRefused, orKept, countOf, writeRefusal, writtenMap, listRefusal}
+use Rattle.extents.specs.Entries.{orRefused, orKept, listedCount, writeRefusal, writtenMap, listRefusal}
 use Rattle.machine_state.specs.Answers.{answerOf, Steps}
 use Rattle.machine_state.proofs.Maps.{first-map, plain-making}
 use Rattle.machine_state.proofs.Questions.{no-behind, no-before, asked-yes, asked-number, asked-range}
@@ -155,7 +155,7 @@ module _ (h : Header) (xs : List ℕ) (law : lawfulPlain h xs ≡ true) where
 
         -- so the step is what the listing answers and leaves
         pub plain-read : {a : extents.Answer} {zs : List ℕ} → a ≡ orRefused (listRefusal map (r .offset) (r .length) (length out))
-            (countOf (piecesOf (bytesOf map) (r .offset) (r .length))) → zs ≡ orKept (listRefusal map (r .offset) (r .length) (length out))
+            (listedCount (piecesOf (bytesOf map) (r .offset) (r .length))) → zs ≡ orKept (listRefusal map (r .offset) (r .length) (length out))
             (listedIn (piecesOf (bytesOf map) (r .offset) (r .length)) out) out → Steps (plainStepOf h xs r number out) a xs zs
         unfolding plainStepOf
         plain-read answer left =

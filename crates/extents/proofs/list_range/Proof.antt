@@ -2,7 +2,7 @@
 use borrow.Author.Needs.{needs}
 use Rattle.extents.proofs.Entering.{refused, list-unlawful}
 use Rattle.extents_meaning.specs.Maps.{listedIn, bytesOf}
-use Rattle.extents.specs.Entries.{countOf}
+use Rattle.extents.specs.Entries.{listedCount}
 use Rattle.extents_meaning.specs.Runs.{piecesOf}
 use denote.Ref.{now}
 use borrow.Author.Tests.{not-true, not-false}
@@ -20,7 +20,7 @@ returns c =
     let p1 = c .before in
     let p4 = p1 .before .before .before in
     let a = p4 .args in
-    refused 13 (countOf (piecesOf (bytesOf (now (a .map))) (a .start) (a .length))) (listedIn (piecesOf (bytesOf (now (a .map))) (a .start)
+    refused 13 (listedCount (piecesOf (bytesOf (now (a .map))) (a .start) (a .length))) (listedIn (piecesOf (bytesOf (now (a .map))) (a .start)
     (a .length)) (now (a .out))) (now (a .out)) (list-unlawful (now (a .map)) (a .start) (a .length) (length (now (a .out))) (omega arith) (omega
     arith) (sym (p1 .is-lawful .ensures) ∙ not-true (p1 .is-lawful .result) (c .if1 .taken))) (omega arith)
 

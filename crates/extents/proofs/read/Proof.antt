@@ -1,11 +1,6 @@
 -- `extents::read` meets its contract.
 use borrow.Author.Needs.{needs}
-use Rattle.extents.proofs.Doubles.{refused-both, read-unlawful}
-use Rattle.extents_meaning.specs.Maps.{listedIn}
-use Rattle.extents_meaning.specs.Pairs.{viewOf, belowOf}
-use Rattle.extents.specs.Entries.{refreshedMaps, countOf}
-use Rattle.extents_meaning.specs.Runs.{piecesOf}
-use Rattle.extents_meaning.specs.Cells.{refreshed}
+use Rattle.extents.proofs.Doubles.{refused-read, read-unlawful}
 use lib.ListN.{length}
 use denote.Ref.{now}
 use borrow.Author.Tests.{not-true, not-false}
@@ -25,11 +20,9 @@ returns c =
     let p1 = c .before in
     let p5 = p1 .before .before .before .before in
     let a = p5 .args in
-    refused-both 13 (countOf (piecesOf (refreshed (viewOf (a .space) (a .view) (a .below) (now (a .maps))) (belowOf (a .space) (a .view) (a .below)
-    (now (a .maps)))) (a .start) (a .length))) (refreshedMaps (a .space) (a .view) (a .below) (now (a .maps))) (now (a .maps)) (listedIn (piecesOf
-    (refreshed (viewOf (a .space) (a .view) (a .below) (now (a .maps))) (belowOf (a .space) (a .view) (a .below) (now (a .maps)))) (a .start)
-    (a .length)) (now (a .out))) (now (a .out)) (read-unlawful (a .space) (a .view) (a .below) (now (a .maps)) (a .start) (a .length) (length (now
-    (a .out))) (omega arith) (omega arith) (sym (p1 .two-maps .ensures) ∙ not-true (p1 .two-maps .result) (c .if1 .taken))) (omega arith)
+    refused-read 13 (a .space) (a .view) (a .below) (now (a .maps)) (a .start) (a .length) (now (a .out)) (read-unlawful (a .space) (a .view) (a .below)
+    (now (a .maps)) (a .start) (a .length) (length (now (a .out))) (omega arith) (omega arith) (sym (p1 .two-maps .ensures)
+    ∙ not-true (p1 .two-maps .result) (c .if1 .taken))) (omega arith)
 
 read-requires : tie.Need-read-requires
 read-requires c κs =

@@ -37,7 +37,7 @@ returns c =
     let a = p13 .args in
     let p = p13 .pre in
     let e = p4 .read .ensures in
-    read-fresh (p .0) (p .1) (now (a .out)) (sym (p8 .is-refresh .ensures) ∙ p7 .if1 .taken) (e .0) (e .1 .0) (e .1 .1)
+    read-fresh (p .0) (p .1) (now (a .out)) (sym (p8 .is-refresh .ensures) ∙ p7 .if1 .taken) (e .answer) (e .left) (e .listed)
 
 mul-size : tie.Need-mul-size
 mul-size c = search needs
@@ -86,7 +86,7 @@ returns-2 c =
     let a = p12 .args in
     let p = p12 .pre in
     let e = p2 .list-range .ensures in
-    read-own (p .0) (p .1) (now (a .out)) (sym (p7 .is-refresh .ensures) ∙ p6 .if1 .left) (e .0) (e .1)
+    read-own (p .0) (p .1) (now (a .out)) (sym (p7 .is-refresh .ensures) ∙ p6 .if1 .left) (e .answer) (e .left)
 
 pub read-spec : {M : Type 1} → statement M
 read-spec =

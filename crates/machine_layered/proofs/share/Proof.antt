@@ -36,7 +36,7 @@ returns c =
     let p11 = p7 .before .before .before .before in
     let p = p11 .pre in
     let e = p2 .sync .ensures in
-    share-both (p .0) (p .1) (sym (p7 .is-publish .ensures) ∙ p6 .if1 .taken) (sym (p5 .is-refresh .ensures) ∙ p4 .if2 .taken) (e .0) (e .1)
+    share-both (p .0) (p .1) (sym (p7 .is-publish .ensures) ∙ p6 .if1 .taken) (sym (p5 .is-refresh .ensures) ∙ p4 .if2 .taken) (e .answer) (e .left)
 
 publish-requires : tie.Need-publish-requires
 publish-requires c κs = ready-two (c .before .before .before .before .before .before .before .before .pre .0)
@@ -54,7 +54,7 @@ returns-2 c =
     let p11 = p7 .before .before .before .before in
     let p = p11 .pre in
     let e = p2 .publish .ensures in
-    share-publish (p .0) (p .1) (sym (p7 .is-publish .ensures) ∙ p6 .if1 .taken) (sym (p5 .is-refresh .ensures) ∙ p4 .if2 .left) (e .0) (e .1)
+    share-publish (p .0) (p .1) (sym (p7 .is-publish .ensures) ∙ p6 .if1 .taken) (sym (p5 .is-refresh .ensures) ∙ p4 .if2 .left) (e .answer) (e .left)
 
 is-refresh-requires-2 : tie.Need-is-refresh-requires-2
 is-refresh-requires-2 c κs = tt
@@ -75,7 +75,7 @@ returns-3 c =
     let p11 = p7 .before .before .before .before in
     let p = p11 .pre in
     let e = p2 .refresh .ensures in
-    share-refresh (p .0) (p .1) (sym (p7 .is-publish .ensures) ∙ p6 .if1 .left) (sym (p5 .is-refresh2 .ensures) ∙ p4 .if3 .taken) (e .0) (e .1)
+    share-refresh (p .0) (p .1) (sym (p7 .is-publish .ensures) ∙ p6 .if1 .left) (sym (p5 .is-refresh2 .ensures) ∙ p4 .if3 .taken) (e .answer) (e .left)
 
 returns-4 : tie.Need-returns-4
 returns-4 c =

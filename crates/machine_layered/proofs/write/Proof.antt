@@ -32,7 +32,7 @@ returns c =
     let p9 = p5 .before .before .before .before in
     let p = p9 .pre in
     let e = p2 .write-through .ensures in
-    write-write-through (p .0) (p .1) (sym (p5 .is-publish .ensures) ∙ p4 .if1 .taken) (e .0) (e .1)
+    write-write-through (p .0) (p .1) (sym (p5 .is-publish .ensures) ∙ p4 .if1 .taken) (e .answer) (e .left)
 
 mul-size : tie.Need-mul-size
 mul-size c = search needs
@@ -77,7 +77,7 @@ returns-2 c =
     let p9 = p5 .before .before .before .before in
     let p = p9 .pre in
     let e = p2 .write .ensures in
-    write-own (p .0) (p .1) (sym (p5 .is-publish .ensures) ∙ p4 .if1 .left) (e .0) (e .1)
+    write-own (p .0) (p .1) (sym (p5 .is-publish .ensures) ∙ p4 .if1 .left) (e .answer) (e .left)
 
 pub write-spec : {M : Type 1} → statement M
 write-spec =

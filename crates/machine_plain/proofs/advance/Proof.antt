@@ -68,7 +68,7 @@ returns-2 c =
     let p11 = p8 .before .before .before in
     let a = p11 .args in
     plain-read (headerOf (a .plain)) (now (a .map)) (p11 .pre) (a .row) (a .number) (now (a .out)) (sym (p8 .ask-row .ensures) ∙ p7 .if1 .left)
-    (p5 .match .keys1) (p2 .list-range .ensures .0) (p2 .list-range .ensures .1)
+    (p5 .match .keys1) (p2 .list-range .ensures .answer) (p2 .list-range .ensures .left)
 
 same-length-3 : tie.Need-same-length-3
 same-length-3 c = search needs
@@ -82,7 +82,7 @@ returns-3 c =
     let p10 = p7 .before .before .before in
     let a = p10 .args in
     plain-write (headerOf (a .plain)) (now (a .map)) (p10 .pre) (a .row) (a .number) (now (a .out)) (sym (p7 .ask-row .ensures) ∙ p6 .if1 .left)
-    (p4 .match .keys2) (p2 .write .ensures .0) (p2 .write .ensures .1)
+    (p4 .match .keys2) (p2 .write .ensures .answer) (p2 .write .ensures .left)
 
 returns-4 : tie.Need-returns-4
 returns-4 c =

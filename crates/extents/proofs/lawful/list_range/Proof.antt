@@ -3,7 +3,7 @@ use borrow.Author.Needs.{needs}
 use Rattle.extents.proofs.Entering.{refused, list-past, list-full, list-fits, pieces-most, accepted-list}
 use Rattle.extents_pair.proofs.Rooms.{pieces-there, slice-short, slice-enough}
 use Rattle.extents_meaning.specs.Maps.{listedIn, bytesOf}
-use Rattle.extents.specs.Entries.{countOf}
+use Rattle.extents.specs.Entries.{listedCount}
 use Rattle.extents_meaning.specs.Runs.{Run, piecesOf}
 use denote.Ref.{now}
 use lib.ListN.{length}
@@ -21,7 +21,7 @@ returns : tie.Need-returns
 returns c =
     let p3 = c .before .before .before in
     let a = p3 .args in
-    refused 11 (countOf (piecesOf (bytesOf (now (a .map))) (a .start) (a .length))) (listedIn (piecesOf (bytesOf (now (a .map))) (a .start)
+    refused 11 (listedCount (piecesOf (bytesOf (now (a .map))) (a .start) (a .length))) (listedIn (piecesOf (bytesOf (now (a .map))) (a .start)
     (a .length)) (now (a .out))) (now (a .out)) (list-past (now (a .map)) (a .start) (a .length) (length (now (a .out))) (omega arith) (omega arith)
     (p3 .pre) (omega (arith, c .if1 .taken))) (omega arith)
 
@@ -39,7 +39,7 @@ returns-2 c =
     let a = p5 .args in
     let f = bytesOf (now (a .map)) in
     let short = slice-short f (a .start) (a .length) (length (now (a .out))) (c .before .lacks .ensures) (c .if2 .taken) in
-    refused 17 (countOf (piecesOf f (a .start) (a .length))) (listedIn (piecesOf f (a .start) (a .length)) (now (a .out))) (now (a .out))
+    refused 17 (listedCount (piecesOf f (a .start) (a .length))) (listedIn (piecesOf f (a .start) (a .length)) (now (a .out))) (now (a .out))
     (list-full (now (a .map)) (a .start) (a .length) (length (now (a .out))) (omega arith) (omega arith) (p5 .pre)
     (omega (arith, c .before .before .if1 .left)) short) (omega arith)
 

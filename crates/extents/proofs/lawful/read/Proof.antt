@@ -1,17 +1,16 @@
 -- `extents::lawful::read` meets its contract.
 use borrow.Author.Needs.{needs}
-use Rattle.extents.proofs.Doubles.{view-in-fresh, view-law-fresh, pieces-fresh, refused-both, refresh-enough, refresh-short, read-past, read-full, read-long, read-done}
+use Rattle.extents.proofs.Doubles.{view-in-fresh, view-law-fresh, pieces-fresh, refused-read, refresh-enough, refresh-short, read-past, read-full, read-long, read-done}
 use Rattle.extents.proofs.Entering.{pieces-most}
 use Rattle.extents_pair.proofs.Rooms.{slice-short, slice-enough}
 use Rattle.extents_meaning.specs.Maps.{listedIn}
 use Rattle.extents_meaning.specs.Pairs.{viewOf, belowOf}
-use Rattle.extents.specs.Entries.{refreshedMaps, countOf}
 use Rattle.extents_meaning.specs.Runs.{Run, piecesOf}
 use Rattle.extents_meaning.specs.Cells.{refreshed}
 use lib.ListN.{length}
 use mathlib.Core.List.{List}
 use denote.Ref.{now}
-use mathlib.Core.Path.{ap, _∙_}
+use mathlib.Core.Path.{refl, ap, _∙_}
 use native.Mathlib.Omega.{arith}
 use Rattle.extents_pair.proofs.Pairing.{two-told}
 use Rattle.extents.proofs.lawful.read.Statement.{statement}
@@ -24,14 +23,8 @@ returns : tie.Need-returns
 returns c =
     let p3 = c .before .before .before in
     let a = p3 .args in
-    refused-both 11 (countOf (piecesOf (refreshed (viewOf (a .space) (a .view) (a .below) (now (a .maps))) (belowOf (a .space) (a .view) (a .below)
-    (now (a .maps)))) (a .start) (a .length))) (refreshedMaps (a .space) (a .view) (a .below) (now (a .maps))) (now (a .maps)) (listedIn (piecesOf
-    (refreshed (viewOf (a .space) (a .view) (a .below) (now (a .maps))) (belowOf (a .space) (a .view) (a .below) (now (a .maps)))) (a .start)
-    (a .length)) (now (a .out))) (now (a .out)) (read-past (a .space) (a .view) (a .below) (now (a .maps)) (a .start) (a .length) (length (now
-    (a .out))) (omega arith) (omega arith) (p3 .pre) (omega (
-      arith,
-      c .if1 .taken,
-    ))) (omega arith)
+    refused-read 11 (a .space) (a .view) (a .below) (now (a .maps)) (a .start) (a .length) (now (a .out)) (read-past (a .space) (a .view) (a .below)
+    (now (a .maps)) (a .start) (a .length) (length (now (a .out))) (omega arith) (omega arith) (p3 .pre) (omega (arith, c .if1 .taken))) (omega arith)
 
 add-end : tie.Need-add-end
 add-end c = omega (arith, c .if1 .left)
@@ -46,7 +39,7 @@ own-runs-requires c κs =
 fits-requires : tie.Need-fits-requires
 fits-requires c κs =
     let p6 = c .before .before .before .before .before .before in
-    (p6 .pre, (omega arith, omega arith, c .before .own-runs .ensures))
+    (p6 .pre, (refl, omega arith, c .before .own-runs .ensures))
 
 same-length : tie.Need-same-length
 same-length c = search needs
@@ -56,14 +49,9 @@ returns-2 c =
     let p5 = c .before .before .before .before .before in
     let p8 = p5 .before .before .before in
     let a = p8 .args in
-    refused-both 16 (countOf (piecesOf (refreshed (viewOf (a .space) (a .view) (a .below) (now (a .maps))) (belowOf (a .space) (a .view) (a .below)
-    (now (a .maps)))) (a .start) (a .length))) (refreshedMaps (a .space) (a .view) (a .below) (now (a .maps))) (now (a .maps)) (listedIn (piecesOf
-    (refreshed (viewOf (a .space) (a .view) (a .below) (now (a .maps))) (belowOf (a .space) (a .view) (a .below) (now (a .maps)))) (a .start)
-    (a .length)) (now (a .out))) (now (a .out)) (read-full (a .space) (a .view) (a .below) (now (a .maps)) (a .start) (a .length) (length (now
-    (a .out))) (omega arith) (omega arith) (p8 .pre) (omega (
-      arith,
-      p5 .if1 .left,
-    )) (refresh-short (a .space) (a .view) (a .below) (now (a .maps)) (c .before .fits2 .ensures) (c .if2 .taken))) (omega arith)
+    refused-read 16 (a .space) (a .view) (a .below) (now (a .maps)) (a .start) (a .length) (now (a .out)) (read-full (a .space) (a .view) (a .below)
+    (now (a .maps)) (a .start) (a .length) (length (now (a .out))) (omega arith) (omega arith) (p8 .pre) (omega (arith, p5 .if1 .left)) (refresh-short
+    (a .space) (a .view) (a .below) (now (a .maps)) (c .before .fits2 .ensures) (c .if2 .taken))) (omega arith)
 
 lacks-requires : tie.Need-lacks-requires
 lacks-requires c κs =
@@ -84,9 +72,9 @@ returns-3 c =
     let f = refreshed (viewOf (a .space) (a .view) (a .below) (now (a .maps))) (belowOf (a .space) (a .view) (a .below) (now (a .maps))) in
     let fit = refresh-enough (a .space) (a .view) (a .below) (now (a .maps)) (p4 .fits2 .ensures) (p3 .if2 .left) in
     let short = slice-short f (a .start) (a .length) (length (now (a .out))) (c .before .lacks .ensures) (c .if3 .taken) in
-    refused-both 17 (countOf (piecesOf f (a .start) (a .length))) (refreshedMaps (a .space) (a .view) (a .below) (now (a .maps))) (now (a .maps))
-    (listedIn (piecesOf f (a .start) (a .length)) (now (a .out))) (now (a .out)) (read-long (a .space) (a .view) (a .below) (now (a .maps))
-    (a .start) (a .length) (length (now (a .out))) (omega arith) (omega arith) (p11 .pre) (omega (arith, p8 .if1 .left)) fit short) (omega arith)
+    refused-read 17 (a .space) (a .view) (a .below) (now (a .maps)) (a .start) (a .length) (now (a .out)) (read-long (a .space) (a .view) (a .below)
+    (now (a .maps)) (a .start) (a .length) (length (now (a .out))) (omega arith) (omega arith) (p11 .pre) (omega (arith, p8 .if1 .left)) fit short)
+    (omega arith)
 
 refresh-requires : tie.Need-refresh-requires
 refresh-requires c κs =
@@ -121,8 +109,8 @@ list-requires c κs =
       ),
     )
 
-cast-t11 : tie.Need-cast-t11
-cast-t11 c =
+cast-listed : tie.Need-cast-listed
+cast-listed c =
     let p7 = c .before .before .before .before .before .before .before in
     let p12 = p7 .before .before .before .before .before in
     let p13 = p12 .before in
@@ -158,10 +146,11 @@ returns-4 c =
     let enough = slice-enough f (a .start) (a .length) (length (now (a .out))) (p10 .lacks .ensures) (p9 .if3 .left) in
     let fresh = pieces-fresh (a .space) (a .view) (a .below) (now (a .maps)) (p20 .pre) fit (p7 .refresh .ensures) (a .start) (a .length)
     (omega (arith, p17 .if1 .left, p20 .fits .start)) in
-    read-done (a .space) (a .view) (a .below) (now (a .maps)) (a .start) (a .length) (length (now (a .out))) (omega (arith, p20 .fits .start))
+    let t = read-done (a .space) (a .view) (a .below) (now (a .maps)) (a .start) (a .length) (length (now (a .out))) (omega (arith, p20 .fits .start))
     (omega (arith, p20 .fits .length)) (p20 .pre) (omega (arith, p17 .if1 .left, p20 .fits .start)) fit (now (a .out)) enough
     (p2 .list .ensures .0 ∙ ap (λ (l : List Run). length l) fresh) (p7 .refresh .ensures)
-    (p2 .list .ensures .1 ∙ ap (λ (l : List Run). listedIn l (now (a .out))) fresh)
+    (p2 .list .ensures .1 ∙ ap (λ (l : List Run). listedIn l (now (a .out))) fresh) in
+    record { answer = t .0; left = t .1 .0; listed = t .1 .1 }
 
 pub read-spec : {M : Type 1} → statement M
 read-spec =
@@ -179,7 +168,7 @@ read-spec =
     returns-3
     refresh-requires
     list-requires
-    cast-t11
+    cast-listed
     same-length-3
     same-length-4
     returns-4)

@@ -6,6 +6,7 @@ use Rattle.extents.specs.Entries.{writtenThroughMaps}
 use mathlib.Core.Bool.{false}
 use Rattle.extents.specs.declared.Answer.the-variants.{Done}
 use denote.Ref.{now}
+use mathlib.Core.Path.{refl}
 use native.Mathlib.Omega.{arith}
 use Rattle.extents_pair.proofs.Pairing.{two-told}
 use Rattle.extents.proofs.lawful.write_through.Statement.{statement}
@@ -58,7 +59,7 @@ own-runs-requires c κs =
 fits-requires : tie.Need-fits-requires
 fits-requires c κs =
     let p7 = c .before .before .before .before .before .before .before in
-    (p7 .pre, (omega arith, omega arith, c .before .own-runs .ensures))
+    (p7 .pre, (refl, omega arith, c .before .own-runs .ensures))
 
 same-length : tie.Need-same-length
 same-length c = search needs
@@ -82,7 +83,7 @@ fits-requires-2 : tie.Need-fits-requires-2
 fits-requires-2 c κs =
     let p4 = c .before .before .before .before in
     let p10 = p4 .before .before .before .before .before .before in
-    (p10 .pre, (omega arith, omega arith, p4 .own-runs .ensures))
+    (p10 .pre, (refl, omega arith, p4 .own-runs .ensures))
 
 same-length-2 : tie.Need-same-length-2
 same-length-2 c = search needs

@@ -10,6 +10,7 @@ use Rattle.extents_map.proofs.Listing.{Listing, list-start, list-length
 use Rattle.extents_map.proofs.list.list.Statement.{statement}
 use Rattle.extents_map.proofs.list.list.Tie as tie
 
+-- The n pieces of the bytes before x are in place, of which the last has the value `last`; the cursor i serves from x on.
 abbrev Inv-loop : tie.InvT-loop
 Inv-loop map from to out₀ x₀ n₀ i₀ last₀ out x n i last = Listing (valuesOf map) from to out₀ out x n last × Passed (runs map) i x
 

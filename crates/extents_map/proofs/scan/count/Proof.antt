@@ -9,11 +9,12 @@ use Rattle.extents_map.proofs.Counting.{Counted, count-start, count-mos
 use Rattle.extents_map.proofs.scan.count.Statement.{statement}
 use Rattle.extents_map.proofs.scan.count.Tie as tie
 
+-- Every turn starts with n runs of the mix counted before byte x, of which the last has the cell `last`; the cursors i and j serve from x on.
 abbrev Inv-loop : tie.InvT-loop
-Inv-loop map below mode from to start end cell x₀ n₀ last₀ i₀ j₀ x n last i j = Counted map below mode from to start end cell x n last i j
+Inv-loop map below mix from to x₀ n₀ last₀ i₀ j₀ x n last i j = Counted map below mix from to x n last i j
 
 abbrev μ-loop : tie.MeasureT-loop
-μ-loop map below mode from to start end cell x₀ n₀ last₀ i₀ j₀ x n last i j = to - x
+μ-loop map below mix from to x₀ n₀ last₀ i₀ j₀ x n last i j = to - x
 
 seek-requires : tie.Need-seek-requires Inv-loop μ-loop
 seek-requires c κs = search needs
@@ -24,7 +25,7 @@ seek-requires-2 c κs = search needs
 loop-holds : tie.Need-loop-holds Inv-loop μ-loop
 loop-holds c =
     let a = c .before .before .before .before .args in
-    count-start (now (a .map)) (now (a .below)) (a .mode) (a .from) (a .to) (a .start) (a .end) (a .cell) _ _
+    count-start (now (a .map)) (now (a .below)) (a .mix) (a .from) (a .to) _ _
     (c .before .seek .ensures) (c .seek2 .ensures)
 
 see-requires : tie.Need-see-requires Inv-loop μ-loop

@@ -7,6 +7,7 @@ use Rattle.extents_map.proofs.Scanning.{Unmarked, marks-start, marks-en
 use Rattle.extents_map.proofs.scan.has_no_marks.Statement.{statement}
 use Rattle.extents_map.proofs.scan.has_no_marks.Tie as tie
 
+-- None of the first i runs has a mark.
 abbrev Inv-loop : tie.InvT-loop
 Inv-loop map space i₀ i = Unmarked map space i
 

@@ -8,6 +8,7 @@ use Rattle.extents_map.proofs.Scanning.{Reached, lawful-none, lawful-st
 use Rattle.extents_map.proofs.scan.is_lawful.Statement.{statement}
 use Rattle.extents_map.proofs.scan.is_lawful.Tie as tie
 
+-- The map is lawful if the runs from run i on are lawful behind a run that ends at `end` with the cell `cell`.
 abbrev Inv-loop : tie.InvT-loop
 Inv-loop map space i₀ end₀ cell₀ i end cell = Reached map space i end cell
 

@@ -8,6 +8,7 @@ use Rattle.extents_map.proofs.Scanning.{Zeros, zero-start, zero-end, ze
 use Rattle.extents_map.proofs.scan.is_zero.Statement.{statement}
 use Rattle.extents_map.proofs.scan.is_zero.Tie as tie
 
+-- The numbers up to place i are all 0 if `bits` is 0.
 abbrev Inv-loop : tie.InvT-loop
 Inv-loop map from bits₀ i₀ bits i = Zeros map from bits i
 

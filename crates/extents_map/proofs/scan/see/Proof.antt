@@ -6,6 +6,7 @@ use Rattle.extents_map.proofs.Scanning.{Looking, see-end, see-stop, see
 use Rattle.extents_map.proofs.scan.see.Statement.{statement}
 use Rattle.extents_map.proofs.scan.see.Tie as tie
 
+-- All runs before run i end at byte x or before.
 abbrev Inv-loop : tie.InvT-loop
 Inv-loop map from x space i₀ i = Looking map i x
 

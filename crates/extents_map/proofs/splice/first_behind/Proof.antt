@@ -14,6 +14,7 @@ use Rattle.extents_map.proofs.Parted.{Reaching, reach-start, reach-next
 use Rattle.extents_map.proofs.splice.first_behind.Statement.{statement}
 use Rattle.extents_map.proofs.splice.first_behind.Tie as tie
 
+-- The range meets the runs from run `first` to run i.
 abbrev Inv-loop : tie.InvT-loop
 Inv-loop map all first end cell i₀ i = Reaching (runs map) first end i
 

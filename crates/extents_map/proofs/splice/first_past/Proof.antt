@@ -7,6 +7,7 @@ use Rattle.extents_map.proofs.Parted.{Past, past-start, past-low, past-
 use Rattle.extents_map.proofs.splice.first_past.Statement.{statement}
 use Rattle.extents_map.proofs.splice.first_past.Tie as tie
 
+-- The first run that ends behind byte x is one from run lo to run hi, or there is none.
 abbrev Inv-loop : tie.InvT-loop
 Inv-loop map all x lo₀ hi₀ lo hi = Past (runs map) x lo hi
 

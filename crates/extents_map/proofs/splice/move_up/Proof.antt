@@ -6,6 +6,7 @@ use Rattle.extents_map.proofs.Moves.{Upward, up-start, up-length, up-ne
 use Rattle.extents_map.proofs.splice.move_up.Statement.{statement}
 use Rattle.extents_map.proofs.splice.move_up.Tie as tie
 
+-- The numbers from place i on are in their new places, and those before i are unchanged.
 abbrev Inv-loop : tie.InvT-loop
 Inv-loop map₀ from end by i₀ map i = Upward map₀ from end by map i
 

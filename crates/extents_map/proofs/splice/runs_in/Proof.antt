@@ -10,6 +10,7 @@ use Rattle.extents_map.proofs.Places.{count-some, count-none}
 use Rattle.extents_map.proofs.splice.runs_in.Statement.{statement}
 use Rattle.extents_map.proofs.splice.runs_in.Tie as tie
 
+-- The number of runs lies between lo and hi.
 abbrev Inv-loop : tie.InvT-loop
 Inv-loop map lo₀ hi₀ lo hi = (lo ≤ length (runs map)) × (length (runs map) ≤ hi) × (hi ≤ spaceIn map)
 

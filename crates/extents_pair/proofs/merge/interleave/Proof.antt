@@ -7,6 +7,7 @@ use Rattle.extents_pair.proofs.Filling.{Filling, fill-start, fill-lengt
 use Rattle.extents_pair.proofs.merge.interleave.Statement.{statement}
 use Rattle.extents_pair.proofs.merge.interleave.Tie as tie
 
+-- The first n runs of the merge, all before byte x, are put; the packed runs from run j on and the published runs from run i on make the rest.
 abbrev Inv-loop : tie.InvT-loop
 Inv-loop maps₀ v w space all others first j₀ n₀ i₀ x₀ maps j n i x = Filling space v w first maps₀ maps j n i x
 
@@ -363,15 +364,15 @@ loop-again-5 c =
     fill-part (s .pre) (l .loop .inv) (i2 .if2 .left) (g .start-of .ensures) (i1 .if1 .left) (i3 .if3 .left) (i4 .if4 .left)
     (q .most .ensures) (c .before .before .before .before .before .least .ensures) (c .before .before .put-run2 .ensures)
 
-mul-clear-from : tie.Need-mul-clear-from Inv-loop μ-loop
-mul-clear-from c =
+mul-clear-between : tie.Need-mul-clear-between Inv-loop μ-loop
+mul-clear-between c =
     let p2 = c .before .before in
     let p4 = p2 .before .before in
     let r = fill-room (p4 .pre) (p2 .loop .inv) in
     omega (arith, p4 .good)
 
-add-clear-from : tie.Need-add-clear-from Inv-loop μ-loop
-add-clear-from c =
+add-clear-between : tie.Need-add-clear-between Inv-loop μ-loop
+add-clear-between c =
     let p2 = c .before .before in
     let p4 = p2 .before .before in
     let r = fill-room (p4 .pre) (p2 .loop .inv) in
@@ -380,22 +381,22 @@ add-clear-from c =
 larger-requires : tie.Need-larger-requires Inv-loop μ-loop
 larger-requires c κs = tt
 
-mul-clear-from-2 : tie.Need-mul-clear-from-2 Inv-loop μ-loop
-mul-clear-from-2 c =
+mul-clear-between-2 : tie.Need-mul-clear-between-2 Inv-loop μ-loop
+mul-clear-between-2 c =
     let p3 = c .before .before .before in
     let p5 = p3 .before .before in
     let r = fill-room (p5 .pre) (p3 .loop .inv) in
     omega (arith, p5 .good, r, p5 .pre .all-in, c .larger .ensures)
 
-add-clear-from-2 : tie.Need-add-clear-from-2 Inv-loop μ-loop
-add-clear-from-2 c =
+add-clear-between-2 : tie.Need-add-clear-between-2 Inv-loop μ-loop
+add-clear-between-2 c =
     let p3 = c .before .before .before in
     let p5 = p3 .before .before in
     let r = fill-room (p5 .pre) (p3 .loop .inv) in
     omega (arith, p5 .good, r, p5 .pre .all-in, c .larger .ensures)
 
-clear-from-requires : tie.Need-clear-from-requires Inv-loop μ-loop
-clear-from-requires c κs =
+clear-between-requires : tie.Need-clear-between-requires Inv-loop μ-loop
+clear-between-requires c κs =
     let p3 = c .before .before .before in
     let p5 = p3 .before .before in
     let r = fill-room (p5 .pre) (p3 .loop .inv) in
@@ -404,45 +405,45 @@ clear-from-requires c κs =
 larger-requires-2 : tie.Need-larger-requires-2 Inv-loop μ-loop
 larger-requires-2 c κs = tt
 
-mul-clear-from-3 : tie.Need-mul-clear-from-3 Inv-loop μ-loop
-mul-clear-from-3 c =
+mul-clear-between-3 : tie.Need-mul-clear-between-3 Inv-loop μ-loop
+mul-clear-between-3 c =
     let p4 = c .before .before .before .before in
     let p8 = p4 .before .before .before .before in
     let p10 = p8 .before .before in
     let r = fill-room (p10 .pre) (p8 .loop .inv) in
-    omega (arith, p10 .good, r, p10 .pre .own-all, p4 .clear-from .kept .0, c .larger2 .ensures)
+    omega (arith, p10 .good, r, p10 .pre .own-all, p4 .clear-between .kept .0, c .larger2 .ensures)
 
-add-clear-from-3 : tie.Need-add-clear-from-3 Inv-loop μ-loop
-add-clear-from-3 c =
+add-clear-between-3 : tie.Need-add-clear-between-3 Inv-loop μ-loop
+add-clear-between-3 c =
     let p4 = c .before .before .before .before in
     let p8 = p4 .before .before .before .before in
     let p10 = p8 .before .before in
     let r = fill-room (p10 .pre) (p8 .loop .inv) in
-    omega (arith, p10 .good, r, p10 .pre .own-all, p4 .clear-from .kept .0, c .larger2 .ensures)
+    omega (arith, p10 .good, r, p10 .pre .own-all, p4 .clear-between .kept .0, c .larger2 .ensures)
 
-mul-clear-from-4 : tie.Need-mul-clear-from-4 Inv-loop μ-loop
-mul-clear-from-4 c =
+mul-clear-between-4 : tie.Need-mul-clear-between-4 Inv-loop μ-loop
+mul-clear-between-4 c =
     let p4 = c .before .before .before .before in
     let p8 = p4 .before .before .before .before in
     let p10 = p8 .before .before in
     let r = fill-room (p10 .pre) (p8 .loop .inv) in
-    omega (arith, p10 .good, r, p10 .pre .own-all, p4 .clear-from .kept .0, c .larger2 .ensures)
+    omega (arith, p10 .good, r, p10 .pre .own-all, p4 .clear-between .kept .0, c .larger2 .ensures)
 
-add-clear-from-4 : tie.Need-add-clear-from-4 Inv-loop μ-loop
-add-clear-from-4 c =
+add-clear-between-4 : tie.Need-add-clear-between-4 Inv-loop μ-loop
+add-clear-between-4 c =
     let p4 = c .before .before .before .before in
     let p8 = p4 .before .before .before .before in
     let p10 = p8 .before .before in
     let r = fill-room (p10 .pre) (p8 .loop .inv) in
-    omega (arith, p10 .good, r, p10 .pre .own-all, p4 .clear-from .kept .0, c .larger2 .ensures)
+    omega (arith, p10 .good, r, p10 .pre .own-all, p4 .clear-between .kept .0, c .larger2 .ensures)
 
-clear-from-requires-2 : tie.Need-clear-from-requires-2 Inv-loop μ-loop
-clear-from-requires-2 c κs =
+clear-between-requires-2 : tie.Need-clear-between-requires-2 Inv-loop μ-loop
+clear-between-requires-2 c κs =
     let p4 = c .before .before .before .before in
     let p8 = p4 .before .before .before .before in
     let p10 = p8 .before .before in
     let r = fill-room (p10 .pre) (p8 .loop .inv) in
-    (omega (arith, r, p10 .pre .own-all, c .larger2 .ensures), omega (arith, r, p4 .clear-from .kept .0))
+    (omega (arith, r, p10 .pre .own-all, c .larger2 .ensures), omega (arith, r, p4 .clear-between .kept .0))
 
 same-length : tie.Need-same-length Inv-loop μ-loop
 same-length c =
@@ -450,7 +451,7 @@ same-length c =
     let p7 = p2 .before .before .before .before .before in
     let p11 = p7 .before .before .before .before in
     let p13 = p11 .before .before in
-    p2 .clear-from2 .kept .0 ∙ p7 .clear-from .kept .0 ∙ fill-length (p13 .pre) (p11 .loop .inv)
+    p2 .clear-between2 .kept .0 ∙ p7 .clear-between .kept .0 ∙ fill-length (p13 .pre) (p11 .loop .inv)
 
 returns : tie.Need-returns Inv-loop μ-loop
 returns c =
@@ -461,8 +462,8 @@ returns c =
     let p10 = p8 .before .before in
     let p11 = p10 .before in
     let p13 = p11 .before .before in
-    fill-end (p13 .pre) (p11 .loop .inv) (p10 .loop-test .left) (p8 .larger .ensures) (p3 .larger2 .ensures) (p7 .clear-from .ensures)
-    (p2 .clear-from2 .ensures)
+    fill-end (p13 .pre) (p11 .loop .inv) (p10 .loop-test .left) (p8 .larger .ensures) (p3 .larger2 .ensures) (p7 .clear-between .ensures)
+    (p2 .clear-between2 .ensures)
 
 pub interleave-spec : {M : Type 1} → statement M
 interleave-spec =
@@ -515,17 +516,17 @@ interleave-spec =
     add-n-2
     loop-less-5
     loop-again-5
-    mul-clear-from
-    add-clear-from
+    mul-clear-between
+    add-clear-between
     larger-requires
-    mul-clear-from-2
-    add-clear-from-2
-    clear-from-requires
+    mul-clear-between-2
+    add-clear-between-2
+    clear-between-requires
     larger-requires-2
-    mul-clear-from-3
-    add-clear-from-3
-    mul-clear-from-4
-    add-clear-from-4
-    clear-from-requires-2
+    mul-clear-between-3
+    add-clear-between-3
+    mul-clear-between-4
+    add-clear-between-4
+    clear-between-requires-2
     same-length
     returns)

@@ -9,6 +9,7 @@ use Rattle.extents_pair.proofs.Marking.{Marking, fit, mark-published-no
 use Rattle.extents_pair.proofs.merge.mark_all_published.Statement.{statement}
 use Rattle.extents_pair.proofs.merge.mark_all_published.Tie as tie
 
+-- The first n runs put and the run in hand are the first i runs marked published and joined; the runs from run i on stand in place.
 abbrev Inv-loop : tie.InvT-loop
 Inv-loop map₀ all start₀ size₀ number₀ n₀ i₀ map start size number n i = Marking map₀ map start size number n i
 
@@ -205,8 +206,8 @@ put-run-requires-2 c κs =
     let r = mark-published-last (now (s .args .map)) (s .pre) (c .before .before .loop .inv) (c .before .loop-test .left) (u .runs-in .ensures) in
     omega (arith, s .good)
 
-mul-clear-from : tie.Need-mul-clear-from Inv-loop μ-loop
-mul-clear-from c =
+mul-clear-between : tie.Need-mul-clear-between Inv-loop μ-loop
+mul-clear-between c =
     let t = c .before .before .before .before .before in
     let l = t .before in
     let u = l .before .before .before .before .before in
@@ -214,8 +215,8 @@ mul-clear-from c =
     let r = mark-published-last (now (s .args .map)) (s .pre) (l .loop .inv) (t .loop-test .left) (u .runs-in .ensures) in
     omega (arith, s .good)
 
-add-clear-from : tie.Need-add-clear-from Inv-loop μ-loop
-add-clear-from c =
+add-clear-between : tie.Need-add-clear-between Inv-loop μ-loop
+add-clear-between c =
     let t = c .before .before .before .before .before in
     let l = t .before in
     let u = l .before .before .before .before .before in
@@ -223,8 +224,8 @@ add-clear-from c =
     let r = mark-published-last (now (s .args .map)) (s .pre) (l .loop .inv) (t .loop-test .left) (u .runs-in .ensures) in
     omega (arith, s .good)
 
-mul-clear-from-2 : tie.Need-mul-clear-from-2 Inv-loop μ-loop
-mul-clear-from-2 c =
+mul-clear-between-2 : tie.Need-mul-clear-between-2 Inv-loop μ-loop
+mul-clear-between-2 c =
     let t = c .before .before .before .before .before in
     let l = t .before in
     let u = l .before .before .before .before .before in
@@ -232,8 +233,8 @@ mul-clear-from-2 c =
     let r = mark-published-last (now (s .args .map)) (s .pre) (l .loop .inv) (t .loop-test .left) (u .runs-in .ensures) in
     omega (arith, s .good)
 
-clear-from-requires : tie.Need-clear-from-requires Inv-loop μ-loop
-clear-from-requires c κs =
+clear-between-requires : tie.Need-clear-between-requires Inv-loop μ-loop
+clear-between-requires c κs =
     let t = c .before .before .before .before .before in
     let l = t .before in
     let u = l .before .before .before .before .before in
@@ -246,7 +247,7 @@ same-length-2 c =
     let p = c .before .before .before .before .before .before in
     let l = p .before .before .before in
     let s = l .before .before .before .before .before .before .before .before in
-    c .before .before .clear-from .kept .0 ∙ p .put-run2 .kept .0 ∙ mark-published-length (now (s .args .map)) (s .pre) (l .loop .inv)
+    c .before .before .clear-between .kept .0 ∙ p .put-run2 .kept .0 ∙ mark-published-length (now (s .args .map)) (s .pre) (l .loop .inv)
 
 returns-2 : tie.Need-returns-2 Inv-loop μ-loop
 returns-2 c =
@@ -256,7 +257,7 @@ returns-2 c =
     let s = u .before .before .before in
     let r = mark-published-last (now (s .args .map)) (s .pre) (l .loop .inv) (t .loop-test .left) (u .runs-in .ensures) in
     mark-published-end (now (s .args .map)) (s .pre) (l .loop .inv) (r .1) (u .runs-in .ensures)
-    (c .before .before .before .before .before .before .put-run2 .ensures) (c .before .before .clear-from .ensures)
+    (c .before .before .before .before .before .before .put-run2 .ensures) (c .before .before .clear-between .ensures)
 
 pub mark-all-published-spec : {M : Type 1} → statement M
 mark-all-published-spec =
@@ -293,9 +294,9 @@ mark-all-published-spec =
     loop-again-2
     mul-put-run-2
     put-run-requires-2
-    mul-clear-from
-    add-clear-from
-    mul-clear-from-2
-    clear-from-requires
+    mul-clear-between
+    add-clear-between
+    mul-clear-between-2
+    clear-between-requires
     same-length-2
     returns-2)

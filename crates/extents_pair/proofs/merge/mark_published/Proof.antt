@@ -10,6 +10,7 @@ use Rattle.extents_pair.proofs.Clearing.{Clearing, clear-start, clear-r
 use Rattle.extents_pair.proofs.merge.mark_published.Statement.{statement}
 use Rattle.extents_pair.proofs.merge.mark_published.Tie as tie
 
+-- None of the first i runs is unpublished, `left` others are, and every byte marked published is as it was at the start.
 abbrev Inv-loop : tie.InvT-loop
 Inv-loop map₀ own left₀ i₀ map left i = Clearing map₀ map left i
 

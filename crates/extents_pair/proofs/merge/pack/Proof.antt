@@ -5,6 +5,7 @@ use Rattle.extents_pair.proofs.Gathering.{Gathering, gather-start, gath
 use Rattle.extents_pair.proofs.merge.pack.Statement.{statement}
 use Rattle.extents_pair.proofs.merge.pack.Tie as tie
 
+-- The unpublished ones of the runs from run i on stand from place `to` to the end, and the places before are unchanged.
 abbrev Inv-loop : tie.InvT-loop
 Inv-loop map₀ all i₀ to₀ map i to = Gathering map₀ map i to
 

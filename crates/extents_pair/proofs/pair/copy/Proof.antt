@@ -11,6 +11,7 @@ use Rattle.extents_pair.proofs.Sharing.{rows-apart}
 use Rattle.extents_pair.proofs.pair.copy.Statement.{statement}
 use Rattle.extents_pair.proofs.pair.copy.Tie as tie
 
+-- The first i numbers of the map are copied, and no other number of the slice has changed.
 abbrev Inv-loop : tie.InvT-loop
 Inv-loop maps₀ space j k size from to there here end i₀ maps i = ((i ≤ end) × (end ≤ size)) × Copied from to i maps₀ maps
 

@@ -7,14 +7,14 @@ use lib.ListN.{length}
 use denote.Ref.{now}
 use Rattle.extents_meaning.specs.Runs.{runsFrom}
 use Rattle.extents_meaning.specs.Maps.{bytesOf, lawful}
-use Rattle.extents_map.specs.Mixes.{mix}
+use Rattle.extents_map.specs.Mixes.{mixIn}
 use Rattle.extents_pair.proofs.Pairing.{Told, two-told, map-lent}
 use Rattle.extents_pair.proofs.pair.count.Statement.{statement}
 use Rattle.extents_pair.proofs.pair.count.Tie as tie
 
 -- what is known of the two maps
-told : (c : tie.Start) → let a = c .args in Told (a .space) (a .view) (a .below) (now (a .maps))
-told c = let a = c .args in two-told (a .space) (a .view) (a .below) (now (a .maps)) (c .pre .0)
+told : (c : tie.Start) → let a = c .args in Told (a .pair .space) (a .pair .view) (a .pair .below) (now (a .maps))
+told c = let a = c .args in two-told (a .pair .space) (a .pair .view) (a .pair .below) (now (a .maps)) (c .pre .0)
 
 mul-size : tie.Need-mul-size
 mul-size c = omega (arith, told (c .before) .view-in)
@@ -59,17 +59,17 @@ count-requires : tie.Need-count-requires
 count-requires c κs =
     let c1 = c .before .before .before in
     let a = c1 .args in
-    let v = map-lent (a .space) (a .view) (now (a .maps)) in
-    let w = map-lent (a .space) (a .below) (now (a .maps)) in
+    let v = map-lent (a .pair .space) (a .pair .view) (now (a .maps)) in
+    let w = map-lent (a .pair .space) (a .pair .below) (now (a .maps)) in
     ((ap lawful v ∙ told c1 .view-law, ap lawful w ∙ told c1 .below-law), c1 .pre .1)
 
 returns : tie.Need-returns
 returns c =
     let a = c .before .before .before .before .args in
-    let v = map-lent (a .space) (a .view) (now (a .maps)) in
-    let w = map-lent (a .space) (a .below) (now (a .maps)) in
+    let v = map-lent (a .pair .space) (a .pair .view) (now (a .maps)) in
+    let w = map-lent (a .pair .space) (a .pair .below) (now (a .maps)) in
     c .count .ensures
-    ∙ (λ i. length (runsFrom (a .to - a .from) (a .from) (mix (a .mode) (a .start) (a .end - a .start) (a .cell) (bytesOf (v i)) (bytesOf (w i)))))
+    ∙ (λ i. length (runsFrom (a .to - a .from) (a .from) (mixIn (a .mix) (bytesOf (v i)) (bytesOf (w i)))))
 
 pub count-spec : {M : Type 1} → statement M
 count-spec =

@@ -9,7 +9,7 @@ use denote.Ref.{now}
 use Rattle.extents_meaning.specs.Cells.{Bytes}
 use Rattle.extents_meaning.specs.Runs.{runsFrom}
 use Rattle.extents_map.specs.Mixes.{mix}
-use Rattle.extents_meaning.specs.Pairs.{viewOf, belowOf}
+use Rattle.extents_pair.specs.InPairs.{viewIn, belowIn}
 use Rattle.extents_pair.proofs.Bounds.{all-most}
 use Rattle.extents_pair.proofs.pair.fits.Statement.{statement}
 use Rattle.extents_pair.proofs.pair.fits.Tie as tie
@@ -21,11 +21,9 @@ returns : tie.Need-returns
 returns c =
     let p3 = c .before .before .before in
     let a = p3 .args in
-    let n = a .end - a .start in
-    let f : Bytes = mix (a .mode) (a .start) n (a .cell) (viewOf (a .space) (a .view) (a .below) (now (a .maps))) (belowOf (a .space) (a .view)
-    (a .below) (now (a .maps))) in
-    let most = all-most f (c .before .most-runs .ensures (a .start) n (a .cell)) in
-    sym (le-leb (length (runsFrom (4294967295 - 0) 0 f)) (a .space) (omega (arith, most, c .if1 .taken)))
+    let f : Bytes = mix (a .mode) (a .start) (a .end - a .start) (a .cell) (viewIn (a .pair) (now (a .maps))) (belowIn (a .pair) (now (a .maps))) in
+    let most = all-most f (c .before .most-runs .ensures (a .start) (a .end - a .start) (a .cell)) in
+    sym (le-leb (length (runsFrom (4294967295 - 0) 0 f)) (a .pair .space) (omega (arith, most, c .if1 .taken)))
 
 count-requires : tie.Need-count-requires
 count-requires c κs =
@@ -35,7 +33,7 @@ count-requires c κs =
 returns-2 : tie.Need-returns-2
 returns-2 c =
     let p4 = c .before .before .before .before in
-    let a = p4 .args in ap (λ (n : ℕ). leb n (a .space)) (c .count .ensures)
+    let a = p4 .args in ap (λ (n : ℕ). leb n (a .pair .space)) (c .count .ensures)
 
 pub fits-spec : {M : Type 1} → statement M
 fits-spec = tie.close (tie.spec most-runs-requires returns count-requires returns-2)

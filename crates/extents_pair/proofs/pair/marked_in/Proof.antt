@@ -10,6 +10,7 @@ use Rattle.extents_pair.proofs.Bounds.{Tally, tally-none, tally-few, ta
 use Rattle.extents_pair.proofs.pair.marked_in.Statement.{statement}
 use Rattle.extents_pair.proofs.pair.marked_in.Tie as tie
 
+-- Of the first i runs n are unpublished.
 abbrev Inv-loop : tie.InvT-loop
 Inv-loop map all n₀ i₀ n i = Tally map n i
 

@@ -27,7 +27,7 @@ view-fit c =
     let a = c .before .before .before .before .args in
     leb-true ((a .view + 1) * (4 * a .space)) (length (now (a .maps))) (view-room c)
 
--- and for the second
+-- There is room for the second map.
 below-room : (c : tie.Else3) → let a = c .before .before .before .before .before .before .args in
     leb ((a .below + 1) * (4 * a .space)) (length (now (a .maps))) ≡ true
 below-room c = sym (c .before .has-map2 .ensures) ∙ not-false (c .before .has-map2 .result) (c .if3 .left)

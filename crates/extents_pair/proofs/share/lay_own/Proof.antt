@@ -7,9 +7,8 @@ use mathlib.Core.List.{List}
 use lib.ListN.{length, drop}
 use denote.Ref.{now}
 use Rattle.extents_meaning.specs.Cells.{cleared}
-use Rattle.extents_meaning.specs.Maps.{runs, bytesOf}
+use Rattle.extents_meaning.specs.Maps.{runs, bytesOf, partAt}
 use Rattle.extents_pair.specs.Packing.{marked}
-use Rattle.extents_pair.specs.RangeWrites.{partAt}
 use Rattle.extents_pair.proofs.Bounds.{laid}
 use Rattle.extents_pair.proofs.Parts.{Holds, holds-start, holds-length, lent-view, lent-lawful, lent-below}
 use Rattle.extents_pair.proofs.Passing.{lent-run}
@@ -17,6 +16,7 @@ use Rattle.extents_pair.proofs.Laying.{lay-start, lay-skip, lay-fine, l
 use Rattle.extents_pair.proofs.share.lay_own.Statement.{statement}
 use Rattle.extents_pair.proofs.share.lay_own.Tie as tie
 
+-- The slice holds the published map with the unpublished runs from run i on laid over it.
 abbrev Inv-loop : tie.InvT-loop
 Inv-loop maps₀ size v w i₀ maps i =
     (i ≤ length (runs (partAt v size maps₀))) × (length maps ≡ length maps₀)

@@ -6,13 +6,14 @@ use mathlib.Core.Path.{_≡_, refl, sym, ap, _∙_}
 use mathlib.Core.List.{List}
 use lib.ListN.{length}
 use denote.Ref.{now}
-use Rattle.extents_meaning.specs.Maps.{runs, bytesOf}
-use Rattle.extents_pair.specs.RangeWrites.{partAt, withBytes}
+use Rattle.extents_meaning.specs.Maps.{runs, bytesOf, partAt}
+use Rattle.extents_pair.specs.RangeWrites.{withBytes}
 use Rattle.extents_pair.proofs.Parts.{Holds, holds-start, holds-length, lent-view, lent-lawful, lent-below}
 use Rattle.extents_pair.proofs.Passing.{state, lent-run, down-start, down-next, down-skip, down-none}
 use Rattle.extents_pair.proofs.share.pass_down.Statement.{statement}
 use Rattle.extents_pair.proofs.share.pass_down.Tie as tie
 
+-- The slice holds the published map after the pass down of the runs from run i on.
 abbrev Inv-loop : tie.InvT-loop
 Inv-loop maps₀ size v w lo hi i₀ maps i =
     (i ≤ length (runs (partAt v size maps₀))) × (length maps ≡ length maps₀)

@@ -6,13 +6,14 @@ use mathlib.Core.Path.{_≡_, refl, sym, ap, _∙_}
 use mathlib.Core.List.{List}
 use lib.ListN.{length}
 use denote.Ref.{now}
-use Rattle.extents_meaning.specs.Maps.{runs}
-use Rattle.extents_pair.specs.RangeWrites.{partAt, withBytes, passedUp}
+use Rattle.extents_meaning.specs.Maps.{runs, partAt}
+use Rattle.extents_pair.specs.RangeWrites.{withBytes, passedUp}
 use Rattle.extents_pair.proofs.Parts.{Holds, holds-start, holds-length, lent-view, lent-lawful, lent-below}
 use Rattle.extents_pair.proofs.Passing.{state, state-end, lent-run, up-none, up-start, up-skip, up-fine, up-fit, up-next}
 use Rattle.extents_pair.proofs.share.pass_up.Statement.{statement}
 use Rattle.extents_pair.proofs.share.pass_up.Tie as tie
 
+-- The slice holds the bytes to be left, with the runs from run i on still passed down.
 abbrev Inv-loop : tie.InvT-loop
 Inv-loop maps₀ size v w lo hi all i₀ maps i =
     (all ≡ length (runs (partAt v size maps₀))) × (i ≤ all) × (length maps ≡ length maps₀)
