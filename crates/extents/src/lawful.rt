@@ -2,7 +2,7 @@
 use crate::Answer;
 use extents_map::scan::Mix;
 use extents_map::scan::Mode;
-use extents_pair::pair::Pair;
+use extents_pair::Pair;
 use rows::refusal;
 ghost use Prim.Native.Nat.{_-_, _≤_};
 ghost use mathlib.Core.Path.{_≡_};
@@ -89,18 +89,18 @@ pub fn publish(maps: &mut [u32], space: usize, view: usize, below: usize) -> Ans
     requires { ⌜ twoMaps space view below (now maps) ≡ true ⌝ }
     ensures { λ r. ⌜ PublishEntry space view below (now (maps .entry)) r (now (maps .exit)) ⌝ }
 {
-    let own = extents_pair::pair::own_runs(maps, space, view);
+    let own = extents_pair::own_runs(maps, space, view);
     let pair = Pair {
         space: space,
         view: view,
         below: below,
         own: own,
     };
-    if !extents_pair::pair::fits(maps, pair, Mode::Publish, 0, 0, 0) {
+    if !extents_pair::fits(maps, pair, Mode::Publish, 0, 0, 0) {
         return Answer::Refused(refusal::MAP_SPACE);
     }
-    extents_pair::share::share(maps, pair, 0, 0, 0);
-    extents_pair::pair::mark_published(maps, space, view, own);
+    extents_publish::share(maps, pair, 0, 0, 0);
+    extents_refresh::mark_published(maps, space, view, own);
     Answer::Done
 }
 
@@ -109,17 +109,17 @@ pub fn refresh(maps: &mut [u32], space: usize, view: usize, below: usize) -> Ans
     requires { ⌜ twoMaps space view below (now maps) ≡ true ⌝ }
     ensures { λ r. ⌜ RefreshEntry space view below (now (maps .entry)) r (now (maps .exit)) ⌝ }
 {
-    let own = extents_pair::pair::own_runs(maps, space, view);
+    let own = extents_pair::own_runs(maps, space, view);
     let pair = Pair {
         space: space,
         view: view,
         below: below,
         own: own,
     };
-    if !extents_pair::pair::fits(maps, pair, Mode::Refresh, 0, 0, 0) {
+    if !extents_pair::fits(maps, pair, Mode::Refresh, 0, 0, 0) {
         return Answer::Refused(refusal::MAP_SPACE);
     }
-    extents_pair::merge::refresh(maps, space, view, below, own);
+    extents_refresh::refresh(maps, space, view, below, own);
     Answer::Done
 }
 
@@ -128,18 +128,18 @@ pub fn sync(maps: &mut [u32], space: usize, view: usize, below: usize) -> Answer
     requires { ⌜ twoMaps space view below (now maps) ≡ true ⌝ }
     ensures { λ r. ⌜ SyncEntry space view below (now (maps .entry)) r (now (maps .exit)) ⌝ }
 {
-    let own = extents_pair::pair::own_runs(maps, space, view);
+    let own = extents_pair::own_runs(maps, space, view);
     let pair = Pair {
         space: space,
         view: view,
         below: below,
         own: own,
     };
-    if !extents_pair::pair::fits(maps, pair, Mode::Publish, 0, 0, 0) {
+    if !extents_pair::fits(maps, pair, Mode::Publish, 0, 0, 0) {
         return Answer::Refused(refusal::MAP_SPACE);
     }
-    extents_pair::share::share(maps, pair, 0, 0, 0);
-    extents_pair::pair::copy(maps, space, below, view);
+    extents_publish::share(maps, pair, 0, 0, 0);
+    extents_refresh::copy(maps, space, below, view);
     Answer::Done
 }
 
@@ -167,23 +167,23 @@ pub fn write_through(
     }
     let end = start + length;
     let cell = number * 2;
-    let own = extents_pair::pair::own_runs(maps, space, view);
+    let own = extents_pair::own_runs(maps, space, view);
     let pair = Pair {
         space: space,
         view: view,
         below: below,
         own: own,
     };
-    if !extents_pair::pair::fits(maps, pair, Mode::Publish, start, end, cell) {
+    if !extents_pair::fits(maps, pair, Mode::Publish, start, end, cell) {
         return Answer::Refused(refusal::MAP_SPACE);
     }
-    if !extents_pair::pair::fits(maps, pair, Mode::MarkPublished, start, end, cell) {
+    if !extents_pair::fits(maps, pair, Mode::MarkPublished, start, end, cell) {
         return Answer::Refused(refusal::MAP_SPACE);
     }
-    extents_pair::share::share(maps, pair, start, end, number);
-    extents_pair::pair::mark_published(maps, space, view, own);
+    extents_publish::share(maps, pair, start, end, number);
+    extents_refresh::mark_published(maps, space, view, own);
     if start < end {
-        extents_pair::pair::lay(maps, space, view, start, end, cell);
+        extents_pair::lay(maps, space, view, start, end, cell);
     }
     Answer::Done
 }
@@ -205,21 +205,21 @@ pub fn read(
         return Answer::Refused(refusal::RANGE_END);
     }
     let end = start + length;
-    let own = extents_pair::pair::own_runs(maps, space, view);
+    let own = extents_pair::own_runs(maps, space, view);
     let pair = Pair {
         space: space,
         view: view,
         below: below,
         own: own,
     };
-    if !extents_pair::pair::fits(maps, pair, Mode::Refresh, 0, 0, 0) {
+    if !extents_pair::fits(maps, pair, Mode::Refresh, 0, 0, 0) {
         return Answer::Refused(refusal::MAP_SPACE);
     }
-    if extents_pair::pair::lacks(maps, pair, start, end, out.len() / 3) {
+    if extents_pair::lacks(maps, pair, start, end, out.len() / 3) {
         return Answer::Refused(refusal::ANSWER_SPACE);
     }
-    extents_pair::merge::refresh(maps, space, view, below, own);
-    let n = extents_pair::pair::list(maps, space, view, start, end, out);
+    extents_refresh::refresh(maps, space, view, below, own);
+    let n = extents_pair::list(maps, space, view, start, end, out);
     let listed = n as u32;
     Answer::Listed(listed)
 }

@@ -52,7 +52,7 @@ pub fn list_range(map: &[u32], start: u32, length: u32, out: &mut [u32]) -> Answ
 pub fn publish(maps: &mut [u32], space: usize, view: usize, below: usize) -> Answer
     ensures { λ r. ⌜ PublishEntry space view below (now (maps .entry)) r (now (maps .exit)) ⌝ }
 {
-    if !extents_pair::pair::two_maps(maps, space, view, below) {
+    if !extents_pair::two_maps(maps, space, view, below) {
         return Answer::Refused(refusal::STATE);
     }
     lawful::publish(maps, space, view, below)
@@ -62,7 +62,7 @@ pub fn publish(maps: &mut [u32], space: usize, view: usize, below: usize) -> Ans
 pub fn refresh(maps: &mut [u32], space: usize, view: usize, below: usize) -> Answer
     ensures { λ r. ⌜ RefreshEntry space view below (now (maps .entry)) r (now (maps .exit)) ⌝ }
 {
-    if !extents_pair::pair::two_maps(maps, space, view, below) {
+    if !extents_pair::two_maps(maps, space, view, below) {
         return Answer::Refused(refusal::STATE);
     }
     lawful::refresh(maps, space, view, below)
@@ -72,7 +72,7 @@ pub fn refresh(maps: &mut [u32], space: usize, view: usize, below: usize) -> Ans
 pub fn sync(maps: &mut [u32], space: usize, view: usize, below: usize) -> Answer
     ensures { λ r. ⌜ SyncEntry space view below (now (maps .entry)) r (now (maps .exit)) ⌝ }
 {
-    if !extents_pair::pair::two_maps(maps, space, view, below) {
+    if !extents_pair::two_maps(maps, space, view, below) {
         return Answer::Refused(refusal::STATE);
     }
     lawful::sync(maps, space, view, below)
@@ -90,7 +90,7 @@ pub fn write_through(
 ) -> Answer
     ensures { λ r. ⌜ WriteThroughEntry space view below (now (maps .entry)) start length number r (now (maps .exit)) ⌝ }
 {
-    if !extents_pair::pair::two_maps(maps, space, view, below) {
+    if !extents_pair::two_maps(maps, space, view, below) {
         return Answer::Refused(refusal::STATE);
     }
     lawful::write_through(maps, space, view, below, start, length, number)
@@ -108,7 +108,7 @@ pub fn read(
 ) -> Answer
     ensures { λ r. ⌜ ReadEntry space view below (now (maps .entry)) start length (now (out .entry)) r (now (maps .exit)) (now (out .exit)) ⌝ }
 {
-    if !extents_pair::pair::two_maps(maps, space, view, below) {
+    if !extents_pair::two_maps(maps, space, view, below) {
         return Answer::Refused(refusal::STATE);
     }
     lawful::read(maps, space, view, below, start, length, out)

@@ -18,10 +18,19 @@ use Rattle.extents_meaning.specs.Maps.{mapOf, mapFor, spaceIn, runs, bytesOf, l
 use Rattle.extents_meaning.proofs.Longest.{runs-back}
 use Rattle.extents_meaning.proofs.Trips.{lawful-map}
 use Rattle.rows.proofs.Bools.{and-out}
+use Rattle.rows.proofs.Products.{block-before}
 use Rattle.extents_meaning.proofs.Sides.{part-is, with-part}
 use Rattle.extents_meaning.specs.Pairs.{twoMaps}
 use Rattle.extents_pair.proofs.Parts.{lent, home, part-length, laid-fit}
 use Rattle.extents_pair.proofs.Spots.{zero-behind}
+
+-- Maps of different numbers in a slice of maps of n numbers each stand apart.
+pub rows-apart : (k j n : ℕ) → (k ≡ j → ⊥) → (k * n + n ≤ j * n) ⊎ (j * n + n ≤ k * n)
+rows-apart k j n h = go (decLt k j)
+  where
+    go : Dec (k < j) → (k * n + n ≤ j * n) ⊎ (j * n + n ≤ k * n)
+    go (yes l) = inl (block-before n l)
+    go (no l) = inr (block-before n (omega arith))
 
 -- ---- Is there room for a map?
 

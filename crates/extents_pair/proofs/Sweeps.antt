@@ -11,7 +11,7 @@ use Rattle.extents_meaning.specs.Cells.{Bytes, inRange, overwrite}
 use Rattle.extents_meaning.specs.Runs.{runsOf}
 use Rattle.extents_meaning.proofs.Longest.{Fine}
 use Rattle.extents_meaning.proofs.Passes.{over-in, over-before, over-behind, pass-down}
-use Rattle.extents_pair.specs.declared.share.RangeWrite.{RangeWrite}
+use Rattle.extents_pair.specs.declared.RangeWrite.{RangeWrite}
 use Rattle.extents_pair.specs.RangeWrites.{filled, downs}
 
 -- ---- One range

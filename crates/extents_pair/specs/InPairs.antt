@@ -8,7 +8,7 @@ use Rattle.extents_meaning.specs.Cells.{Bytes}
 use Rattle.extents_meaning.specs.Maps.{runs, mapAt}
 use Rattle.extents_meaning.specs.Pairs.{twoMaps, viewOf, belowOf}
 use Rattle.extents_pair.specs.Packing.{marked}
-use Rattle.extents_pair.specs.declared.pair.Pair.{Pair}
+use Rattle.extents_pair.specs.declared.Pair.{Pair}
 
 module _ (p : Pair) (xs : List ℕ) where
   -- Both maps are lawful, the second without marks.

@@ -8,7 +8,7 @@ use lib.ListN.{length}
 use Rattle.extents_meaning.specs.Cells.{Bytes, unpublished, cleared, inRange, overwrite, published}
 use Rattle.extents_meaning.specs.Runs.{Run, runsOf}
 use Rattle.extents_meaning.specs.Maps.{mapFor, runs, bytesOf, lawful, partAt, withPart}
-use Rattle.extents_pair.specs.declared.share.RangeWrite.{RangeWrite}
+use Rattle.extents_pair.specs.declared.RangeWrite.{RangeWrite}
 
 -- ---- Ranges to be written
 

@@ -1,0 +1,5 @@
+pub mod Overwriting
+pub mod Taking
+pub mod Passing
+pub mod Laying
+pub mod Sharing
