@@ -33,7 +33,7 @@ pub fn write(map: &mut [u32], start: u32, length: u32, number: u32, unpublished:
     if length == 0 {
         return Answer::Done;
     }
-    if extents_map::splice::lay(map, start, start + length, cell_of(number, unpublished)) {
+    if extents_lay::lay(map, start, start + length, cell_of(number, unpublished)) {
         Answer::Done
     } else {
         Answer::Refused(refusal::MAP_SPACE)
@@ -72,7 +72,7 @@ fn lacks(map: &[u32], from: u32, to: u32, room: usize) -> bool
     requires { ⌜ (lawful (now map) ≡ true) × (from ≤ to) ⌝ }
     ensures { λ r. ⌜ r ≡ ltb room (length (piecesOf (bytesOf (now (map .entry))) from (to - from))) ⌝ }
 {
-    if extents_map::splice::runs_in(map) < room / 2 {
+    if extents_map::locate::runs_in(map) < room / 2 {
         return false;
     }
     let pieces = Mix {

@@ -2,6 +2,4 @@ pub mod Scanning
 pub mod Counting
 pub mod Parted
 pub mod Places
-pub mod Moves
-pub mod Ranges
 pub mod Listing

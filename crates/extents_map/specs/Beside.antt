@@ -6,7 +6,7 @@ use lib.ListN.{length, getD, drop}
 use Rattle.rows.specs.Limits.{OFFSET-MAX}
 use Rattle.extents_meaning.specs.Runs.{Run, runOf, cellAt, Rising}
 use Rattle.extents_map.specs.Cursors.{partOf}
-use Rattle.extents_map.specs.declared.splice.Side.{Side}
+use Rattle.extents_map.specs.declared.locate.Side.{Side}
 
 abbrev pub endOf : Run → ℕ
 endOf r = r .start + r .length

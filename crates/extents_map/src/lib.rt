@@ -1,4 +1,4 @@
-// The code of one map of pieces: scanning a map, laying a range, listing pieces. The functions have preconditions and serve the crates above.
+// The code of one map of pieces: scanning it, finding runs, listing pieces. Its functions have preconditions and serve the crates above.
 pub mod list;
+pub mod locate;
 pub mod scan;
-pub mod splice;

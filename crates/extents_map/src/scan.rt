@@ -165,8 +165,8 @@ pub fn seek(map: &[u32], x: u32) -> usize
     requires { ⌜ lawful (now map) ≡ true ⌝ }
     ensures { λ r. ⌜ Passed (runs (now (map .entry))) r x ⌝ }
 {
-    let all = crate::splice::runs_in(map);
-    crate::splice::first_past(map, all, x)
+    let all = crate::locate::runs_in(map);
+    crate::locate::first_past(map, all, x)
 }
 
 // What a mix makes of the cells of two maps, a view and the published map.

@@ -126,10 +126,10 @@ fn most_runs(maps: &[u32], pair: Pair, mode: Mode) -> usize
     let size = 4 * space;
     let v = view * size;
     if is_mark_published(mode) {
-        return extents_map::splice::runs_in(&maps[v..v + size]) + 2;
+        return extents_map::locate::runs_in(&maps[v..v + size]) + 2;
     }
     let w = below * size;
-    extents_map::splice::runs_in(&maps[w..w + size]) + 2 * own + 2
+    extents_map::locate::runs_in(&maps[w..w + size]) + 2 * own + 2
 }
 
 // Does the mode mark the view published?
@@ -170,7 +170,7 @@ fn marked_in(map: &[u32]) -> usize
     requires { ⌜ lawful (now map) ≡ true ⌝ }
     ensures { λ r. ⌜ r ≡ length (marked (runs (now (map .entry)))) ⌝ }
 {
-    let all = extents_map::splice::runs_in(map);
+    let all = extents_map::locate::runs_in(map);
     let mut n = 0;
     let mut i = 0;
     while i < all {
@@ -190,7 +190,7 @@ pub fn lay(maps: &mut [u32], space: usize, k: usize, start: u32, end: u32, cell:
 {
     let size = 4 * space;
     let at = k * size;
-    extents_map::splice::lay(&mut maps[at..at + size], start, end, cell);
+    extents_lay::lay(&mut maps[at..at + size], start, end, cell);
 }
 
 // Puts the pieces of a range of a map into a slice that has room for them.

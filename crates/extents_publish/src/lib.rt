@@ -37,7 +37,7 @@ pub fn share(maps: &mut [u32], pair: Pair, start: u32, end: u32, number: u32)
         put(&mut maps[w..w + size], start, end, cell);
         return;
     }
-    if extents_map::splice::runs_in(&maps[w..w + size]) + 2 * own + 2 <= space {
+    if extents_map::locate::runs_in(&maps[w..w + size]) + 2 * own + 2 <= space {
         lay_own(maps, size, v, w);
         put(&mut maps[w..w + size], start, end, cell);
         return;
@@ -57,7 +57,7 @@ fn lay_own(maps: &mut [u32], size: usize, v: usize, w: usize)
     ensures { λ _. ⌜ now (maps .exit) ≡ withBytes size w
         (published (bytesOf (partAt v size (now (maps .entry)))) (bytesOf (partAt w size (now (maps .entry))))) (now (maps .entry)) ⌝ }
 {
-    let mut i = extents_map::splice::runs_in(&maps[v..v + size]);
+    let mut i = extents_map::locate::runs_in(&maps[v..v + size]);
     while 0 < i {
         i -= 1;
         if is_own(&maps[v..v + size], i) {
@@ -75,7 +75,7 @@ fn pass_down(maps: &mut [u32], size: usize, v: usize, w: usize, lo: u32, hi: u32
     if hi <= lo {
         return;
     }
-    let mut i = extents_map::splice::runs_in(&maps[v..v + size]);
+    let mut i = extents_map::locate::runs_in(&maps[v..v + size]);
     while 0 < i {
         i -= 1;
         if is_own(&maps[v..v + size], i) {
@@ -93,7 +93,7 @@ fn pass_up(maps: &mut [u32], size: usize, v: usize, w: usize, lo: u32, hi: u32)
     if hi <= lo {
         return;
     }
-    let all = extents_map::splice::runs_in(&maps[v..v + size]);
+    let all = extents_map::locate::runs_in(&maps[v..v + size]);
     let mut i = 0;
     while i < all {
         let k = i;
@@ -145,7 +145,7 @@ fn fill(map: &mut [u32], start: u32, end: u32)
         return;
     }
     let cell = cell_behind(map, end);
-    extents_map::splice::lay(map, start, end, cell);
+    extents_lay::lay(map, start, end, cell);
 }
 
 // Gives a range a cell, where the map fits then.
@@ -155,7 +155,7 @@ fn put(map: &mut [u32], start: u32, end: u32, cell: u32)
     ensures { λ _. ⌜ now (map .exit) ≡ mapFor (spaceIn (now (map .entry))) (overwrite start (end - start) cell (bytesOf (now (map .entry)))) ⌝ }
 {
     if start < end {
-        extents_map::splice::lay(map, start, end, cell);
+        extents_lay::lay(map, start, end, cell);
     }
 }
 

@@ -65,7 +65,7 @@ fn mark_all_published(map: &mut [u32])
     requires { ⌜ lawful (now map) ≡ true ⌝ }
     ensures { λ _. ⌜ now (map .exit) ≡ mapFor (spaceIn (now (map .entry))) (asPublished (bytesOf (now (map .entry)))) ⌝ }
 {
-    let all = extents_map::splice::runs_in(map);
+    let all = extents_map::locate::runs_in(map);
     if all == 0 {
         return;
     }
@@ -91,7 +91,7 @@ fn mark_all_published(map: &mut [u32])
         }
     }
     put_run(map, n * 4, start, size, number, 0);
-    extents_map::splice::clear_between(map, n * 4 + 4, all * 4);
+    extents_lay::clear_between(map, n * 4 + 4, all * 4);
 }
 
 // Does a run that starts at a byte follow an end at once, with the same row?
@@ -151,8 +151,8 @@ pub fn refresh(maps: &mut [u32], space: usize, view: usize, below: usize, own: u
     let size = space * 4;
     let v = view * size;
     let w = below * size;
-    let all = extents_map::splice::runs_in(&maps[v..v + size]);
-    let others = extents_map::splice::runs_in(&maps[w..w + size]);
+    let all = extents_map::locate::runs_in(&maps[v..v + size]);
+    let others = extents_map::locate::runs_in(&maps[w..w + size]);
     let first = pack(&mut maps[v..v + size], all);
     interleave(maps, v, w, space, all, others, first);
 }
@@ -206,8 +206,8 @@ fn interleave(
             }
         }
     }
-    extents_map::splice::clear_between(maps, v + n * 4, v + larger(n, all) * 4);
-    extents_map::splice::clear_between(maps, v + larger(n, first) * 4, v + space * 4);
+    extents_lay::clear_between(maps, v + n * 4, v + larger(n, all) * 4);
+    extents_lay::clear_between(maps, v + larger(n, first) * 4, v + space * 4);
 }
 
 // The larger of two numbers.
@@ -248,8 +248,8 @@ pub fn copy(maps: &mut [u32], space: usize, j: usize, k: usize)
     let size = 4 * space;
     let from = j * size;
     let to = k * size;
-    let there = extents_map::splice::runs_in(&maps[from..from + size]);
-    let here = extents_map::splice::runs_in(&maps[to..to + size]);
+    let there = extents_map::locate::runs_in(&maps[from..from + size]);
+    let here = extents_map::locate::runs_in(&maps[to..to + size]);
     let end = larger(there, here) * 4;
     let mut i = 0;
     while i < end {

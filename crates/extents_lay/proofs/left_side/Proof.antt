@@ -1,0 +1,59 @@
+-- `extents_lay::left_side` meets its contract.
+use borrow.Author.Needs.{needs}
+use native.Mathlib.Omega.{arith}
+use mathlib.Core.Path.{sym, _∙_}
+use denote.Ref.{now}
+use Rattle.rows.specs.Limits.{OFFSET-MAX}
+use Rattle.extents_meaning.specs.Runs.{Rising}
+use Rattle.extents_meaning.specs.Maps.{runs}
+use Rattle.extents_meaning.proofs.Trips.{lawful-map}
+use Rattle.extents_map.proofs.Parted.{left-none, left-clear, left-join, left-rest}
+use Rattle.extents_lay.proofs.left_side.Statement.{statement}
+use Rattle.extents_lay.proofs.left_side.Tie as tie
+
+-- the runs are in order
+order : (c : tie.Start) → Rising OFFSET-MAX 0 0 (runs (now (c .args .map)))
+order c = lawful-map (now (c .args .map)) (c .pre .0 .0) .lawful-runs .in-order
+
+returns : tie.Need-returns
+returns c =
+    let s = c .before .before in
+    left-none (order s) (s .pre .0 .2) (s .pre .1 (c .if1 .taken))
+
+start-at-requires : tie.Need-start-at-requires
+start-at-requires c κs = let s = c .before .before in (s .pre .0 .0, omega (arith, s .pre .0 .1, c .if1 .left))
+
+returns-2 : tie.Need-returns-2
+returns-2 c =
+    let s = c .before .before .before .before in
+    let f = c .before .before .if1 .left in
+    left-clear (order s) (s .pre .0 .2) (omega (arith, s .pre .0 .1)) (omega (arith, c .before .start-at .ensures, c .if2 .taken))
+
+cell-at-requires : tie.Need-cell-at-requires
+cell-at-requires c κs = let s = c .before .before .before .before in (s .pre .0 .0, omega (arith, s .pre .0 .1, c .before .before .if1 .left))
+
+returns-3 : tie.Need-returns-3
+returns-3 c =
+    let s = c .before .before .before .before .before .before in
+    let f = c .before .before .before .before .if1 .left in
+    let e = c .before .before .before .start-at .ensures in
+    rw e
+    (left-join (order s) (s .pre .0 .2) (omega (arith, s .pre .0 .1)) (omega (arith, e, c .before .before .if2 .left))
+    (sym (c .before .cell-at .ensures) ∙ c .if3 .taken))
+
+sub-t9 : tie.Need-sub-t9
+sub-t9 c = search needs
+
+returns-4 : tie.Need-returns-4
+returns-4 c =
+    let s = c .before .before .before .before .before .before in
+    let f = c .before .before .before .before .if1 .left in
+    let e = c .before .before .before .start-at .ensures in
+    let v = c .before .cell-at .ensures in
+    rw (e, v)
+    (left-rest (order s) (s .pre .0 .2) (omega (arith, s .pre .0 .1)) (omega (arith, e, c .before .before .if2 .left)) (λ q. c .if3 .left (v ∙ q)))
+
+pub left-side-spec : {M : Type 1} → statement M
+left-side-spec =
+    tie.close
+    (tie.spec returns start-at-requires returns-2 cell-at-requires returns-3 sub-t9 returns-4)
