@@ -205,4 +205,3 @@ pub fn list(maps: &[u32], space: usize, k: usize, from: u32, to: u32, out: &mut 
     let at = k * size;
     extents_map::list::list(&maps[at..at + size], from, to, out)
 }
-

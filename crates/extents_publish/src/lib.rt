@@ -15,7 +15,8 @@ ghost use Rattle.extents_map.specs.declared.scan.Mode.the-variants.{Publish};
 ghost use Rattle.extents_pair.specs.Packing.{marked};
 ghost use Rattle.extents_pair.specs.InPairs.{twoMapsIn, viewIn, belowIn, OwnCounted};
 ghost use Rattle.extents_pair.specs.RangeWrites.{clamped, rangeWrite, filled, withBytes, MapsApart, passedDown, passedUp, PassUpReady};
-use crate::pair::Pair;
+use extents_pair::Pair;
+use extents_pair::RangeWrite;
 
 // Publishes a view and a range of a row number, 0 where the range is empty, on a published map that fits then.
 pub fn share(maps: &mut [u32], pair: Pair, start: u32, end: u32, number: u32)
