@@ -19,7 +19,14 @@ fn put_answer(text: &[u8], header: u32) {
     let rows: &mut [u32] = &mut row_space;
     let mut count_space = [7u16; 32];
     let counts: &mut [u16] = &mut count_space;
-    match checker::judge(text, header, 1, 16, 2, 8192, rows, counts) {
+    let call = trace::Call {
+        header,
+        model: 1,
+        row_limit: 16,
+        process_limit: 2,
+        byte_limit: 8192,
+    };
+    match checker::judge(text, call, rows, counts) {
         Judged::Free(n) => {
             put_number(n);
             put(b" rows: free\n");

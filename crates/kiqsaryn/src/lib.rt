@@ -16,6 +16,7 @@ use machine::Made;
 use machine_state::Machine;
 use races::Found;
 use rows::Row;
+use trace::Call;
 use trace::Checked;
 
 // Checks a trace, as trace::check_trace does. The answer is the row count of an accepted trace, below 2^32, and of a refusal its number
@@ -35,16 +36,14 @@ pub extern "C" fn kiqsaryn_check_trace(
         (checkTrace (now (text .entry)) header model «row_limit» «process_limit» «byte_limit» (length (now (rows .entry))) (length (now (counts .entry))))
         r (now (rows .entry)) (now (rows .exit)) (now (counts .entry)) (now (counts .exit)) ⌝ }
 {
-    match trace::check_trace(
-        text,
+    let call = Call {
         header,
         model,
         row_limit,
         process_limit,
         byte_limit,
-        rows,
-        counts,
-    ) {
+    };
+    match trace::check_trace(text, call, rows, counts) {
         Checked::Accepted(n) => n as u64,
         Checked::Refused(number, place) => number as u64 * 4294967296 + place as u64,
     }
@@ -68,16 +67,14 @@ pub extern "C" fn kiqsaryn_judge(
         (checkTrace (now (text .entry)) header model «row_limit» «process_limit» «byte_limit» (length (now (rows .entry))) (length (now (counts .entry))))
         r (now (rows .entry)) (now (rows .exit)) (now (counts .entry)) (now (counts .exit)) ⌝ }
 {
-    match checker::judge(
-        text,
+    let call = Call {
         header,
         model,
         row_limit,
         process_limit,
         byte_limit,
-        rows,
-        counts,
-    ) {
+    };
+    match checker::judge(text, call, rows, counts) {
         Judged::Free(n) => n as u64,
         Judged::Race(n, earlier, later) => {
             n as u64 + later as u64 * 65536 + earlier as u64 * 4294967296
