@@ -28,6 +28,7 @@ use extents::Answer;
 use machine::Made;
 use machine_state::Machine;
 use rows::Row;
+use trace::Call;
 
 const STDIN: i32 = 0;
 
@@ -234,7 +235,14 @@ fn run_judge(line: &[u8]) {
     let counts: &mut [u16] = &mut count_space;
     put(b" ");
     let header = with_digit(0, true, byte_at(line, HEADER_AT));
-    put_judged(checker::judge(&space[..n], header, 1, 16, 2, 8192, rows, counts));
+    let call = Call {
+        header,
+        model: 1,
+        row_limit: 16,
+        process_limit: 2,
+        byte_limit: 8192,
+    };
+    put_judged(checker::judge(&space[..n], call, rows, counts));
 }
 
 fn store(maps: &mut [u32], at: usize, value: u32) {

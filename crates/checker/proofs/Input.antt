@@ -1,4 +1,4 @@
--- The program's input buffer: its first bytes are a text, and the text behind its last byte does not matter.
+-- The program's input buffer: the report of a text is the report of the bytes that the buffer holds.
 use Prim.Native.Nat.{ℕ, _*_, _≤_, _<_}
 use native.Mathlib.Omega.{arith}
 use mathlib.Core.Path.{_≡_, sym, ap, subst}
@@ -18,14 +18,14 @@ use Rattle.checker.proofs.Reports.{Front}
 pub part-length : (n : ℕ) (input : List ℕ) → n < length input → n ≡ length (take n input)
 part-length n input h = sym (length-take-le n input (omega arith))
 
--- the whole buffer is its first n bytes where it has no more
+-- the first n bytes of a buffer with no more bytes are the whole buffer
 pub whole-report : (n : ℕ) (input out out′ : List ℕ) (r : ℕ) → length input ≤ n →
     (r ≡ reportLength input out) × ((out′ ≡ reportIn input out) × Front r out′) →
     (r ≡ reportLength (take n input) out) × ((out′ ≡ reportIn (take n input) out) × Front r out′)
 whole-report n input out out′ r h p =
     subst (λ text. (r ≡ reportLength text out) × ((out′ ≡ reportIn text out) × Front r out′)) (sym (take-all n input h)) p
 
--- a text is judged by its first bytes where these are more than the byte limit
+-- a text has the outcome of its first m bytes where m is more than the byte limit
 checked-cut : (text : List ℕ) (header model rowLimit processLimit byteLimit rowsLength countsLength m : ℕ) → byteLimit < m →
     checkTrace (take m text) header model rowLimit processLimit byteLimit rowsLength countsLength
     ≡ checkTrace text header model rowLimit processLimit byteLimit rowsLength countsLength

@@ -1,4 +1,4 @@
--- Lines laid one behind the other, and how long they are.
+-- Lines laid one behind the other, and their lengths.
 use Prim.Native.Nat.{ℕ, zero, suc, _+_, _/_, _≤_}
 use native.Mathlib.Omega.{arith}
 use mathlib.Core.Path.{_≡_, sym, ap, _∙_}
@@ -14,7 +14,7 @@ use Rattle.checker.specs.Report.{lineEnd, raceWord, pair, verdictWords, 
 
 -- ---- Lengths
 
--- a number has at most as many digits as are looked for
+-- widthWithin counts at most k digits
 width-most : (k n : ℕ) → widthWithin k n ≤ k
 unfolding widthWithin
 width-most zero n = omega arith
@@ -28,7 +28,7 @@ width-most (suc k) n = go (ltb n 10) (width-most k (n / 10))
 number-most : (n : ℕ) → length (decimalOf n) ≤ 10
 number-most n = omega (arith, number-length n, width-most 10 n)
 
--- two numbers have at most 23 with their comma and the line's end
+-- two numbers with their comma and the line's end have at most 23 bytes
 pub pair-most : (a b : ℕ) → length (pair a b) ≤ 23
 pair-most a b =
     omega (
@@ -39,12 +39,12 @@ pair-most a b =
       length-append (decimalOf b) lineEnd,
     )
 
--- a verdict has at most 29
+-- a verdict has at most 29 bytes
 words-most : (v : Verdict) → length (verdictWords v) ≤ 29
 words-most free = omega arith
 words-most (racing earlier later) = omega (arith, pair-most earlier later, length-append raceWord (pair earlier later))
 
--- a model's line has at most 29 behind the model's name
+-- a model's line has at most 29 bytes behind the model's name
 pub line-most : (name : List ℕ) (v : Verdict) → length (modelLine name v) ≤ length name + 29
 line-most name v = omega (arith, words-most v, length-append name (verdictWords v))
 

@@ -25,12 +25,12 @@ use Rattle.checker.proofs.Verdicts.{passes-other, outcome, told, rows-a
 
 -- ---- A model's line
 
--- an answer tells the verdict
+-- the answer Free tells the verdict free
 free-told : (v : Verdict) → Free ≡ verdictFound v → v ≡ free
 free-told free e = refl
 free-told (racing earlier later) e = let z : _≡_ {A = ℕ} 0 1 = cc in absurd (omega arith)
 
--- and its numbers
+-- the answer Race tells the verdict of that race
 race-told : (v : Verdict) {earlier later : ℕ} → Race earlier later ≡ verdictFound v → v ≡ racing earlier later
 race-told free e = let z : _≡_ {A = ℕ} 0 1 = cc in absurd (omega arith)
 race-told (racing earlier later) e = cc
@@ -43,24 +43,24 @@ never-refused (racing earlier later) e = let z : _≡_ {A = ℕ} 0 1 = cc in ome
 module _ (xs : List ℕ) (at : ℕ) (name rows : List ℕ) (n model L : ℕ)
     (pre : ((at + 40 ≤ length xs) × (length name ≤ 8)) × (firstNo (judgeQuestions n 8 model rows L) ≡ 0)) {mid : ℕ} {ys : List ℕ}
     (put : (mid ≡ putEnd xs at name) × (ys ≡ putIn xs at name)) where
-  -- the verdict that is printed
+  -- the verdict of the rows under the model
   abbrev verdict : Verdict
   verdict = verdictOf (rowsIn n rows) model
 
-  -- the answer, whatever it is called, is its answer
+  -- an answer that equals what races::verdict answers tells the verdict
   answer-told : {f g : Found} → f ≡ foundOf (firstNo (judgeQuestions n 8 model rows L)) rows n model → f ≡ g → g ≡ verdictFound verdict
   answer-told e h = sym h ∙ e ∙ ap (λ (first : ℕ). foundOf first rows n model) (pre .1)
 
-  -- the name is laid
+  -- the slice holds the name
   named : Laid xs at name mid ys
   named = put-laid xs at name put (omega arith)
 
-  -- the verdict's words behind the name
+  -- the verdict's words behind the name are the model's line
   line : {v : Verdict} {end : ℕ} {zs : List ℕ} → verdict ≡ v → Laid ys mid (verdictWords v) end zs →
       (end ≡ at + length (modelLine name verdict)) × (zs ≡ lay xs at (modelLine name verdict))
   line e l = let all = then named l in rw e (all .behind, all .whole)
 
-  -- free
+  -- the line of a free trace
   pub free-line : {f : Found} → f ≡ foundOf (firstNo (judgeQuestions n 8 model rows L)) rows n model → f ≡ Free → {end : ℕ} {zs : List ℕ} →
       (end ≡ putEnd ys mid (freeWords ++ lineEnd)) × (zs ≡ putIn ys mid (freeWords ++ lineEnd)) →
       (end ≡ at + length (modelLine name verdict)) × (zs ≡ lay xs at (modelLine name verdict))
@@ -69,7 +69,7 @@ module _ (xs : List ℕ) (at : ℕ) (name rows : List ℕ) (n model L : ℕ)
       (put-laid ys mid (freeWords ++ lineEnd) p (omega (arith, named .behind, laid-length named)))
 
   module _ {word : ℕ} {zs : List ℕ} (p : (word ≡ putEnd ys mid raceWord) × (zs ≡ putIn ys mid raceWord)) where
-    -- the word is laid behind the name
+    -- the slice holds the word behind the name
     raced : Laid ys mid raceWord word zs
     raced = put-laid ys mid raceWord p (omega (arith, named .behind, laid-length named))
 
@@ -77,7 +77,7 @@ module _ (xs : List ℕ) (at : ℕ) (name rows : List ℕ) (n model L : ℕ)
     pub race-room : word + 23 ≤ length zs
     race-room = omega (arith, named .behind, laid-length named, raced .behind, laid-length raced)
 
-    -- a race
+    -- the line of a race
     pub race-line : {f : Found} → f ≡ foundOf (firstNo (judgeQuestions n 8 model rows L)) rows n model → {earlier later : ℕ} → f ≡ Race earlier later →
         {end : ℕ} {ws : List ℕ} → (end ≡ word + length (pair earlier later)) × (ws ≡ lay zs word (pair earlier later)) →
         (end ≡ at + length (modelLine name verdict)) × (ws ≡ lay xs at (modelLine name verdict))
@@ -92,12 +92,12 @@ module _ (xs : List ℕ) (at : ℕ) (name rows : List ℕ) (n model L : ℕ)
 
 -- ---- The four lines
 
--- some bytes laid from the front on, at most k
+-- the slice holds some bytes, at most k, from the front on
 record Sofar (xs w : List ℕ) (k end : ℕ) (ys : List ℕ) : Type 0 where
   laid : Laid xs 0 w end ys
   most : length w ≤ k
 
--- a model's line behind them
+-- a model's line behind the bytes so far
 more : {xs w : List ℕ} {k mid : ℕ} {ys : List ℕ} → Sofar xs w k mid ys → (name : List ℕ) (v : Verdict) → k + (length name + 29) ≤ length xs →
     {end : ℕ} {zs : List ℕ} → (end ≡ mid + length (modelLine name v)) × (zs ≡ lay ys mid (modelLine name v)) →
     Sofar xs (w ++ modelLine name v) (k + (length name + 29)) end zs
@@ -113,7 +113,7 @@ more {xs} {w} {k} {mid} {ys} s name v h p =
 next : {xs w : List ℕ} {k end : ℕ} {ys : List ℕ} → Sofar xs w k end ys → k + 40 ≤ length xs → end + 40 ≤ length ys
 next s h = omega (arith, s .most, s .laid .behind, laid-length (s .laid))
 
--- five parts, from the left or from the right
+-- five parts joined from the left are the parts joined from the right
 regroup : (a b c d e : List ℕ) → (((a ++ b) ++ c) ++ d) ++ e ≡ a ++ (b ++ (c ++ (d ++ e)))
 regroup a b c d e = simp append-assoc
 
@@ -122,47 +122,47 @@ module _ (xs rows : List ℕ) (n L : ℕ) (pre : (256 ≤ length xs) × (firstNo
   abbrev of : ℕ → Verdict
   of model = verdictOf (rowsIn n rows) model
 
-  -- a model's line is laid
+  -- a model's line stands behind the bytes so far
   abbrev Adds : List ℕ → ℕ → List ℕ → ℕ → ℕ → List ℕ → Type 0
   Adds name model ys at end zs = (end ≡ at + length (modelLine name (of model))) × (zs ≡ lay ys at (modelLine name (of model)))
 
   module _ {a : ℕ} {ys : List ℕ} (h : (a ≡ putEnd xs 0 heading) × (ys ≡ putIn xs 0 heading)) where
-    -- the heading is laid
+    -- the slice holds the heading
     head : Sofar xs heading 29 a ys
     head = record { laid = put-laid xs 0 heading h (omega arith); most = omega arith }
 
-    -- what the first model's line asks for
+    -- what put_model requires of the first line
     pub first-asks : ((a + 40 ≤ length ys) × (length posix ≤ 8)) × (firstNo (judgeQuestions n 8 0 rows L) ≡ 0)
     first-asks = ((next head (omega arith), omega arith), pre .1)
 
     module _ {b : ℕ} {zs : List ℕ} {M : ℕ} (p : Adds posix 0 ys a b zs) (l : M ≡ L) where
-      -- one line is laid
+      -- the slice holds one line
       one : Sofar xs (heading ++ modelLine posix (of 0)) 63 b zs
       one = more head posix (of 0) (omega arith) p
 
-      -- what the second asks for
+      -- what put_model requires of the second line
       pub second-asks : ((b + 40 ≤ length zs) × (length commit ≤ 8)) × (firstNo (judgeQuestions n 8 1 rows M) ≡ 0)
       second-asks = ((next one (omega arith), omega arith), passes-other n 8 0 1 rows (omega arith) (omega arith) (pre .1) l)
 
       module _ {c : ℕ} {us : List ℕ} {N : ℕ} (q : Adds commit 1 zs b c us) (m : N ≡ M) where
-        -- two lines are laid
+        -- the slice holds two lines
         two : Sofar xs ((heading ++ modelLine posix (of 0)) ++ modelLine commit (of 1)) 98 c us
         two = more one commit (of 1) (omega arith) q
 
-        -- what the third asks for
+        -- what put_model requires of the third line
         pub third-asks : ((c + 40 ≤ length us) × (length session ≤ 8)) × (firstNo (judgeQuestions n 8 2 rows N) ≡ 0)
         third-asks = ((next two (omega arith), omega arith), passes-other n 8 0 2 rows (omega arith) (omega arith) (pre .1) (m ∙ l))
 
         module _ {d : ℕ} {vs : List ℕ} {O : ℕ} (r : Adds session 2 us c d vs) (o : O ≡ N) where
-          -- three lines are laid
+          -- the slice holds three lines
           three : Sofar xs (((heading ++ modelLine posix (of 0)) ++ modelLine commit (of 1)) ++ modelLine session (of 2)) 134 d vs
           three = more two session (of 2) (omega arith) r
 
-          -- what the fourth asks for
+          -- what put_model requires of the fourth line
           pub fourth-asks : ((d + 40 ≤ length vs) × (length mpiio ≤ 8)) × (firstNo (judgeQuestions n 8 3 rows O) ≡ 0)
           fourth-asks = ((next three (omega arith), omega arith), passes-other n 8 0 3 rows (omega arith) (omega arith) (pre .1) (o ∙ m ∙ l))
 
-          -- all of them are the report
+          -- the heading and four lines are the report
           pub lines-laid : {e : ℕ} {ws : List ℕ} → Adds mpiio 3 vs d e ws →
               (e ≡ length (reportOf (accepted (rowsIn n rows)))) × (ws ≡ lay xs 0 (reportOf (accepted (rowsIn n rows))))
           unfolding reportOf
@@ -173,7 +173,7 @@ module _ (xs rows : List ℕ) (n L : ℕ) (pre : (256 ≤ length xs) × (firstNo
 
 -- ---- The whole report
 
--- as many bytes at the front as there are
+-- a slice has r bytes at its front
 abbrev pub Front : ℕ → List ℕ → Type 0
 Front n ys = (n ≤ length ys) × (n ≡ length (take n ys))
 
@@ -201,12 +201,12 @@ report-most (accepted rows) =
       line-most mpiio (verdictOf rows 3),
     )
 
--- a slice that is too short
+-- the report of a slice that is too short
 pub report-short : (text out : List ℕ) → length out < 256 → (0 ≡ reportLength text out) × ((out ≡ reportIn text out) × Front 0 out)
 unfolding reportLength reportIn
 report-short text out h = rw (lt-leb 256 (length out) h) (refl, (refl, front 0 out (omega arith)))
 
--- an outcome's report at the front
+-- the report of an outcome at the front of a slice
 report-laid : (text out : List ℕ) {o : Outcome} → 256 ≤ length out → o ≡ readByProgram text → {end : ℕ} {ys : List ℕ} →
     (end ≡ length (reportOf o)) × (ys ≡ lay out 0 (reportOf o)) → (end ≡ reportLength text out) × ((ys ≡ reportIn text out) × Front end ys)
 unfolding reportLength reportIn
@@ -218,7 +218,7 @@ report-laid text out {o} h q {end} {ys} p =
     rw (le-leb 256 (length out) h, ← q) (p .0, (p .1 ∙ ap (λ (k : ℕ). w ++ drop k out) (zero-add (length w)), r))
 
 module _ (out : List ℕ) (h : 256 ≤ length out) {mid : ℕ} {us : List ℕ} (p : (mid ≡ putEnd out 0 refusedWord) × (us ≡ putIn out 0 refusedWord)) where
-  -- the refusal's word is laid
+  -- the slice holds the refusal's word
   word : Laid out 0 refusedWord mid us
   word = put-laid out 0 refusedWord p (omega arith)
 
@@ -226,7 +226,7 @@ module _ (out : List ℕ) (h : 256 ≤ length out) {mid : ℕ} {us : List ℕ} (
   pub refusal-room : mid + 23 ≤ length us
   refusal-room = omega (arith, word .behind, laid-length word)
 
-  -- the refusal's line
+  -- the slice holds the refusal's line
   refusal-laid : (k place : ℕ) {end : ℕ} {ws : List ℕ} → (end ≡ mid + length (pair k place)) × (ws ≡ lay us mid (pair k place)) →
       (end ≡ length (reportOf (refused k place))) × (ws ≡ lay out 0 (reportOf (refused k place)))
   unfolding reportOf
@@ -234,23 +234,23 @@ module _ (out : List ℕ) (h : 256 ≤ length out) {mid : ℕ} {us : List ℕ} (
       let all = then word (record { fit = omega (arith, refusal-room, pair-most k place); behind = q .0; whole = q .1 }) in
       (all .behind ∙ zero-add _, all .whole)
 
--- what check_trace leaves of the program's slices
+-- The report, by what check_trace leaves of the program's slices.
 module _ (text out : List ℕ) (h : 256 ≤ length out) (xs us : List ℕ) (rows-long : length xs ≡ 768) (counts-long : length us ≡ 1024)
     {a : Checked} {ys vs : List ℕ}
     (l : Leaves (outcome text 1 0 128 8 8192 xs us) a xs ys us vs) where
-  -- slices of these lengths are what the program's limits ask for
+  -- the outcome with slices of these lengths is the outcome within the program's limits
   reads : outcome text 1 0 128 8 8192 xs us ≡ readByProgram text
   unfolding readByProgram
   reads = rw (rows-long, counts-long)
 
-  -- a refusal's report
+  -- the report of a refusal
   pub report-refused : {k place : ℕ} → a ≡ checked.Refused k place → {mid end : ℕ} {ts ws : List ℕ} →
       (mid ≡ putEnd out 0 refusedWord) × (ts ≡ putIn out 0 refusedWord) → (end ≡ mid + length (pair k place)) × (ws ≡ lay ts mid (pair k place)) →
       (end ≡ reportLength text out) × ((ws ≡ reportIn text out) × Front end ws)
   report-refused {k} {place} e p q =
       report-laid text out h (sym (refused-told (outcome text 1 0 128 8 8192 xs us) (sym e ∙ l .answered)) ∙ reads) (refusal-laid out h p k place q)
 
-  -- an accepted trace's report
+  -- the report of an accepted trace
   pub report-accepted : {n : ℕ} → a ≡ checked.Accepted n → {end : ℕ} {ws : List ℕ} →
       (end ≡ length (reportOf (accepted (rowsIn n ys)))) × (ws ≡ lay out 0 (reportOf (accepted (rowsIn n ys)))) →
       (end ≡ reportLength text out) × ((ws ≡ reportIn text out) × Front end ws)

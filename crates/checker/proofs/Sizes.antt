@@ -1,4 +1,4 @@
--- The numbers of what the whole call answers are small.
+-- The numbers in an answer of the whole call are small.
 use Prim.Native.Nat.{ℕ, _≤_, _<_}
 use native.Mathlib.Omega.{arith}
 use mathlib.Core.Path.{_≡_, refl}
@@ -32,6 +32,7 @@ verdict-small rows model h = go (verdictOf rows model) refl
         let o = race-out rows model x y (f .is-race) in
         (h, omega arith, omega arith)
 
+-- every answer of the whole call is small
 pub judged-small : (text : List ℕ) (header model R P limit a b : ℕ) → Small (judgedOf model (checkTrace text header model R P limit a b))
 judged-small text header model R P limit a b = go (checkTrace text header model R P limit a b) refl
   where

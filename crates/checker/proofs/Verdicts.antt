@@ -1,4 +1,4 @@
--- An accepted trace passes the questions of the verdict, and what the whole call decides.
+-- The whole call: an accepted trace passes the questions of the verdict, and the verdict's answer is the call's.
 use Prim.Native.Nat.{ℕ, _*_, _-_, _≤_, _<_}
 use native.Mathlib.Omega.{arith}
 use native.Mathlib.Nat.{mul-le-mul-right}
@@ -31,7 +31,7 @@ use Rattle.checker.specs.Judging.{judgedRows, Decides}
 
 -- ---- The questions of the verdict
 
--- what passes the questions under one model passes them under every other
+-- rows that pass the questions under one model pass them under every other
 pub passes-other : (n P model model′ : ℕ) (xs : List ℕ) {L L′ : ℕ} → model < MODELS → model′ < MODELS →
     firstNo (judgeQuestions n P model xs L) ≡ 0 → L′ ≡ L → firstNo (judgeQuestions n P model′ xs L′) ≡ 0
 passes-other n P model model′ xs {L} {L′} m m′ e q =
@@ -39,23 +39,23 @@ passes-other n P model model′ xs {L} {L′} m m′ e q =
 
 -- ---- What the whole call decides
 
--- the answer of the verdict with the row count
+-- the answer of the whole call, by the answer of the verdict and the row count
 abbrev pub judgedAs : ℕ → Found → Judged
 judgedAs n found.Free = Free n
 judgedAs n (found.Race earlier later) = Race n earlier later
 judgedAs n (found.Refused k) = Refused k 0
 
--- so a verdict's answer becomes what the whole call is to answer
+-- the answer of the whole call, by the verdict
 judged-found : (n : ℕ) (v : Verdict) → judgedAs n (verdictFound v) ≡ judgedRows n v
 judged-found n free = refl
 judged-found n (racing earlier later) = refl
 
 module _ (text : List ℕ) (header model R P limit : ℕ) (xs us : List ℕ) where
-  -- what the text comes to
+  -- the outcome of the text
   abbrev pub outcome : Outcome
   outcome = checkTrace text header model R P limit (length xs) (length us)
 
-  -- a refusal is the answer
+  -- the whole call answers a refusal of the trace
   pub decides-refused : {a : Checked} {ys vs : List ℕ} {k p : ℕ} → Leaves outcome a xs ys us vs → a ≡ checked.Refused k p →
       Decides model P outcome (Refused k p) xs ys us vs
   decides-refused l q =
@@ -72,15 +72,15 @@ module _ (text : List ℕ) (header model R P limit : ℕ) (xs us : List ℕ) whe
     pub told : (rows : List Row) × (outcome ≡ accepted rows) × (n ≡ length rows)
     told = accepted-told outcome (sym q ∙ l .answered)
 
-    -- the slice that is left holds them, then 0
+    -- the rows' slice holds the accepted rows, then 0
     rows-there : ys ≡ rowsLeft (accepted (told .0)) xs
     rows-there = l .rows-left ∙ ap (λ (o : Outcome). rowsLeft o xs) (told .1)
 
-    -- they are read back from it
+    -- the first n rows of the slice are the accepted rows
     pub rows-again : rowsIn n ys ≡ told .0
     rows-again = (λ i. rowsIn (told .2 i) (rows-there i)) ∙ rows-left-back (told .0) xs
 
-    -- they pass the questions of the verdict
+    -- the accepted rows pass the questions of the verdict
     passes-left : firstNo (judgeQuestions n P model ys (length us)) ≡ 0
     passes-left =
         let rows = told .0 in
@@ -101,15 +101,15 @@ module _ (text : List ℕ) (header model R P limit : ℕ) (xs us : List ℕ) whe
               λ k h. rw (sym (row-in n k ys h) ∙ ap (λ (x : List Row). rowAt x k) rows-again) (sound-row (s .1) k (omega arith) .process);
         })
 
-    -- the counts are as many as before
+    -- the counts' slice keeps its length
     counts-length : length vs ≡ length us
     counts-length = ap length (l .counts-left ∙ ap (λ (o : Outcome). countsLeft o us) (told .1)) ∙ length-replicate (length us) 0
 
-    -- so they pass them with the counts that are left
+    -- the accepted rows pass the questions of the verdict with the counts' slice as check_trace leaves it
     pub passes-again : firstNo (judgeQuestions n P model ys (length vs)) ≡ 0
     passes-again = rw counts-length passes-left
 
-    -- with the verdict's answer, whatever it is called, and its counts the whole call decides
+    -- the whole call answers and leaves what the verdict answers and leaves
     pub decides : {f g : Found} {ws : List ℕ} →
         (f ≡ foundOf (firstNo (judgeQuestions n P model ys (length vs))) ys n model)
         × (ws ≡ filledLeft (firstNo (judgeQuestions n P model ys (length vs))) n P ys vs) →

@@ -1,4 +1,4 @@
--- The whole call on a text: what it answers, and what it leaves of the lent slices.
+-- What the whole call on a text answers, and what the call leaves of the lent slices.
 use Prim.Native.Nat.{ℕ, _-_, _*_}
 use mathlib.Core.Path.{_≡_}
 use mathlib.Core.List.{List, _++_}
@@ -24,7 +24,7 @@ abbrev pub countsKept : ℕ → Outcome → List ℕ → List ℕ
 countsKept processLimit (refused number place) xs = refusalLeaves number xs
 countsKept processLimit (accepted rows) xs = countsOf processLimit rows ++ replicate (length xs - length rows * processLimit) 0
 
--- what a call answers, and what it leaves of the rows' slice and of the counts'
+-- what a call answers, and what the call leaves of the rows' slice and of the counts' slice
 pub record Decides (model processLimit : ℕ) (o : Outcome) (answer : Judged) (rows rows′ counts counts′ : List ℕ) : Type 0 where
   pub answered : answer ≡ judgedOf model o
   pub rows-left : rows′ ≡ rowsLeft o rows

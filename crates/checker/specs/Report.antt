@@ -12,6 +12,7 @@ use Rattle.races_meaning.specs.Races.{Verdict, free, racing, verdictOf}
 
 -- ---- Words
 
+-- CR LF
 abbrev pub lineEnd : List ℕ
 lineEnd = 13 ∷ 10 ∷ []
 
@@ -22,15 +23,19 @@ heading =
     ++ ((118 ∷ 101 ∷ 114 ∷ 100 ∷ 105 ∷ 99 ∷ 116 ∷ 44 ∷ [])
     ++ ((101 ∷ 97 ∷ 114 ∷ 108 ∷ 105 ∷ 101 ∷ 114 ∷ 44 ∷ []) ++ ((108 ∷ 97 ∷ 116 ∷ 101 ∷ 114 ∷ []) ++ lineEnd)))
 
+-- posix
 abbrev pub posix : List ℕ
 posix = 112 ∷ 111 ∷ 115 ∷ 105 ∷ 120 ∷ []
 
+-- commit
 abbrev pub commit : List ℕ
 commit = 99 ∷ 111 ∷ 109 ∷ 109 ∷ 105 ∷ 116 ∷ []
 
+-- session
 abbrev pub session : List ℕ
 session = 115 ∷ 101 ∷ 115 ∷ 115 ∷ 105 ∷ 111 ∷ 110 ∷ []
 
+-- mpiio
 abbrev pub mpiio : List ℕ
 mpiio = 109 ∷ 112 ∷ 105 ∷ 105 ∷ 111 ∷ []
 
@@ -57,6 +62,7 @@ abbrev pub verdictWords : Verdict → List ℕ
 verdictWords free = freeWords ++ lineEnd
 verdictWords (racing earlier later) = raceWord ++ pair earlier later
 
+-- a model's line
 abbrev pub modelLine : List ℕ → Verdict → List ℕ
 modelLine name v = name ++ verdictWords v
 
@@ -71,24 +77,27 @@ reportOf (accepted rows) =
 
 -- ---- The program's limits
 
+-- the bytes of the longest trace that the program takes
 abbrev pub BYTES : ℕ
 BYTES = 8192
 
--- what the program's buffer holds: one byte more than the limit, so that a byte behind the limit is seen to be there
+-- The bytes of the program's buffer: one more than the limit, so that the program sees whether a byte stands behind the limit.
 abbrev pub INPUT : ℕ
 INPUT = BYTES + 1
 
+-- the rows of the largest trace that the program takes
 abbrev pub REPORT-ROWS : ℕ
 REPORT-ROWS = 128
 
+-- the processes of the largest trace that the program takes
 abbrev pub REPORT-PROCESSES : ℕ
 REPORT-PROCESSES = 8
 
--- a slice with this room has room for every report
+-- a slice of this length has room for every report
 abbrev pub ROOM : ℕ
 ROOM = 256
 
--- a text with header, read within the program's limits
+-- the outcome of a text with header within the program's limits
 unfoldable pub readByProgram : List ℕ → Outcome
 readByProgram text = checkTrace text 1 POSIX REPORT-ROWS REPORT-PROCESSES BYTES (6 * REPORT-ROWS) (REPORT-ROWS * REPORT-PROCESSES)
 

@@ -1,4 +1,4 @@
-// The whole call on the text of a trace, and the report that a program prints of it.
+// The whole call on the text of a trace, and the report that the program `verdict` prints of a trace.
 ghost use Prim.Native.Nat.{_+_, _≤_, _<_};
 ghost use mathlib.Core.Path.{_≡_};
 ghost use lib.ListN.{length, take};
@@ -11,10 +11,42 @@ ghost use Rattle.races.specs.Answers.{judgeQuestions};
 ghost use Rattle.checker.specs.Judging.{Decides};
 ghost use Rattle.checker.specs.Report.{pair, modelLine, reportOf, reportLength, reportIn};
 use races::Found;
+use trace::Call;
 use trace::Checked;
 
-// The row count of an accepted trace that is free, the row count with the numbers of the earlier and the later row of its first race, or
-// the number and place of a refusal.
+// The models' numbers.
+const POSIX: u32 = 0;
+
+const COMMIT: u32 = 1;
+
+const SESSION: u32 = 2;
+
+const MPI_IO: u32 = 3;
+
+// The header word of a trace with header.
+const WITH_HEADER: u32 = 1;
+
+// The rows and the processes of the largest trace that the program takes.
+const REPORT_ROWS: u32 = 128;
+
+const REPORT_PROCESSES: u32 = 8;
+
+// The bytes of the longest trace that the program takes.
+const BYTES: usize = 8192;
+
+// The bytes of the program's input buffer: one more than BYTES, so that the program sees whether a byte stands behind the limit.
+pub const INPUT: usize = BYTES + 1;
+
+// The numbers of a slice that holds the rows, and of a slice that holds their counts.
+const ROW_SPACE: usize = 768;
+
+const COUNT_SPACE: usize = 1024;
+
+// A slice of this length has room for every report.
+const ROOM: usize = 256;
+
+// The answer of the whole call: the row count of an accepted trace that is free; the row count with the numbers of the earlier and the
+// later row of the first race; or the number and place of a refusal.
 pub enum Judged {
     Free(u32),
     Race(u32, u32, u32),
@@ -22,32 +54,20 @@ pub enum Judged {
 }
 
 // Checks a trace, puts its rows and their counts into the lent slices, and answers its verdict under the model.
-pub fn judge(
-    text: &[u8],
-    header: u32,
-    model: u32,
-    row_limit: u32,
-    process_limit: u32,
-    byte_limit: usize,
-    rows: &mut [u32],
-    counts: &mut [u16],
-) -> Judged
-    ensures { λ r. ⌜ Decides model «process_limit»
-        (checkTrace (now (text .entry)) header model «row_limit» «process_limit» «byte_limit» (length (now (rows .entry))) (length (now (counts .entry))))
+pub fn judge(text: &[u8], call: Call, rows: &mut [u32], counts: &mut [u16]) -> Judged
+    ensures { λ r. ⌜ Decides (call .model) (call .«process_limit»)
+        (checkTrace (now (text .entry)) (call .header) (call .model) (call .«row_limit») (call .«process_limit») (call .«byte_limit») (length (now (rows .entry))) (length (now (counts .entry))))
         r (now (rows .entry)) (now (rows .exit)) (now (counts .entry)) (now (counts .exit)) ⌝ }
 {
-    match trace::check_trace(
-        text,
-        header,
-        model,
-        row_limit,
-        process_limit,
-        byte_limit,
-        rows,
-        counts,
-    ) {
+    match trace::check_trace(text, call, rows, counts) {
         Checked::Refused(number, place) => Judged::Refused(number, place),
-        Checked::Accepted(n) => match races::verdict(rows, n, process_limit, model, counts) {
+        Checked::Accepted(n) => match races::verdict(
+            rows,
+            n,
+            call.process_limit,
+            call.model,
+            counts,
+        ) {
             Found::Free => Judged::Free(n),
             Found::Race(earlier, later) => Judged::Race(n, earlier, later),
             Found::Refused(number) => Judged::Refused(number, 0),
@@ -55,24 +75,28 @@ pub fn judge(
     }
 }
 
-// The bytes of the program's input buffer: the 8,192 of the longest trace that it takes, and one that tells a longer one.
-pub const INPUT: usize = 8193;
-
-// Puts what the program prints of a trace with header at the front of a slice, and answers its length. A slice of 256 bytes has room for
-// every report; a shorter one is left as it is, with the answer 0.
+// Puts what the program prints of a trace with header at the front of a slice, and answers the length. A slice of 256 bytes has room for
+// every report; `report` leaves a shorter slice as it is and answers 0.
 pub fn report(text: &[u8], out: &mut [u8]) -> usize
     ensures answer { λ r. ⌜ r ≡ reportLength (now (text .entry)) (now (out .entry)) ⌝ }
     ensures left { λ r. ⌜ now (out .exit) ≡ reportIn (now (text .entry)) (now (out .entry)) ⌝ }
     ensures front { λ r. ⌜ (r ≤ length (now (out .exit))) × (r ≡ length (take r (now (out .exit)))) ⌝ }
 {
-    if out.len() < 256 {
+    if out.len() < ROOM {
         return 0;
     }
-    let mut row_space = [0u32; 768];
+    let mut row_space = [0u32; ROW_SPACE];
     let rows: &mut [u32] = &mut row_space;
-    let mut count_space = [0u16; 1024];
+    let mut count_space = [0u16; COUNT_SPACE];
     let counts: &mut [u16] = &mut count_space;
-    match trace::check_trace(text, 1, 0, 128, 8, 8192, rows, counts) {
+    let call = Call {
+        header: WITH_HEADER,
+        model: POSIX,
+        row_limit: REPORT_ROWS,
+        process_limit: REPORT_PROCESSES,
+        byte_limit: BYTES,
+    };
+    match trace::check_trace(text, call, rows, counts) {
         Checked::Refused(number, place) => {
             let at = print::put(out, 0, b"refused,");
             put_pair(out, at, number, place)
@@ -81,7 +105,7 @@ pub fn report(text: &[u8], out: &mut [u8]) -> usize
     }
 }
 
-// The report of what the program has read: the first n bytes of its input buffer, or all of them where n is larger.
+// Puts the report of what the program has read: the first n bytes of its input buffer, or all bytes where n is larger.
 pub fn report_input(input: &[u8; INPUT], n: usize, out: &mut [u8]) -> usize
     ensures answer { λ r. ⌜ r ≡ reportLength (take n (now (input .entry))) (now (out .entry)) ⌝ }
     ensures left { λ r. ⌜ now (out .exit) ≡ reportIn (take n (now (input .entry))) (now (out .entry)) ⌝ }
@@ -94,7 +118,7 @@ pub fn report_input(input: &[u8; INPUT], n: usize, out: &mut [u8]) -> usize
     report(text, out)
 }
 
-// The heading and the four models' lines.
+// Puts the heading and the four models' lines.
 fn put_models(out: &mut [u8], rows: &[u32], n: u32, counts: &mut [u16]) -> usize
     requires { ⌜ 256 ≤ length (now out) ⌝ }
     requires { ⌜ firstNo (judgeQuestions n 8 0 (now rows) (length (now counts))) ≡ 0 ⌝ }
@@ -102,13 +126,13 @@ fn put_models(out: &mut [u8], rows: &[u32], n: u32, counts: &mut [u16]) -> usize
     ensures { λ r. ⌜ now (out .exit) ≡ lay (now (out .entry)) 0 (reportOf (accepted (rowsIn n (now (rows .entry))))) ⌝ }
 {
     let first = print::put(out, 0, b"model,verdict,earlier,later\r\n");
-    let second = put_model(out, first, b"posix", rows, n, 0, counts);
-    let third = put_model(out, second, b"commit", rows, n, 1, counts);
-    let fourth = put_model(out, third, b"session", rows, n, 2, counts);
-    put_model(out, fourth, b"mpiio", rows, n, 3, counts)
+    let second = put_model(out, first, b"posix", rows, n, POSIX, counts);
+    let third = put_model(out, second, b"commit", rows, n, COMMIT, counts);
+    let fourth = put_model(out, third, b"session", rows, n, SESSION, counts);
+    put_model(out, fourth, b"mpiio", rows, n, MPI_IO, counts)
 }
 
-// A model's line.
+// Puts a model's line at a place, and answers the place behind the line.
 fn put_model(
     out: &mut [u8],
     at: usize,
@@ -124,7 +148,7 @@ fn put_model(
     ensures { λ r. ⌜ now (out .exit) ≡ lay (now (out .entry)) at (modelLine (now (name .entry)) (verdictOf (rowsIn n (now (rows .entry))) model)) ⌝ }
 {
     let behind = print::put(out, at, name);
-    match races::verdict(rows, n, 8, model, counts) {
+    match races::verdict(rows, n, REPORT_PROCESSES, model, counts) {
         Found::Free => print::put(out, behind, b",free,,\r\n"),
         Found::Race(earlier, later) => {
             let word = print::put(out, behind, b",race,");
@@ -134,7 +158,7 @@ fn put_model(
     }
 }
 
-// Two numbers and the end of a line.
+// Puts two numbers and the end of a line at a place, and answers the place behind them.
 fn put_pair(out: &mut [u8], at: usize, a: u32, b: u32) -> usize
     requires { ⌜ at + 23 ≤ length (now out) ⌝ }
     ensures { λ r. ⌜ r ≡ at + length (pair a b) ⌝ }

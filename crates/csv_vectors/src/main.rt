@@ -1,5 +1,5 @@
-// Runs the examples of RFC 4180, section 2, and the reader's edge cases, and writes what reading finds: a line for each record, with the
-// number of fields, the first six spans, the record's end and the place after it. What it writes is held to the file stdout.
+// Runs the examples of RFC 4180, section 2, and the reader's edge cases, and writes what the reader finds: a line for each record, with the
+// number of fields, the first six spans, the record's end and the place after it. The file stdout holds the expected output.
 //
 // The cases stand on standard input, one on each line:
 //
@@ -20,10 +20,10 @@ const STDIN: i32 = 0;
 
 const STDOUT: i32 = 1;
 
-// The limit of a case that is to meet none.
+// The limit of a case that meets no limit.
 const NO_LIMIT: usize = 1000;
 
-// The most records of a text that are read.
+// The most records that the program reads of a text.
 const RECORDS: usize = 8;
 
 // The spans that a reading has.
@@ -41,9 +41,10 @@ const FIRST_BAR: usize = 1;
 // Where a text starts, behind the first bar.
 const TEXT: usize = 2;
 
-// What `digit` answers where there is none.
+// What `digit` answers for a byte that is no hexadecimal digit.
 const NO_DIGIT: u8 = 16;
 
+// Writes bytes.
 fn put(text: &[u8]) {
     io::write_all(STDOUT, text);
 }
@@ -56,7 +57,7 @@ fn put_pair(word: &[u8], n: usize, second: &[u8], m: usize) {
     io::print_decimal(STDOUT, m as u64);
 }
 
-// Writes a span as its start, its length, `"` where two quotes stand in it, and `-` where its content is empty.
+// Writes a span: its start, its length, `"` where two quotes stand in the span, and `-` where its content is empty.
 fn put_span(text: &[u8], span: Span) {
     let start = span.start;
     let len = span.len;
@@ -80,7 +81,7 @@ fn put_spans(text: &[u8], count: usize, spans: [Span; 6]) {
     }
 }
 
-// Writes one record and answers the place after it, or the end of the text where there is none.
+// Writes one record and answers the place after the record, or the end of the text where no record stands there.
 fn put_record(text: &[u8], at: usize, limit: usize) -> usize {
     let r = csv::read_record(text, at, limit);
     let status = r.status;
@@ -111,6 +112,7 @@ fn put_records(text: &[u8], limit: usize) {
     }
 }
 
+// Writes a text's length, its limit and its records.
 fn show(text: &[u8], limit: usize) {
     put_pair(b"text of ", text.len(), b" limit ", limit);
     put(b"\n");
@@ -225,6 +227,7 @@ fn is_closed(line: &[u8], at: usize) -> bool {
     raw_at(line, at) == BAR && behind_bar(line, at) == line.len()
 }
 
+// Writes a line of another form.
 fn put_unreadable(line: &[u8]) {
     put(b"unreadable: ");
     put(line);
@@ -258,6 +261,7 @@ fn run_word(line: &[u8]) {
     }
 }
 
+// Runs one line.
 fn run_line(line: &[u8]) {
     let kind = raw_at(line, 0);
     if kind == b'#' {
@@ -290,6 +294,7 @@ fn line_end(input: &[u8], from: usize) -> usize
     at
 }
 
+// Runs each line of the input.
 fn run_lines(input: &[u8]) {
     let mut at = 0;
     while at < input.len() {

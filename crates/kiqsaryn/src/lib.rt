@@ -15,6 +15,7 @@ use kiqsaryn_packing::UPPER;
 use machine::Made;
 use machine_state::Machine;
 use rows::Row;
+use trace::Call;
 
 // The model of a plain file, which no call reads.
 const NO_MODEL: u32 = 0;
@@ -36,16 +37,14 @@ pub extern "C" fn kiqsaryn_check_trace(
         (checkTrace (now (text .entry)) header model «row_limit» «process_limit» «byte_limit» (length (now (rows .entry))) (length (now (counts .entry))))
         r (now (rows .entry)) (now (rows .exit)) (now (counts .entry)) (now (counts .exit)) ⌝ }
 {
-    let answer = trace::check_trace(
-        text,
+    let call = Call {
         header,
         model,
         row_limit,
         process_limit,
         byte_limit,
-        rows,
-        counts,
-    );
+    };
+    let answer = trace::check_trace(text, call, rows, counts);
     kiqsaryn_packing::pack_checked(answer)
 }
 
@@ -67,16 +66,14 @@ pub extern "C" fn kiqsaryn_judge(
         (checkTrace (now (text .entry)) header model «row_limit» «process_limit» «byte_limit» (length (now (rows .entry))) (length (now (counts .entry))))
         r (now (rows .entry)) (now (rows .exit)) (now (counts .entry)) (now (counts .exit)) ⌝ }
 {
-    let answer = checker::judge(
-        text,
+    let call = Call {
         header,
         model,
         row_limit,
         process_limit,
         byte_limit,
-        rows,
-        counts,
-    );
+    };
+    let answer = checker::judge(text, call, rows, counts);
     kiqsaryn_packing::pack_judged(answer)
 }
 

@@ -1,4 +1,4 @@
--- Which texts are accepted, and with which rows: exactly those that pass every question.
+-- A text is accepted, with its rows, exactly where it passes every question.
 use Prim.Native.Nat.{ℕ, zero, suc, _+_, _≤_, _<_}
 use native.Mathlib.Omega.{arith}
 use mathlib.Core.Path.{_≡_, refl, sym, ap, subst, _∙_}
@@ -57,7 +57,7 @@ pub record Acceptable (text : List ℕ) (header model rowLimit processLimit byte
 
 -- ---- One record
 
--- no No from the first question on: the first is answered Yes, and there is none among the others
+-- where there is no No, the first question has Yes, and there is no No among the others
 first-yes : (b : Bool) {number rest : ℕ} → 0 < number → cond b rest number ≡ 0 → (b ≡ true) × (rest ≡ 0)
 first-yes true h e = (refl, e)
 first-yes false h e = absurd (omega arith)
@@ -102,7 +102,7 @@ module _ (rowLimit processLimit : ℕ) where
 
   -- ---- Record after record
 
-  -- a first record passes, and those behind it do
+  -- the first of records that all pass does, and so do the records behind it
   pass-first : (before : List Row) (fields : List (List ℕ)) (rest : List (List (List ℕ))) →
       AllPass rowLimit processLimit before (fields ∷ rest)
       ↔ (Passes rowLimit processLimit before fields × AllPass rowLimit processLimit (before ++ (rowOf fields ∷ [])) rest)
@@ -128,7 +128,7 @@ module _ (rowLimit processLimit : ℕ) where
   Read before recs ending rows =
       (ending ≡ all-read) × AllPass rowLimit processLimit before recs × (rows ≡ before ++ map rowOf recs)
 
-  -- records that are accepted are read so
+  -- records that are accepted are as Read says
   read-to : (before : List Row) (recs : List (List (List ℕ))) (ending : Ending) {rows : List Row} →
       judgeRows rowLimit processLimit before recs ending ≡ accepted rows → Read before recs ending rows
   unfolding judgeRows
@@ -150,7 +150,7 @@ module _ (rowLimit processLimit : ℕ) where
           (r .0, pass-first before fields rest .1 (passes-iff before fields .0 (eqb-true first 0 q), r .1), r .2 ∙ append-snoc before (rowOf fields) (map rowOf rest))
       go false q e next = let z : _≡_ {A = ℕ} 0 1 = cc in absurd (omega arith)
 
-  -- records that are read so are accepted
+  -- records that all pass are accepted
   read-from : (before : List Row) (recs : List (List (List ℕ))) → AllPass rowLimit processLimit before recs →
       judgeRows rowLimit processLimit before recs all-read ≡ accepted (before ++ map rowOf recs)
   unfolding judgeRows
@@ -162,7 +162,7 @@ module _ (rowLimit processLimit : ℕ) where
 
 -- ---- The header
 
--- lists of the same contents are the same
+-- lists of the same contents are equal
 same-fields : (a b : List (List ℕ)) → sameFields a b ≡ true → a ≡ b
 unfolding sameFields
 same-fields [] [] e = refl
@@ -180,7 +180,7 @@ module _ (rowLimit processLimit : ℕ) where
   ReadAll word r rows =
       (recs : List (List (List ℕ))) × RowRecords word (r .rows) recs × (r .ending ≡ all-read) × AllPass rowLimit processLimit [] recs × (rows ≡ map rowOf recs)
 
-  -- a text with a header that is accepted is read so
+  -- a text with a header that is accepted is as ReadAll says
   header-to : (recs : List (List (List ℕ))) (ending : Ending) {rows : List Row} → judgeHeader rowLimit processLimit recs ending ≡ accepted rows →
       ReadAll 1 (record { rows = recs; ending = ending }) rows
   unfolding judgeHeader
@@ -196,14 +196,14 @@ module _ (rowLimit processLimit : ℕ) where
           (rest, subst (λ (f : List (List ℕ)). RowRecords 1 (f ∷ rest) rest) (sym (same-fields fields headerNames q)) header, r .0, r .1, r .2)
       go false q e = let z : _≡_ {A = ℕ} 0 1 = cc in absurd (omega arith)
 
-  -- any text that is accepted is read so
+  -- any text that is accepted is as ReadAll says
   all-to : (word : ℕ) → word ≤ 1 → (r : Records) {rows : List Row} → readTrace word rowLimit processLimit r ≡ accepted rows → ReadAll word r rows
   unfolding readTrace
   all-to zero h r e = let t = read-to rowLimit processLimit [] (r .rows) (r .ending) e in (r .rows, no-header, t .0, t .1, t .2)
   all-to (suc zero) h r e = header-to (r .rows) (r .ending) e
   all-to (suc (suc n)) h r e = absurd (omega arith)
 
-  -- a text that is read so is accepted
+  -- a text whose row records all pass is accepted
   all-from : {word : ℕ} {all recs : List (List (List ℕ))} → RowRecords word all recs → AllPass rowLimit processLimit [] recs →
       readTrace word rowLimit processLimit (record { rows = all; ending = all-read }) ≡ accepted (map rowOf recs)
   unfolding readTrace judgeHeader sameFields sameBytes

@@ -28,7 +28,7 @@ module _ (header model rowLimit processLimit rowsLength countsLength : ℕ) wher
   abbrev first : ℕ
   first = firstNo (callQuestions header model rowLimit processLimit rowsLength countsLength)
 
-  -- 1: a slice is too short
+  -- 1: the rows' slice is too short
   pub few-rows : rowsLength < rowLimit * 6 → 1 ≡ first
   unfolding firstNo callQuestions
   few-rows h = let g : rowsLength < 6 * rowLimit = omega arith in rw (lt-leb (6 * rowLimit) rowsLength g)
@@ -37,6 +37,7 @@ module _ (header model rowLimit processLimit rowsLength countsLength : ℕ) wher
     long-rows : leb (6 * rowLimit) rowsLength ≡ true
     long-rows = le-leb (6 * rowLimit) rowsLength (omega arith)
 
+    -- 1: the counts' slice is too short
     pub few-counts : countsLength < rowLimit * processLimit → 1 ≡ first
     unfolding firstNo callQuestions
     few-counts h = rw (long-rows, lt-leb (rowLimit * processLimit) countsLength h)
@@ -47,18 +48,22 @@ module _ (header model rowLimit processLimit rowsLength countsLength : ℕ) wher
       unfolding firstNo callQuestions
       out h = rw (long-rows, le-leb (rowLimit * processLimit) countsLength k, h)
 
+      -- 2: no model has the number
       pub bad-model : MODELS ≤ model → 2 ≡ first
       bad-model h = out (rw (le-ltb model MODELS h))
 
       module _ (m : model < MODELS) where
+        -- 2: the row limit is 0
         pub no-rows : rowLimit < 1 → 2 ≡ first
         no-rows h = out (rw (lt-ltb model MODELS m, lt-leb 1 rowLimit h))
 
         module _ (o : 1 ≤ rowLimit) where
+          -- 2: the row limit is too large
           pub many-rows : ROWS < rowLimit → 2 ≡ first
           many-rows h = out (rw (lt-ltb model MODELS m, le-leb 1 rowLimit o, lt-leb rowLimit ROWS h))
 
           module _ (w : rowLimit ≤ ROWS) where
+            -- 2: the process limit is 0
             pub no-processes : processLimit < 1 → 2 ≡ first
             no-processes h = out (rw (lt-ltb model MODELS m, le-leb 1 rowLimit o, le-leb rowLimit ROWS w, lt-leb 1 processLimit h))
 
@@ -66,38 +71,42 @@ module _ (header model rowLimit processLimit rowsLength countsLength : ℕ) wher
               within : inLimits model rowLimit processLimit ≡ leb processLimit PROCESSES
               within = rw (lt-ltb model MODELS m, le-leb 1 rowLimit o, le-leb rowLimit ROWS w, le-leb 1 processLimit p)
 
+              -- 2: the process limit is too large
               pub many-processes : PROCESSES < processLimit → 2 ≡ first
               many-processes h = out (within ∙ lt-leb processLimit PROCESSES h)
 
-              -- 3: the header word is neither 0 nor 1, or every answer is Yes
               module _ (q : processLimit ≤ PROCESSES) where
+                -- 1 and 2 have Yes, and 3 decides
                 third : first ≡ cond (leb header 1) 0 3
                 unfolding firstNo callQuestions
                 third = rw (long-rows, le-leb (rowLimit * processLimit) countsLength k, within, le-leb processLimit PROCESSES q)
 
+                -- 3: the header word is neither 0 nor 1
                 pub bad-header : 1 < header → 3 ≡ first
                 bad-header h = sym (third ∙ rw (lt-leb header 1 h))
 
+                -- every answer is Yes
                 pub all-asked : header ≤ 1 → 0 ≡ first
                 all-asked h = sym (third ∙ rw (le-leb header 1 h))
 
 -- ---- The header
 
--- the first k names of six are there, and the others decide
+-- The record has the first k of the six names, and the others decide.
 pub record Named (text : List ℕ) (count : ℕ) (spans : List Span) (k : ℕ) : Type 0 where
   pub six : length spans ≡ 6
   pub rest : headed count (fieldsOf text spans) ≡ sameFields (map (contentOf text) (drop k spans)) (drop k headerNames)
 
--- the record has not six fields, or it has and no name is looked at yet
+-- a record without six fields is no header
 pub not-six : (text : List ℕ) (count : ℕ) (spans : List Span) → (count ≡ 6 → ⊥) → false ≡ headed count (fieldsOf text spans)
 not-six text count spans h = rw (ne-eqb count 6 h)
 
+-- of a record with six fields, the names decide
 pub none-named : {text : List ℕ} {count : ℕ} {spans : List Span} → length spans ≡ 6 → count ≡ 6 → Named text count spans 0
 none-named s h = record { six = s; rest = rw h }
 
 module _ {text : List ℕ} {count : ℕ} {spans : List Span} {k : ℕ} (n : Named text count spans k) (h : k < 6)
     {b : Bool} (e : b ≡ sameBytes (contentOf text (getD spans k noSpan)) (getD headerNames k [])) where
-  -- the next name, and those behind it
+  -- the next name and those behind it decide
   next : headed count (fieldsOf text spans) ≡ (b && sameFields (map (contentOf text) (drop (suc k) spans)) (drop (suc k) headerNames))
   unfolding sameFields
   next =
@@ -105,14 +114,15 @@ module _ {text : List ℕ} {count : ℕ} {spans : List Span} {k : ℕ} (n : Name
       let g′ : k < length headerNames = omega arith in
       n .rest ∙ rw (drop-cons spans k noSpan g, drop-cons headerNames k [] g′, e)
 
-  -- it is there, or the record is no header
+  -- the next name is there
   pub named : b ≡ true → Named text count spans (suc k)
   named q = record { six = n .six; rest = next ∙ rw q }
 
+  -- the next name is not there
   pub other-name : b ≡ false → false ≡ headed count (fieldsOf text spans)
   other-name q = sym (next ∙ rw q)
 
-  -- none stands behind the sixth
+  -- the sixth name is the last
   pub last-name : k ≡ 5 → b ≡ headed count (fieldsOf text spans)
   unfolding sameFields
   last-name q =
@@ -122,7 +132,7 @@ module _ {text : List ℕ} {count : ℕ} {spans : List Span} {k : ℕ} (n : Name
 
 -- ---- The questions 6 to 12
 
--- questions one behind the other: the first No of the first ones
+-- the first No of two lists of questions is that of the first list, where it has one
 first-no : (qs rest : List Question) → (firstNo qs ≡ 0 → ⊥) → firstNo (qs ++ rest) ≡ firstNo qs
 unfolding firstNo
 first-no [] rest h = absurd (h refl)
@@ -133,7 +143,7 @@ first-no (q ∷ qs) rest h = go (q .yes) (first-no qs rest) h
     go true ih g = ih g
     go false ih g = refl
 
--- or that of the rest, where the first ones all have Yes; their numbers are not 0
+-- no question has the number 0
 abbrev Numbered : List Question → Type 0
 Numbered [] = Unit {0}
 Numbered (q ∷ qs) = (0 < q .number) × Numbered qs
@@ -157,8 +167,9 @@ numbered processLimit fields = (omega arith, (omega arith, (omega arith, (omega 
 abbrev last : List Row → List (List ℕ) → List Question
 last earlier fields = record { number = 12; yes = messageInOrder earlier (rowOf fields) } ∷ []
 
--- what an answer tells of the first No
+-- What an answer tells of the first No.
 module _ (first : ℕ) (fields : List (List ℕ)) where
+  -- a refusal has the number of the first No
   pub no-of : {k : ℕ} → judgedBy first fields ≡ No k → (first ≡ k) × (first ≡ 0 → ⊥)
   no-of {k} e = go (eqb first 0) refl e
     where
@@ -166,6 +177,7 @@ module _ (first : ℕ) (fields : List (List ℕ)) where
       go true q e = let z : _≡_ {A = ℕ} 0 1 = cc in absurd (omega arith)
       go false q e = (cc, eqb-false first 0 q)
 
+  -- a row means that there is no No
   pub kept-of : {row : Row} → judgedBy first fields ≡ Kept row → (first ≡ 0) × (row ≡ rowOf fields)
   kept-of {row} e = go (eqb first 0) refl e
     where
@@ -178,18 +190,19 @@ module _ (rowLimit processLimit n : ℕ) (earlier : List Row) (count : ℕ) (fie
   abbrev whole : ReadRow
   whole = judgedRow rowLimit processLimit n earlier count fields
 
-  -- 6 and 7 have No
+  -- 6 has No
   pub row-over : rowLimit ≤ n → No 6 ≡ whole
   unfolding judgedRow firstNo
   row-over h = rw (le-ltb n rowLimit h)
 
   module _ (h : n < rowLimit) where
+    -- 7 has No
     pub other-count : (count ≡ 6 → ⊥) → No 7 ≡ whole
     unfolding judgedRow firstNo
     other-count s = rw (lt-ltb n rowLimit h, ne-eqb count 6 s)
 
     module _ (s : count ≡ 6) {j : ReadRow} (e : j ≡ judgedFields processLimit fields) where
-      -- they have Yes, and the others decide
+      -- 6 and 7 have Yes, and the others decide
       inner : whole ≡ judgedBy (firstNo (fieldQuestions processLimit fields ++ last earlier fields)) fields
       unfolding judgedRow firstNo
       inner = rw (lt-ltb n rowLimit h, eq-eqb count 6 s)
@@ -202,8 +215,9 @@ module _ (rowLimit processLimit n : ℕ) (earlier : List Row) (count : ℕ) (fie
           let g = first-no (fieldQuestions processLimit fields) (last earlier fields) (no-of f fields (sym e ∙ q) .1) in
           sym (inner ∙ ap (λ (x : ℕ). judgedBy x fields) g ∙ (sym e ∙ q))
 
-      -- they have Yes, and 12 decides
+      -- 8 to 11 have Yes
       module _ {row : Row} (q : j ≡ Kept row) {b : Bool} (m : b ≡ messageInOrder earlier row) where
+        -- 12 decides
         final : whole ≡ judgedBy (cond b 0 12) fields
         unfolding judgedFields firstNo
         final =
@@ -211,9 +225,11 @@ module _ (rowLimit processLimit n : ℕ) (earlier : List Row) (count : ℕ) (fie
             inner ∙ ap (λ (x : ℕ). judgedBy x fields) (all-yes (fieldQuestions processLimit fields) (last earlier fields) (numbered processLimit fields) (p .0))
             ∙ ap (λ (x : Bool). judgedBy (cond x 0 12) fields) (sym (m ∙ ap (messageInOrder earlier) (p .1)))
 
+        -- 12 has No
         pub order-no : b ≡ false → No 12 ≡ whole
         order-no x = sym (final ∙ rw x)
 
+        -- 12 has Yes
         pub order-yes : b ≡ true → Kept row ≡ whole
         unfolding judgedFields
         order-yes x =

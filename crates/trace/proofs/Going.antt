@@ -1,4 +1,4 @@
--- Reading row after row: what is known after some rows, and how it goes on.
+-- The loop of read_rows: what holds after some rows, and what each record adds.
 use Prim.Native.Nat.{ℕ, zero, suc, _+_, _*_, _≤_, _<_}
 use native.Mathlib.Omega.{arith}
 use mathlib.Core.Path.{_≡_, refl, sym, ap, ap₂, _∙_}
@@ -32,11 +32,12 @@ use Rattle.trace.proofs.Asking.{no-of, kept-of}
 abbrev recordsAt : List ℕ → ℕ → ℕ → Records
 recordsAt text limit at = recordsFrom (suc (length text)) text limit at
 
--- the rest of the records behind some rows
+-- the outcome of the rest of the records behind some rows
 abbrev judge : ℕ → ℕ → List Row → Records → Outcome
 judge R P done r = judgeRows R P done (r .rows) (r .ending)
 
--- Rows are read up to a place of the text: `done`, and the rest is judged behind them. The slice, xs₀ at first, holds their numbers.
+-- The code has read the rows `done` up to place `at`: the outcome is that of the rest behind them. The slice, xs₀ at first, holds their
+-- numbers.
 pub record Going (R P : ℕ) (text : List ℕ) (limit start : ℕ) (xs₀ : List ℕ) (at n : ℕ) (xs : List ℕ) : Type 0 where
   pub done : List Row
   pub whole : judgeFrom R P text limit start ≡ judge R P done (recordsAt text limit at)
@@ -44,13 +45,13 @@ pub record Going (R P : ℕ) (text : List ℕ) (limit start : ℕ) (xs₀ : List
   pub few : n ≤ R
   pub held : xs ≡ numbers done ++ drop (6 * n) xs₀
 
--- no row yet
+-- before the first row
 pub begin : (R P : ℕ) (text : List ℕ) (limit start : ℕ) (xs₀ : List ℕ) → Going R P text limit start xs₀ start 0 xs₀
 unfolding judgeFrom numbers
 begin R P text limit start xs₀ = record { done = []; whole = refl; many = refl; few = omega arith; held = refl }
 
 module _ {R P : ℕ} {text : List ℕ} {limit start : ℕ} {xs₀ : List ℕ} {at n : ℕ} {xs : List ℕ} (g : Going R P text limit start xs₀ at n xs) where
-  -- what reading finds next, judged
+  -- the outcome, by what the reader finds next
   step : (f : Finding) → readAt text at limit ≡ f → judgeFrom R P text limit start ≡ judge R P (g .done) (onFound text f (λ p. recordsAt text limit p))
   step f e =
       g .whole ∙ ap (judge R P (g .done)) (records-next text limit at)
@@ -60,19 +61,22 @@ module _ {R P : ℕ} {text : List ℕ} {limit start : ℕ} {xs₀ : List ℕ} {a
   place : n + 1 ≡ length (g .done) + 1
   place = ap (λ (k : ℕ). k + 1) (g .many)
 
-  -- the text is at its end, the record is malformed, the limit was met
+  -- at the end of the text the trace is accepted
   pub at-end : readAt text at limit ≡ nothing → Accepted n ≡ checkedOf (judgeFrom R P text limit start)
   unfolding onFound judgeRows
   at-end e = ap Accepted (g .many) ∙ sym (ap checkedOf (step nothing e))
 
+  -- at the end of the text the slice holds the rows
   pub end-held : readAt text at limit ≡ nothing → Holds (judgeFrom R P text limit start) xs₀ xs
   unfolding onFound judgeRows
   end-held e = rw (step nothing e) (g .held ∙ ap (λ (k : ℕ). numbers (g .done) ++ drop (6 * k) xs₀) (g .many))
 
+  -- a malformed record gets 4
   pub at-malformed : readAt text at limit ≡ malformed → judgeFrom R P text limit start ≡ refused 4 (n + 1)
   unfolding onFound judgeRows
   at-malformed e = step malformed e ∙ ap (refused 4) (sym place)
 
+  -- a record that meets the byte limit gets 6
   pub at-limit : readAt text at limit ≡ past-limit → judgeFrom R P text limit start ≡ refused 6 (n + 1)
   unfolding onFound judgeRows
   at-limit e = step past-limit e ∙ ap (refused 6) (sym place)
@@ -89,14 +93,14 @@ judged P done x y fields =
     ∷ (fieldQuestions P fields ++ (record { number = 12; yes = messageInOrder done (rowOf fields) } ∷ [])))))
     fields
 
--- where there are not six fields, nothing else is asked of them
+-- where there are not six fields, the answer does not depend on the fields
 other-fields : (P : ℕ) (done : List Row) (x y : Bool) (a b : List (List ℕ)) → (y ≡ true → a ≡ b) → judged P done x y a ≡ judged P done x y b
 unfolding judged firstNo
 other-fields P done x true a b h = ap (judged P done x true) (h refl)
 other-fields P done true false a b h = refl
 other-fields P done false false a b h = refl
 
--- the first six fields of a record are judged as the whole of it
+-- the answer of a record is that of its first six fields and their count
 pub judged-same : (R P n : ℕ) (done : List Row) (text : List ℕ) (spans : List Span) (count : ℕ) → n ≡ length done → count ≡ length spans →
     judgedRow R P n done count (fieldsOf text (firstSix spans)) ≡ judgedBy (firstNo (rowQuestions R P done (fieldsOf text spans))) (fieldsOf text spans)
 unfolding judgedRow rowQuestions judged
@@ -123,12 +127,13 @@ module _ {R P : ℕ} {text : List ℕ} {limit start : ℕ} {xs₀ : List ℕ} {a
   pub back : rowsIn n xs ≡ g .done
   back = ap (λ (k : ℕ). rowsIn k xs) (g .many) ∙ ap (rowsIn (length (g .done))) (g .held) ∙ rows-back (g .done) (drop (6 * n) xs₀)
 
-  -- the record there is judged
+  -- a record stands at `at`
   module _ {spans : List Span} {end next : ℕ} (f : readAt text at limit ≡ found spans end next) where
+    -- the first No of the record
     abbrev pub first : ℕ
     first = firstNo (rowQuestions R P (g .done) (fieldsOf text spans))
 
-    -- by its first No
+    -- the outcome, by the record's first No
     on : (x : Bool) → eqb first 0 ≡ x → judgeFrom R P text limit start
         ≡ cond x (judge R P (g .done ++ (rowOf (fieldsOf text spans) ∷ [])) (recordsAt text limit next)) (refused first (length (g .done) + 1))
     unfolding onFound judgeRows
@@ -136,18 +141,19 @@ module _ {R P : ℕ} {text : List ℕ} {limit start : ℕ} {xs₀ : List ℕ} {a
         step g (found spans end next) f
         ∙ ap (λ (y : Bool). cond y (judge R P (g .done ++ (rowOf (fieldsOf text spans) ∷ [])) (recordsAt text limit next)) (refused first (length (g .done) + 1))) e
 
-    -- it is refused
+    -- the record is refused
     pub refused-here : (k : ℕ) → judgedBy first (fieldsOf text spans) ≡ No k → judgeFrom R P text limit start ≡ refused k (n + 1)
     refused-here k j =
         let t = no-of first (fieldsOf text spans) j in
         on false (ne-eqb first 0 (t .1)) ∙ ap₂ refused (t .0) (sym (place g))
 
-    -- it is the next row, within the limit
+    -- the record is the next row
     module _ (row : Row) (j : judgedBy first (fieldsOf text spans) ≡ Kept row) where
+      -- the next row is within the row limit
       pub room : n < R
       room = let h = in-limit R P (g .done) (fieldsOf text spans) (eq-eqb first 0 (kept-of first (fieldsOf text spans) j .0)) in omega (arith, g .many)
 
-      -- the numbers of one more row stand behind those before it
+      -- the slice holds the numbers of one more row
       laid : (ys : List ℕ) → ys ≡ take (n * 6) xs ++ (six row ++ drop (n * 6 + 6) xs) → ys ≡ numbers (g .done ++ (row ∷ [])) ++ drop (6 * (n + 1)) xs₀
       unfolding numbers
       laid ys e =
@@ -163,6 +169,7 @@ module _ {R P : ℕ} {text : List ℕ} {limit start : ℕ} {xs₀ : List ℕ} {a
           ∙ ap (λ (l : List ℕ). (p ++ l) ++ drop (6 * (n + 1)) xs₀) (sym (append-nil (six row)))
           ∙ ap (λ (l : List ℕ). l ++ drop (6 * (n + 1)) xs₀) (sym (numbers-append (g .done) (row ∷ [])))
 
+      -- the loop goes on behind the row
       pub goes-on : (ys : List ℕ) → ys ≡ take (n * 6) xs ++ (six row ++ drop (n * 6 + 6) xs) → Going R P text limit start xs₀ next (n + 1) ys
       goes-on ys e =
           let t = kept-of first (fieldsOf text spans) j in
@@ -174,7 +181,7 @@ module _ {R P : ℕ} {text : List ℕ} {limit start : ℕ} {xs₀ : List ℕ} {a
             held = laid ys e;
           }
 
--- the same from what the calls answered: r is the reading at the place, j what was judged of its first six fields
+-- The laws above, by what the calls answered: r is the reading at the place, j the answer of its first six fields.
 module _ {R P : ℕ} {text : List ℕ} {limit start : ℕ} {xs₀ : List ℕ} {at n : ℕ} {xs : List ℕ} (g : Going R P text limit start xs₀ at n xs)
     {r : Reading} (e : r ≡ readingOf (readAt text at limit)) (a : r .status ≡ Record) where
   told : Told (readAt text at limit) r
@@ -193,22 +200,25 @@ module _ {R P : ℕ} {text : List ℕ} {limit start : ℕ} {xs₀ : List ℕ} {a
         je ∙ (λ i. judgedRow R P n (back g i) (r .count) (fieldsOf text (told .kept i)))
         ∙ judged-same R P n (g .done) text (told .spans) (r .count) (g .many) (told .count)
 
+    -- a record with a No is refused
     pub no-row : {k : ℕ} → j ≡ No k → judgeFrom R P text limit start ≡ refused k (n + 1)
     no-row {k} q =
         let t = told in
         refused-here g (t .is-found) k (sym whole-record ∙ q)
 
     module _ {row : Row} (q : j ≡ Kept row) where
+      -- the next row is within the row limit
       pub row-room : n < R
       row-room =
           let t = told in
           room g (t .is-found) row (sym whole-record ∙ q)
 
+      -- the loop goes on behind the row
       pub next-row : {ys : List ℕ} → ys ≡ take (n * 6) xs ++ (six row ++ drop (n * 6 + 6) xs) → Going R P text limit start xs₀ (r .next) (n + 1) ys
       next-row {ys} l =
           let t = told in
           rw (t .place) (goes-on g (t .is-found) row (sym whole-record ∙ q) ys l)
 
--- a refusal's answer, and that it holds no rows
+-- what read_rows answers and holds where the outcome is a refusal
 pub refusal : {o : Outcome} {k p : ℕ} (xs ys : List ℕ) → o ≡ refused k p → (Refused k p ≡ checkedOf o) × Holds o xs ys
 refusal xs ys e = (sym (ap checkedOf e), rw e tt)

@@ -1,4 +1,4 @@
--- Laws of reading a trace, for whoever builds on it.
+-- Laws of reading a trace that other crates cite.
 use Prim.Native.Nat.{ℕ, zero, suc, _+_, _*_, _-_, _≤_, _<_}
 use native.Mathlib.Omega.{arith}
 use mathlib.Core.Path.{_≡_, refl, sym, ap, subst, _∙_}
@@ -20,7 +20,7 @@ use Rattle.rows.proofs.Bools.{and-out}
 use Rattle.rows.proofs.Asking.{no-from, all-yes}
 use Rattle.rows.proofs.Slices.{rows-back}
 
--- a field that is not used is 0
+-- the number of a field that is not used is 0
 abbrev pub Unless : Bool → ℕ → Type 0
 Unless true n = Unit {0}
 Unless false n = n ≡ 0
@@ -37,13 +37,11 @@ pub record WellFormed (processLimit : ℕ) (r : Row) : Type 0 where
   pub no-length : Unless (usedBy (r .kind) .range) (r .length)
   pub no-message : Unless (usedBy (r .kind) .message) (r .message)
 
--- rows that came one after the other: each well formed, and its message in order behind those before it
+-- Rows of a trace: each is well formed, and its message is in order behind the rows before.
 pub data Sound (processLimit : ℕ) : List Row → Type 0 where
   none : Sound processLimit []
   next : {rows : List Row} {r : Row} → Sound processLimit rows → WellFormed processLimit r → messageInOrder rows r ≡ true →
       Sound processLimit (rows ++ (r ∷ []))
-
--- ---- What the first No says of a list of questions
 
 -- ---- A row that passes its questions is well formed
 
@@ -51,7 +49,7 @@ pub data Sound (processLimit : ℕ) : List Row → Type 0 where
 number-below : (below : ℕ) (content : List ℕ) → isNumber below content ≡ true → value content < below
 number-below below content e = ltb-true (value content) below (and-out (isPlain content) (ltb (value content) below) e .1)
 
--- a field that passes the questions 9 and 10 is in its range, and 0 where it is not used
+-- the number of a field that passes the questions 9 and 10 is in its range, and 0 where the kind does not use the field
 field-in : (used : Bool) (below : ℕ) (content : List ℕ) → 0 < below → asUsed used content ≡ true → numberIf used below content ≡ true →
     (value content < below) × Unless used (value content)
 unfolding valueFrom
@@ -59,7 +57,7 @@ field-in true below content h f n = (number-below below content n, tt)
 field-in false below [] h f n = (h, refl)
 field-in false below (b ∷ t) h f n = absurd (false≢true f)
 
--- the questions 8 to 11
+-- the row of a record that passes the questions 8 to 11 is well formed
 well-formed : (processLimit : ℕ) (fields : List (List ℕ)) → kindKnown fields ≡ true → filledAsUsed fields ≡ true →
     numbersInRange processLimit fields ≡ true → endInRange (rowOf fields) ≡ true → WellFormed processLimit (rowOf fields)
 unfolding rowOf filledAsUsed numbersInRange
@@ -98,32 +96,32 @@ abbrev Where : (List Row → Type 0) → Outcome → Type 0
 Where Q (refused number place) = 4 ≤ number
 Where Q (accepted rows) = Q rows
 
--- a weaker statement of the rows
+-- an outcome whose rows are as Q says has rows as a weaker Q′ says
 weaken : {Q Q′ : List Row → Type 0} → ((rows : List Row) → Q rows → Q′ rows) → (o : Outcome) → Where Q o → Where Q′ o
 weaken f (refused number place) h = h
 weaken f (accepted rows) h = f rows h
 
 module _ (rowLimit processLimit : ℕ) where
-  -- rows that came of records behind other rows
+  -- the rows of an accepted trace, from records behind the rows before
   record Came (before : List Row) (recs : List (List (List ℕ))) (ending : Ending) (rows : List Row) : Type 0 where
     all : rows ≡ before ++ map rowOf recs
     end : ending ≡ all-read
     few : length before ≤ rowLimit → length rows ≤ rowLimit
     sound : Sound processLimit before → Sound processLimit rows
 
-  -- the same behind a header, from no rows
+  -- the rows of an accepted trace, from records behind a header
   abbrev Behind : List (List (List ℕ)) → Ending → List Row → Type 0
   Behind recs ending rows = (first : List (List ℕ)) × (rest : List (List (List ℕ))) × (recs ≡ first ∷ rest) × (isHeader first ≡ true) × Came [] rest ending rows
 
-  -- at most as many rows as the limit, and sound ones
+  -- sound rows, at most as many as the row limit
   abbrev Fair : List Row → Type 0
   Fair rows = (length rows ≤ rowLimit) × Sound processLimit rows
 
-  -- rows that came of records from no rows are fair
+  -- the rows that come of all records are fair
   fair : {recs : List (List (List ℕ))} {ending : Ending} {rows : List Row} → Came [] recs ending rows → Fair rows
   fair c = (c .few (omega arith), c .sound none)
 
-  -- one more record that passes
+  -- one more record that passes in front of the records
   came-next : (before : List Row) (fields : List (List ℕ)) (rest : List (List (List ℕ))) (ending : Ending) →
       firstNo (rowQuestions rowLimit processLimit before fields) ≡ 0 → (rows : List Row) →
       Came (before ++ (rowOf fields ∷ [])) rest ending rows → Came before (fields ∷ rest) ending rows
@@ -140,7 +138,7 @@ module _ (rowLimit processLimit : ℕ) where
             λ s. c .sound (next s (well-formed processLimit fields (q .0) (q .1 .0) (q .1 .1 .0) (q .1 .1 .1 .0)) (q .1 .1 .1 .1 .0));
       }
 
-  -- records behind rows
+  -- records behind rows that are accepted give rows as Came says
   judged-rows : (before : List Row) (recs : List (List (List ℕ))) (ending : Ending) →
       Where (Came before recs ending) (judgeRows rowLimit processLimit before recs ending)
   unfolding judgeRows rowQuestions fieldQuestions
@@ -160,7 +158,7 @@ module _ (rowLimit processLimit : ℕ) where
       go h true e = weaken (came-next before fields rest ending (eqb-true first 0 e)) behind h
       go h false e = no-from 4 (rowQuestions rowLimit processLimit before fields) (omega arith) (eqb-false first 0 e)
 
-  -- records behind a header
+  -- records with a header first that are accepted give rows as Behind says
   judged-header : (recs : List (List (List ℕ))) (ending : Ending) → Where (Behind recs ending) (judgeHeader rowLimit processLimit recs ending)
   unfolding judgeHeader
   judged-header [] all-read = omega arith
@@ -175,7 +173,7 @@ module _ (rowLimit processLimit : ℕ) where
       go true e = weaken (λ rows c. (fields, rest, refl, e, c)) behind (judged-rows [] rest ending)
       go false e = omega arith
 
-  -- the records of a text, with or without a header
+  -- the records of a text that are accepted give fair rows
   judged : (header : ℕ) (r : Records) → Where Fair (readTrace header rowLimit processLimit r)
   unfolding readTrace
   judged header r = go (eqb header 0)
@@ -215,7 +213,7 @@ rows-behind-header rowLimit processLimit r rows e =
     let b = subst (Where (Behind rowLimit processLimit (r .rows) (r .ending))) e (judged-header rowLimit processLimit (r .rows) (r .ending)) in
     (b .0, b .1, b .2, b .3, b .4 .all, b .4 .end)
 
--- the rows of an accepted trace: at most as many as the limit, each well formed, its message in order
+-- an accepted trace has at most as many rows as the row limit, each well formed, with its message in order
 pub accepted-sound : (header rowLimit processLimit : ℕ) (r : Records) (rows : List Row) →
     readTrace header rowLimit processLimit r ≡ accepted rows → (length rows ≤ rowLimit) × (Sound processLimit rows)
 accepted-sound header rowLimit processLimit r rows e =
@@ -230,7 +228,7 @@ pub slices-no-matter : (text : List ℕ) (header model model′ rowLimit process
 unfolding checkTrace
 slices-no-matter text header model model′ rowLimit processLimit byteLimit rowsLength countsLength rowsLength′ countsLength′ h g = rw (h, g)
 
--- what the questions 1 to 3 leave: limits within their ranges, slices long enough, a header word
+-- What a call that passes the questions 1 to 3 has: limits within their ranges, slices long enough, a header word.
 pub record Legal (header model rowLimit processLimit rowsLength countsLength : ℕ) : Type 0 where
   pub rows-fit : 6 * rowLimit ≤ rowsLength
   pub counts-fit : rowLimit * processLimit ≤ countsLength
@@ -241,6 +239,7 @@ pub record Legal (header model rowLimit processLimit rowsLength countsLength : �
   pub known-model : model < 4
   pub header-word : header ≤ 1
 
+-- a call that passes the questions 1 to 3 is legal
 pub legal : (header model rowLimit processLimit rowsLength countsLength : ℕ) →
     firstNo (callQuestions header model rowLimit processLimit rowsLength countsLength) ≡ 0 → Legal header model rowLimit processLimit rowsLength countsLength
 unfolding callQuestions
@@ -262,7 +261,7 @@ legal header model rowLimit processLimit rowsLength countsLength e =
       header-word = leb-true _ _ (yes .1 .1 .0);
     }
 
--- an accepted trace passed the questions 1 to 3, and its rows came of its records
+-- an accepted trace passes the questions 1 to 3, and its rows come of its records
 pub accepted-passed : (text : List ℕ) (header model R P limit a b : ℕ) (rows : List Row) → checkTrace text header model R P limit a b ≡ accepted rows →
     Legal header model R P a b × (readTrace header R P (records text limit) ≡ accepted rows)
 unfolding checkTrace
@@ -278,6 +277,6 @@ accepted-passed text header model R P limit a b rows e = go (eqb first 0) refl e
 
 -- ---- Rows and their numbers
 
--- the rows of an accepted trace are read back from the slice that the call leaves
+-- the slice that the call leaves holds the rows of an accepted trace
 pub rows-left-back : (rows : List Row) (xs : List ℕ) → rowsIn (length rows) (rowsLeft (accepted rows) xs) ≡ rows
 rows-left-back rows xs = rows-back rows (replicate (length xs - 6 * length rows) 0)

@@ -21,7 +21,7 @@ abbrev UpTo : ℕ → List Question → Type 0
 UpTo m [] = Unit {0}
 UpTo m (q ∷ qs) = (q .number ≤ m) × UpTo m qs
 
--- so neither has the first No
+-- the first No has no number past m
 no-most : (m : ℕ) (qs : List Question) → UpTo m qs → firstNo qs ≤ m
 unfolding firstNo
 no-most m [] u = omega arith
@@ -37,7 +37,7 @@ Low rowLimit (refused number place) = (1 ≤ number) × (number ≤ 12) × (plac
 Low rowLimit (accepted rows) = Unit {0}
 
 module _ (rowLimit processLimit : ℕ) where
-  -- records behind rows
+  -- the outcome of records behind rows is Low
   low-rows : (before : List Row) (recs : List (List (List ℕ))) (ending : Ending) → length before ≤ rowLimit →
       Low rowLimit (judgeRows rowLimit processLimit before recs ending)
   unfolding judgeRows rowQuestions fieldQuestions
@@ -62,7 +62,7 @@ module _ (rowLimit processLimit : ℕ) where
           ih (simp length-append (omega arith))
       go ih false e = (no-from 1 questions (omega arith) (eqb-false first 0 e), no-most 12 questions (omega arith), omega arith)
 
-  -- records behind a header
+  -- the outcome of records with a header first is Low
   low-header : (recs : List (List (List ℕ))) (ending : Ending) → Low rowLimit (judgeHeader rowLimit processLimit recs ending)
   unfolding judgeHeader
   low-header [] all-read = omega arith
@@ -74,7 +74,7 @@ module _ (rowLimit processLimit : ℕ) where
       go true = low-rows [] rest ending (omega arith)
       go false = omega arith
 
-  -- the records of a text, with or without a header
+  -- the outcome of the records of a text is Low
   low-read : (header : ℕ) (r : Records) → Low rowLimit (readTrace header rowLimit processLimit r)
   unfolding readTrace
   low-read header r = go (eqb header 0)
@@ -91,6 +91,7 @@ pub record Bounded (number place : ℕ) : Type 0 where
   pub few : number ≤ 12
   pub placed : place ≤ ROWS + 1
 
+-- every refusal of a call is within the bounds
 pub refusal-bounded : (text : List ℕ) (header model R P limit a b : ℕ) {number place : ℕ} →
     checkTrace text header model R P limit a b ≡ refused number place → Bounded number place
 unfolding checkTrace callQuestions

@@ -1,4 +1,4 @@
--- Each row of an accepted trace is well formed.
+-- Each row of sound rows is well formed.
 use Prim.Native.Nat.{ℕ, _<_}
 use native.Mathlib.Omega.{arith}
 use native.Mathlib.Decide.{decLt}
@@ -10,6 +10,7 @@ use Rattle.rows.specs.declared.Row.{Row}
 use Rattle.trace.proofs.Laws.{WellFormed, Sound, none, next}
 use Rattle.rows.specs.Rows.{rowAt, noRow}
 
+-- the row at a place of sound rows is well formed
 pub sound-row : {P : ℕ} {rows : List Row} → Sound P rows → (k : ℕ) → k < length rows → WellFormed P (rowAt rows k)
 sound-row none k h = absurd (omega arith)
 sound-row {P} (next {rows} {r} s w m) k h = go (decLt k (length rows)) (λ l. sound-row s k l)

@@ -1,4 +1,4 @@
--- The whole call: the header, the questions 1 to 3, and what is left in the lent slices.
+-- The whole call: the header, the questions 1 to 3, and what the call leaves in the lent slices.
 use Prim.Native.Nat.{ℕ, suc, _+_, _*_, _-_, _≤_, _<_}
 use native.Mathlib.Omega.{arith}
 use mathlib.Core.Path.{_≡_, refl, sym, ap, _∙_}
@@ -31,7 +31,7 @@ module _ (R P : ℕ) (text : List ℕ) (limit header : ℕ) where
   unfolding readTrace judgeFrom records
   no-header e = rw (eq-eqb header 0 e)
 
-  -- with one, by what reading finds first
+  -- with a header, the outcome by what the reader finds first
   first : (f : Finding) → (header ≡ 0 → ⊥) → readAt text 0 limit ≡ f →
       readTrace header R P (records text limit)
       ≡ judgeHeader R P (onFound text f (λ p. recordsFrom (suc (length text)) text limit p) .rows) (onFound text f (λ p. recordsFrom (suc (length text)) text limit p) .ending)
@@ -40,25 +40,28 @@ module _ (R P : ℕ) (text : List ℕ) (limit header : ℕ) where
       let judge : Records → Outcome = λ r. judgeHeader R P (r .rows) (r .ending) in
       rw (ne-eqb header 0 n) (ap judge (records-next text limit 0) ∙ ap (λ (x : Finding). judge (onFound text x (λ p. recordsFrom (suc (length text)) text limit p))) e)
 
+  -- a text without records gets 5
   pub header-missing : (header ≡ 0 → ⊥) → readAt text 0 limit ≡ nothing → readTrace header R P (records text limit) ≡ refused 5 0
   unfolding onFound judgeHeader
   header-missing n e = first nothing n e
 
+  -- a malformed header gets 4
   pub header-malformed : (header ≡ 0 → ⊥) → readAt text 0 limit ≡ malformed → readTrace header R P (records text limit) ≡ refused 4 0
   unfolding onFound judgeHeader
   header-malformed n e = first malformed n e
 
+  -- a header that meets the byte limit gets 5
   pub header-over : (header ≡ 0 → ⊥) → readAt text 0 limit ≡ past-limit → readTrace header R P (records text limit) ≡ refused 5 0
   unfolding onFound judgeHeader
   header-over n e = first past-limit n e
 
-  -- a record was found: it has the names, or not
+  -- the first record is the header where it has the names, and gets 5 where not
   pub header-record : {x : Bool} (spans : List Span) (end next : ℕ) → (header ≡ 0 → ⊥) → readAt text 0 limit ≡ found spans end next →
       isHeader (fieldsOf text spans) ≡ x → readTrace header R P (records text limit) ≡ cond x (judgeFrom R P text limit next) (refused 5 0)
   unfolding onFound judgeHeader judgeFrom
   header-record spans end next n e h = first (found spans end next) n e ∙ ap (λ (y : Bool). cond y (judgeFrom R P text limit next) (refused 5 0)) h
 
--- lists of the same fields are as long
+-- lists of the same fields have one length
 same-length : (a b : List (List ℕ)) → sameFields a b ≡ true → length a ≡ length b
 unfolding sameFields
 same-length [] [] e = refl
@@ -90,7 +93,7 @@ headed-same text spans count c = go (eqb count 6) refl
 -- ---- The questions 1 to 3
 
 module _ (text : List ℕ) (header model R P limit rowsLength countsLength : ℕ) {k : ℕ} (e : k ≡ firstNo (callQuestions header model R P rowsLength countsLength)) where
-  -- their numbers
+  -- the number of a No to the questions 1 to 3
   pub first-three : k ≤ 3
   unfolding firstNo callQuestions
   first-three = go (longEnough R P rowsLength countsLength) (inLimits model R P) (headerWord header) e
@@ -101,23 +104,24 @@ module _ (text : List ℕ) (header model R P limit rowsLength countsLength : ℕ
       go true false z q = omega arith
       go false y z q = omega arith
 
-  -- a No among them
+  -- a No to one of the questions 1 to 3 refuses the call
   pub call-refused : (k ≡ 0 → ⊥) → checkTrace text header model R P limit rowsLength countsLength ≡ refused k 0
   unfolding checkTrace
   call-refused n = rw (← e, ne-eqb k 0 n)
 
-  -- three times Yes: the text is read
+  -- where the questions 1 to 3 have Yes, the text decides
   pub call-passed : k ≡ 0 → checkTrace text header model R P limit rowsLength countsLength ≡ readTrace header R P (records text limit)
   unfolding checkTrace
   call-passed z = rw (← e, eq-eqb k 0 z)
 
--- ---- What is left
+-- ---- What the call leaves
 
--- an answer tells the outcome
+-- the answer of a refusal tells the outcome
 pub refused-told : (o : Outcome) {k p : ℕ} → Refused k p ≡ checkedOf o → o ≡ refused k p
 refused-told (refused a b) e = cc
 refused-told (accepted rows) e = let z : _≡_ {A = ℕ} 0 1 = cc in absurd (omega arith)
 
+-- the answer of an accepted trace tells the outcome
 pub accepted-told : (o : Outcome) {n : ℕ} → Accepted n ≡ checkedOf o → (rows : List Row) × (o ≡ accepted rows) × (n ≡ length rows)
 accepted-told (refused a b) e = let z : _≡_ {A = ℕ} 0 1 = cc in absurd (omega arith)
 accepted-told (accepted rows) e = (rows, refl, cc)
@@ -133,7 +137,7 @@ module _ {o : Outcome} (xs us : List ℕ) where
         counts-left = sym (ap (λ (b : Bool). cond b us (replicate (length us) 0)) (le-leb k 3 h));
       })
 
-  -- any other clears both
+  -- any other refusal clears both slices
   pub leaves-none : {k p : ℕ} {ys vs : List ℕ} → o ≡ refused k p → 4 ≤ k → ys ≡ replicate (length xs) 0 → vs ≡ replicate (length us) 0 →
       Leaves o (Refused k p) xs ys us vs
   leaves-none {k} e h r c =
@@ -152,10 +156,11 @@ module _ {o : Outcome} (xs us : List ℕ) where
     size : length (numbers (t .0)) ≡ n * 6
     size = length-numbers (t .0) ∙ omega (arith, t .2)
 
+    -- the slice holds the rows
     pub rows-in : n * 6 ≤ length ys
     rows-in = omega (arith, size, ap length held, length-append (numbers (t .0)) (drop (6 * length (t .0)) xs))
 
-    -- with what stands behind them cleared
+    -- the rows stay, and the code clears what stands behind them
     pub leaves-rows : {last vs : List ℕ} → last ≡ replicate (length (take (length ys - n * 6) (drop (n * 6) ys))) 0 → vs ≡ replicate (length us) 0 →
         Leaves o (Accepted n) xs (putMid (n * 6) (length ys - n * 6) ys last) us vs
     leaves-rows {last} {vs} l c =

@@ -1,5 +1,5 @@
--- The questions put to an input, each one definition, in document 01's order; the first No decides. What a question is, and the questions 8
--- to 11, which are put to the fields of one record, is defined in the crate `trace_fields`.
+-- The questions put to an input, each one definition, in document 01's order; the first No decides. The crate `trace_fields` defines the
+-- questions 8 to 11, which are put to the fields of one record.
 use Prim.Native.Nat.{ℕ, _+_, _*_, _-_}
 use mathlib.Core.Bool.{Bool, true, false, cond, not, _&&_, _||_}
 use mathlib.Core.List.{List, [], _∷_, _++_}
@@ -19,7 +19,7 @@ pub use Rattle.trace_fields.specs.Questions.{kindKnown, asUsed, endInRange}
 unfoldable pub use Rattle.trace_fields.specs.Questions.{filledAsUsed, numbersInRange, fieldQuestions}
 use Rattle.rows.specs.Questions.{Question, firstNo, longEnough}
 
--- ---- First, of the caller's numbers and slices
+-- ---- The questions of the caller's numbers and slices
 
 -- 2. Are model 0 to 3, row limit 1 to 4,096, process limit 1 to 64?
 abbrev pub inLimits : ℕ → ℕ → ℕ → Bool
@@ -30,13 +30,14 @@ inLimits model rowLimit processLimit =
 abbrev pub headerWord : ℕ → Bool
 headerWord header = leb header 1
 
+-- the questions 1 to 3
 unfoldable pub callQuestions : ℕ → ℕ → ℕ → ℕ → ℕ → ℕ → List Question
 callQuestions header model rowLimit processLimit rowsLength countsLength =
     record { number = 1; yes = longEnough rowLimit processLimit rowsLength countsLength }
     ∷ (record { number = 2; yes = inLimits model rowLimit processLimit }
     ∷ (record { number = 3; yes = headerWord header } ∷ []))
 
--- ---- Then of each record. 4, whether it is well formed, is answered by reading it.
+-- ---- The questions of each record. Reading a record answers 4, whether the record is well formed.
 
 -- 5. Has the header the six names in order?
 abbrev pub isHeader : List (List ℕ) → Bool
@@ -59,12 +60,15 @@ any test (r ∷ rs) = test r || any test rs
 abbrev pub carries : ℕ → ℕ → Row → Bool
 carries kind message r = eqb (r .kind) kind && eqb (r .message) message
 
+-- some row sends the message
 abbrev pub sent : ℕ → List Row → Bool
 sent message rows = any (carries SEND message) rows
 
+-- some row of another process sends the message
 abbrev pub sentByOther : ℕ → ℕ → List Row → Bool
 sentByOther process message rows = any (λ r. carries SEND message r && not (eqb (r .process) process)) rows
 
+-- some row receives the message
 abbrev pub received : ℕ → List Row → Bool
 received message rows = any (carries RECV message) rows
 
@@ -74,7 +78,7 @@ messageInOrder earlier r =
     cond (eqb (r .kind) SEND) (not (sent (r .message) earlier))
     (cond (eqb (r .kind) RECV) (sentByOther (r .process) (r .message) earlier && not (received (r .message) earlier)) true)
 
--- all questions put to a row's record, behind the rows before it
+-- the questions 6 to 12 of a record behind the rows before
 unfoldable pub rowQuestions : ℕ → ℕ → List Row → List (List ℕ) → List Question
 rowQuestions rowLimit processLimit earlier fields =
     record { number = 6; yes = inRowLimit rowLimit (length earlier) }
@@ -88,7 +92,7 @@ pub data Outcome : Type 0 where
   refused : (number place : ℕ) → Outcome
   accepted : List Row → Outcome
 
--- the rest of the records behind the rows before them, and how the text ends; a record that meets the byte limit gets 6
+-- the outcome of the rest of the records behind the rows before, by how the text ends; a record that meets the byte limit gets 6
 unfoldable pub judgeRows : ℕ → ℕ → List Row → List (List (List ℕ)) → Ending → Outcome
 judgeRows rowLimit processLimit rows [] all-read = accepted rows
 judgeRows rowLimit processLimit rows [] at-malformed = refused 4 (length rows + 1)
@@ -97,7 +101,7 @@ judgeRows rowLimit processLimit rows (fields ∷ rest) ending =
     let first = firstNo (rowQuestions rowLimit processLimit rows fields) in
     cond (eqb first 0) (judgeRows rowLimit processLimit (rows ++ (rowOf fields ∷ [])) rest ending) (refused first (length rows + 1))
 
--- the first record as the header, at place 0; one that meets the byte limit gets 5, and so does a text without records
+-- the outcome of records with a header first, at place 0; a header that meets the byte limit gets 5, as does a text without records
 unfoldable pub judgeHeader : ℕ → ℕ → List (List (List ℕ)) → Ending → Outcome
 judgeHeader rowLimit processLimit [] all-read = refused 5 0
 judgeHeader rowLimit processLimit [] at-malformed = refused 4 0
@@ -105,12 +109,12 @@ judgeHeader rowLimit processLimit [] at-limit = refused 5 0
 judgeHeader rowLimit processLimit (fields ∷ rest) ending =
     cond (isHeader fields) (judgeRows rowLimit processLimit [] rest ending) (refused 5 0)
 
--- a text whose header word is 0 or 1
+-- the outcome of a text whose header word is 0 or 1
 unfoldable pub readTrace : ℕ → ℕ → ℕ → Records → Outcome
 readTrace header rowLimit processLimit r =
     cond (eqb header 0) (judgeRows rowLimit processLimit [] (r .rows) (r .ending)) (judgeHeader rowLimit processLimit (r .rows) (r .ending))
 
--- the whole call
+-- the outcome of the whole call
 unfoldable pub checkTrace : List ℕ → ℕ → ℕ → ℕ → ℕ → ℕ → ℕ → ℕ → Outcome
 checkTrace text header model rowLimit processLimit byteLimit rowsLength countsLength =
     let first = firstNo (callQuestions header model rowLimit processLimit rowsLength countsLength) in
@@ -123,7 +127,7 @@ abbrev pub checkedOf : Outcome → Checked
 checkedOf (refused number place) = Refused number place
 checkedOf (accepted rows) = Accepted (length rows)
 
--- the rows of an accepted trace stand at the front of a slice that was xs, and the rest of it is as it was
+-- the rows of an accepted trace stand at the front of a slice that was xs, and the rest of the slice is unchanged
 abbrev pub Holds : Outcome → List ℕ → List ℕ → Type 0
 Holds (refused number place) xs ys = Unit {0}
 Holds (accepted rows) xs ys = ys ≡ numbers rows ++ drop (6 * length rows) xs
@@ -137,12 +141,12 @@ abbrev pub rowsLeft : Outcome → List ℕ → List ℕ
 rowsLeft (refused number place) xs = refusalLeaves number xs
 rowsLeft (accepted rows) xs = numbers rows ++ replicate (length xs - 6 * length rows) 0
 
--- the counts' slice is cleared for whoever fills it
+-- an accepted trace leaves the counts' slice filled with 0
 abbrev pub countsLeft : Outcome → List ℕ → List ℕ
 countsLeft (refused number place) xs = refusalLeaves number xs
 countsLeft (accepted rows) xs = replicate (length xs) 0
 
--- what a call answers, and what it leaves of the rows' slice and of the counts'
+-- what a call answers, and what the call leaves of the rows' slice and of the counts' slice
 pub record Leaves (o : Outcome) (answer : Checked) (rows rows′ counts counts′ : List ℕ) : Type 0 where
   pub answered : answer ≡ checkedOf o
   pub rows-left : rows′ ≡ rowsLeft o rows

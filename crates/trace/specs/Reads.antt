@@ -1,5 +1,5 @@
--- What the parts of the reading answer, put together from the questions. These are the contracts of private functions; specs/Questions.antt
--- says what the whole call answers. What is answered of one record's fields is defined in the crate `trace_fields`.
+-- The contracts of private functions: what the parts of the reading answer, put together from the questions. specs/Questions.antt says what
+-- the whole call answers; the crate `trace_fields` defines what the fields of one record answer.
 use Prim.Native.Nat.{ℕ, suc}
 use mathlib.Core.Bool.{Bool, not, _&&_, _||_}
 use mathlib.Core.List.{List, [], _∷_, _++_}
@@ -29,11 +29,11 @@ judgedRow rowLimit processLimit n earlier count fields =
 abbrev pub headed : ℕ → List (List ℕ) → Bool
 headed count fields = eqb count 6 && isHeader fields
 
--- a row of this kind and message and, where another process's is asked for, not of this process
+-- a row of this kind and message and, where `other` asks for another process's row, not of this process
 abbrev pub matches : ℕ → ℕ → ℕ → Bool → Row → Bool
 matches kind message process other r = carries kind message r && (not other || not (eqb (r .process) process))
 
--- the rows from a place of the text on
+-- the outcome of the rows from a place of the text on
 unfoldable pub judgeFrom : ℕ → ℕ → List ℕ → ℕ → ℕ → Outcome
 judgeFrom rowLimit processLimit text byteLimit at =
     let r = recordsFrom (suc (length text)) text byteLimit at in

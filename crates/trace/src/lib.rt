@@ -1,4 +1,4 @@
-// Traces: rows of file operations, read from RFC 4180 text into slices that the caller lends, and the questions that an input is asked.
+// Reads a trace, rows of file operations in RFC 4180 text, into slices that the caller lends, and puts the questions 1 to 12 to it.
 mod reading;
 
 ghost use mathlib.Core.Path.{_≡_};
@@ -13,33 +13,33 @@ use csv_field::Span;
 use rows::refusal;
 ghost use Rattle.rows.specs.Limits.{ROWS};
 
+// The numbers of a call: the header word, the model, and the limits of rows, processes and bytes.
+pub struct Call {
+    pub header: u32,
+    pub model: u32,
+    pub row_limit: u32,
+    pub process_limit: u32,
+    pub byte_limit: usize,
+}
+
 // The answer to a trace: its row count, or the number of the question that was answered No and the record's place.
 pub enum Checked {
     Accepted(u32),
     Refused(u32, u32),
 }
 
-// Reads a trace into the lent rows, six numbers each, and clears the lent counts. Questions 1 to 3 come first and their refusals keep both
-// slices; any other refusal leaves both filled with 0, and an accepted trace leaves its rows and 0 behind them.
-pub fn check_trace(
-    text: &[u8],
-    header: u32,
-    model: u32,
-    row_limit: u32,
-    process_limit: u32,
-    byte_limit: usize,
-    rows: &mut [u32],
-    counts: &mut [u16],
-) -> Checked
+// Reads a trace into the lent rows, six numbers each, and clears the lent counts. The questions 1 to 3 come first, and their refusals keep
+// both slices; any other refusal leaves both filled with 0, and an accepted trace leaves its rows and 0 behind them.
+pub fn check_trace(text: &[u8], call: Call, rows: &mut [u32], counts: &mut [u16]) -> Checked
     ensures { λ r. ⌜ Leaves
-        (checkTrace (now (text .entry)) header model «row_limit» «process_limit» «byte_limit» (length (now (rows .entry))) (length (now (counts .entry))))
+        (checkTrace (now (text .entry)) (call .header) (call .model) (call .«row_limit») (call .«process_limit») (call .«byte_limit») (length (now (rows .entry))) (length (now (counts .entry))))
         r (now (rows .entry)) (now (rows .exit)) (now (counts .entry)) (now (counts .exit)) ⌝ }
 {
     let no = ask_call(
-        header,
-        model,
-        row_limit,
-        process_limit,
+        call.header,
+        call.model,
+        call.row_limit,
+        call.process_limit,
         rows.len(),
         counts.len(),
     );
@@ -47,7 +47,14 @@ pub fn check_trace(
         return Checked::Refused(no, 0);
     }
     rows::clear_counts(counts);
-    match read_trace(text, header, row_limit, process_limit, byte_limit, rows) {
+    match read_trace(
+        text,
+        call.header,
+        call.row_limit,
+        call.process_limit,
+        call.byte_limit,
+        rows,
+    ) {
         Checked::Accepted(n) => {
             let end = n as usize * rows::FIELDS;
             rows::clear(&mut rows[end..]);
@@ -60,7 +67,7 @@ pub fn check_trace(
     }
 }
 
-// The questions 1 to 3.
+// Puts the questions 1 to 3 to a call: answers the number of the first No, and 0 where there is none.
 fn ask_call(
     header: u32,
     model: u32,
@@ -98,7 +105,7 @@ fn ask_call(
     0
 }
 
-// The questions 4 to 12, the header's first where there is one.
+// Puts the questions 4 to 12 to a text: where the header word is not 0, first to the header.
 fn read_trace(
     text: &[u8],
     header: u32,
@@ -130,7 +137,7 @@ fn read_trace(
     }
 }
 
-// The record has the six names of the header in order.
+// Whether the record has the six names of the header in order.
 fn is_header(text: &[u8], count: usize, spans: [Span; 6]) -> bool
     ensures { λ r. ⌜ r ≡ headed count (fieldsOf (now (text .entry)) spans) ⌝ }
 {

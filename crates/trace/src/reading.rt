@@ -1,4 +1,4 @@
-// Row after row, in a slice of six numbers each.
+// Reads row after row into a slice of six numbers for each row, and puts the questions 6 to 12 to each record.
 ghost use mathlib.Core.Path.{_≡_};
 ghost use mathlib.Core.List.{_++_};
 ghost use Prim.Native.Nat.{_+_, _*_, _≤_};
@@ -14,7 +14,7 @@ use rows::refusal;
 use trace_numbers::ReadRow;
 ghost use Rattle.rows.specs.Limits.{ROWS};
 
-// The row at a place has this kind and message and, where another process's is asked for, not this process.
+// Whether the row at `at` has this kind and message and, where `other` asks for another process's row, not this process.
 fn row_matches(rows: &[u32], at: usize, kind: u32, message: u32, process: u32, other: bool) -> bool
     requires { ⌜ at + 6 ≤ length (now rows) ⌝ }
     ensures { λ r. ⌜ r ≡ matches kind message process other (rowHere (drop at (now (rows .entry)))) ⌝ }
@@ -31,7 +31,7 @@ fn row_matches(rows: &[u32], at: usize, kind: u32, message: u32, process: u32, o
     rows[at] != process
 }
 
-// Some of the first n rows matches.
+// Whether some of the first n rows matches.
 fn some_row(rows: &[u32], n: usize, kind: u32, message: u32, process: u32, other: bool) -> bool
     requires { ⌜ n * 6 ≤ length (now rows) ⌝ }
     ensures { λ r. ⌜ r ≡ any (matches kind message process other) (rowsIn n (now (rows .entry))) ⌝ }
@@ -46,7 +46,7 @@ fn some_row(rows: &[u32], n: usize, kind: u32, message: u32, process: u32, other
     false
 }
 
-// Question 12.
+// Question 12: whether the row's message is in order behind the first n rows.
 fn in_order(rows: &[u32], n: usize, row: Row) -> bool
     requires { ⌜ n * 6 ≤ length (now rows) ⌝ }
     ensures { λ r. ⌜ r ≡ messageInOrder (rowsIn n (now (rows .entry))) row ⌝ }
@@ -66,7 +66,7 @@ fn in_order(rows: &[u32], n: usize, row: Row) -> bool
     }
 }
 
-// The questions 6 to 12 of the record behind the first n rows.
+// Puts the questions 6 to 12 to the record behind the first n rows.
 fn judge_row(
     text: &[u8],
     count: usize,
@@ -96,7 +96,7 @@ fn judge_row(
     }
 }
 
-// Reads rows from a place of the text on, up to its end or the first No.
+// Reads rows from a place of the text on, up to the end of the text or the first No.
 pub(crate) fn read_rows(
     text: &[u8],
     start: usize,

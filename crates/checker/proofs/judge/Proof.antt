@@ -36,7 +36,7 @@ returns : tie.Need-returns
 returns c =
     let t = c .before .before .before .before .before .before .before in
     let a = t .before .before .before .before .before .before .args in
-    decides-refused (now (a .text)) (a .header) (a .model) (a .row-limit) (a .process-limit) (a .byte-limit) (now (a .rows)) (now (a .counts))
+    decides-refused (now (a .text)) (a .call .header) (a .call .model) (a .call .«row_limit») (a .call .«process_limit») (a .call .«byte_limit») (now (a .rows)) (now (a .counts))
     (t .check-trace .ensures) (c .before .number .given .1)
 
 same-length-3 : tie.Need-same-length-3
@@ -51,7 +51,7 @@ returns-2 c =
     let n = v .before .before .before .before in
     let t = n .before .before .before .before .before .before in
     let a = t .before .before .before .before .before .before .args in
-    decides (now (a .text)) (a .header) (a .model) (a .row-limit) (a .process-limit) (a .byte-limit) (now (a .rows)) (now (a .counts))
+    decides (now (a .text)) (a .call .header) (a .call .model) (a .call .«row_limit») (a .call .«process_limit») (a .call .«byte_limit») (now (a .rows)) (now (a .counts))
     (t .check-trace .ensures) (n .n .given .1) (v .verdict .ensures) (c .enum-told .given .1)
 
 same-length-5 : tie.Need-same-length-5
@@ -66,7 +66,7 @@ returns-3 c =
     let n = v .before .before .before .before in
     let t = n .before .before .before .before .before .before in
     let a = t .before .before .before .before .before .before .args in
-    decides (now (a .text)) (a .header) (a .model) (a .row-limit) (a .process-limit) (a .byte-limit) (now (a .rows)) (now (a .counts))
+    decides (now (a .text)) (a .call .header) (a .call .model) (a .call .«row_limit») (a .call .«process_limit») (a .call .«byte_limit») (now (a .rows)) (now (a .counts))
     (t .check-trace .ensures) (n .n .given .1) (v .verdict .ensures) (c .before .earlier .given .1)
 
 same-length-7 : tie.Need-same-length-7
@@ -81,7 +81,7 @@ returns-4 c =
     let n = v .before .before .before .before in
     let t = n .before .before .before .before .before .before in
     let a = t .before .before .before .before .before .before .args in
-    decides (now (a .text)) (a .header) (a .model) (a .row-limit) (a .process-limit) (a .byte-limit) (now (a .rows)) (now (a .counts))
+    decides (now (a .text)) (a .call .header) (a .call .model) (a .call .«row_limit») (a .call .«process_limit») (a .call .«byte_limit») (now (a .rows)) (now (a .counts))
     (t .check-trace .ensures) (n .n .given .1) (v .verdict .ensures) (c .before .number2 .given .1)
 
 pub judge-spec : {M : Type 1} → statement M

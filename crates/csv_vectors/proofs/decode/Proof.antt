@@ -8,6 +8,7 @@ use Rattle.io.proofs.Counting.{counts}
 use Rattle.csv_vectors.proofs.decode.Statement.{statement}
 use Rattle.csv_vectors.proofs.decode.Tie as tie
 
+-- `count` bytes stand at the front of `bytes`, whose length stays.
 abbrev Inv-loop : tie.InvT-loop
 Inv-loop line from bytes₀ at₀ count₀ bytes at count = (count ≤ length bytes) × (length bytes ≡ length bytes₀)
 

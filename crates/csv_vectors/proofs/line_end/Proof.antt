@@ -5,6 +5,7 @@ use lib.ListN.{length}
 use Rattle.csv_vectors.proofs.line_end.Statement.{statement}
 use Rattle.csv_vectors.proofs.line_end.Tie as tie
 
+-- The place is at or behind the start and not past the end.
 abbrev Inv-loop : tie.InvT-loop
 Inv-loop input from at₀ at = (from ≤ at) × (at ≤ length input)
 

@@ -4,6 +4,7 @@ use Prim.Native.Nat.{_≤_, _-_}
 use Rattle.csv_vectors.proofs.put_records.Statement.{statement}
 use Rattle.csv_vectors.proofs.put_records.Tie as tie
 
+-- At most RECORDS records are written.
 abbrev Inv-loop : tie.InvT-loop
 Inv-loop text limit at₀ counter₀ at counter = counter ≤ 8
 

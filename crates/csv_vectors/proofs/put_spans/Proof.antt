@@ -4,6 +4,7 @@ use Prim.Native.Nat.{_≤_, _-_}
 use Rattle.csv_vectors.proofs.put_spans.Statement.{statement}
 use Rattle.csv_vectors.proofs.put_spans.Tie as tie
 
+-- At most six spans are written.
 abbrev Inv-loop : tie.InvT-loop
 Inv-loop text count spans i₀ i = i ≤ 6
 

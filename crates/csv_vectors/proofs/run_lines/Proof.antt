@@ -5,6 +5,7 @@ use lib.ListN.{length}
 use Rattle.csv_vectors.proofs.run_lines.Statement.{statement}
 use Rattle.csv_vectors.proofs.run_lines.Tie as tie
 
+-- Nothing has to hold between two lines.
 abbrev Inv-loop : tie.InvT-loop
 Inv-loop input at₀ at = Unit {0}
 

@@ -18,9 +18,9 @@ ask-call-requires c κs = search needs
 returns : tie.Need-returns
 returns c =
     let a = c .before .before .before .before .before .args in
-    leaves-all (now (a .rows)) (now (a .counts)) (call-refused (now (a .text)) (a .header) (a .model) (a .row-limit) (a .process-limit)
-    (a .byte-limit) (length (now (a .rows))) (length (now (a .counts))) (c .before .ask-call .ensures) (c .if1 .taken))
-    (first-three (now (a .text)) (a .header) (a .model) (a .row-limit) (a .process-limit) (a .byte-limit) (length (now (a .rows)))
+    leaves-all (now (a .rows)) (now (a .counts)) (call-refused (now (a .text)) (a .call .header) (a .call .model) (a .call .«row_limit») (a .call .«process_limit»)
+    (a .call .«byte_limit») (length (now (a .rows))) (length (now (a .counts))) (c .before .ask-call .ensures) (c .if1 .taken))
+    (first-three (now (a .text)) (a .call .header) (a .call .model) (a .call .«row_limit») (a .call .«process_limit») (a .call .«byte_limit») (length (now (a .rows)))
     (length (now (a .counts))) (c .before .ask-call .ensures))
 
 clear-counts-requires : tie.Need-clear-counts-requires
@@ -29,7 +29,7 @@ clear-counts-requires c κs = search needs
 read-trace-requires : tie.Need-read-trace-requires
 read-trace-requires c κs =
     let a = c .before .before .before .before .before .before .before .before .before .before .args in
-    let l = legal (a .header) (a .model) (a .row-limit) (a .process-limit) (length (now (a .rows))) (length (now (a .counts)))
+    let l = legal (a .call .header) (a .call .model) (a .call .«row_limit») (a .call .«process_limit») (length (now (a .rows))) (length (now (a .counts)))
     (sym (c .before .before .before .before .before .before .ask-call .ensures) ∙ c .before .before .before .before .before .if1 .left) in
     (l .few-rows, l .rows-fit)
 
@@ -42,9 +42,9 @@ cast-end c = search needs
 mul-end : tie.Need-mul-end
 mul-end c =
     let a = c .before .before .before .before .before .before .before .before .before .before .before .before .before .before .before .before .args in
-    let p = call-passed (now (a .text)) (a .header) (a .model) (a .row-limit) (a .process-limit) (a .byte-limit) (length (now (a .rows)))
+    let p = call-passed (now (a .text)) (a .call .header) (a .call .model) (a .call .«row_limit») (a .call .«process_limit») (a .call .«byte_limit») (length (now (a .rows)))
     (length (now (a .counts))) (c .before .before .before .before .before .before .before .before .before .before .before .before .ask-call .ensures) (c .before .before .before .before .before .before .before .before .before .before .before .if1 .left) in
-    let o = checkTrace (now (a .text)) (a .header) (a .model) (a .row-limit) (a .process-limit) (a .byte-limit) (length (now (a .rows)))
+    let o = checkTrace (now (a .text)) (a .call .header) (a .call .model) (a .call .«row_limit») (a .call .«process_limit») (a .call .«byte_limit») (length (now (a .rows)))
     (length (now (a .counts))) in
     let ys = c .before .before .before .before .before .read-trace .last .1 .1 .1 .1 .1 .0 in
     let t = accepted-told o (sym (c .before .n .given .1) ∙ c .before .before .before .before .before .read-trace .ensures .0
@@ -55,9 +55,9 @@ mul-end c =
 mul-clear : tie.Need-mul-clear
 mul-clear c =
     let a = c .before .before .before .before .before .before .before .before .before .before .before .before .before .before .before .before .args in
-    let p = call-passed (now (a .text)) (a .header) (a .model) (a .row-limit) (a .process-limit) (a .byte-limit) (length (now (a .rows)))
+    let p = call-passed (now (a .text)) (a .call .header) (a .call .model) (a .call .«row_limit») (a .call .«process_limit») (a .call .«byte_limit») (length (now (a .rows)))
     (length (now (a .counts))) (c .before .before .before .before .before .before .before .before .before .before .before .before .ask-call .ensures) (c .before .before .before .before .before .before .before .before .before .before .before .if1 .left) in
-    let o = checkTrace (now (a .text)) (a .header) (a .model) (a .row-limit) (a .process-limit) (a .byte-limit) (length (now (a .rows)))
+    let o = checkTrace (now (a .text)) (a .call .header) (a .call .model) (a .call .«row_limit») (a .call .«process_limit») (a .call .«byte_limit») (length (now (a .rows)))
     (length (now (a .counts))) in
     let ys = c .before .before .before .before .before .read-trace .last .1 .1 .1 .1 .1 .0 in
     let t = accepted-told o (sym (c .before .n .given .1) ∙ c .before .before .before .before .before .read-trace .ensures .0
@@ -68,9 +68,9 @@ mul-clear c =
 sub-clear : tie.Need-sub-clear
 sub-clear c =
     let a = c .before .before .before .before .before .before .before .before .before .before .before .before .before .before .before .before .args in
-    let p = call-passed (now (a .text)) (a .header) (a .model) (a .row-limit) (a .process-limit) (a .byte-limit) (length (now (a .rows)))
+    let p = call-passed (now (a .text)) (a .call .header) (a .call .model) (a .call .«row_limit») (a .call .«process_limit») (a .call .«byte_limit») (length (now (a .rows)))
     (length (now (a .counts))) (c .before .before .before .before .before .before .before .before .before .before .before .before .ask-call .ensures) (c .before .before .before .before .before .before .before .before .before .before .before .if1 .left) in
-    let o = checkTrace (now (a .text)) (a .header) (a .model) (a .row-limit) (a .process-limit) (a .byte-limit) (length (now (a .rows)))
+    let o = checkTrace (now (a .text)) (a .call .header) (a .call .model) (a .call .«row_limit») (a .call .«process_limit») (a .call .«byte_limit») (length (now (a .rows)))
     (length (now (a .counts))) in
     let ys = c .before .before .before .before .before .read-trace .last .1 .1 .1 .1 .1 .0 in
     let t = accepted-told o (sym (c .before .n .given .1) ∙ c .before .before .before .before .before .read-trace .ensures .0
@@ -81,9 +81,9 @@ sub-clear c =
 part-clear-start : tie.Need-part-clear-start
 part-clear-start c =
     let a = c .before .before .before .before .before .before .before .before .before .before .before .before .before .before .before .before .args in
-    let p = call-passed (now (a .text)) (a .header) (a .model) (a .row-limit) (a .process-limit) (a .byte-limit) (length (now (a .rows)))
+    let p = call-passed (now (a .text)) (a .call .header) (a .call .model) (a .call .«row_limit») (a .call .«process_limit») (a .call .«byte_limit») (length (now (a .rows)))
     (length (now (a .counts))) (c .before .before .before .before .before .before .before .before .before .before .before .before .ask-call .ensures) (c .before .before .before .before .before .before .before .before .before .before .before .if1 .left) in
-    let o = checkTrace (now (a .text)) (a .header) (a .model) (a .row-limit) (a .process-limit) (a .byte-limit) (length (now (a .rows)))
+    let o = checkTrace (now (a .text)) (a .call .header) (a .call .model) (a .call .«row_limit») (a .call .«process_limit») (a .call .«byte_limit») (length (now (a .rows)))
     (length (now (a .counts))) in
     let ys = c .before .before .before .before .before .read-trace .last .1 .1 .1 .1 .1 .0 in
     let t = accepted-told o (sym (c .before .n .given .1) ∙ c .before .before .before .before .before .read-trace .ensures .0
@@ -112,9 +112,9 @@ same-length-2 c = search needs
 returns-2 : tie.Need-returns-2
 returns-2 c =
     let a = c .before .before .before .before .before .before .before .before .before .before .before .before .before .before .before .before .before .before .before .before .args in
-    let p = call-passed (now (a .text)) (a .header) (a .model) (a .row-limit) (a .process-limit) (a .byte-limit) (length (now (a .rows)))
+    let p = call-passed (now (a .text)) (a .call .header) (a .call .model) (a .call .«row_limit») (a .call .«process_limit») (a .call .«byte_limit») (length (now (a .rows)))
     (length (now (a .counts))) (c .before .before .before .before .before .before .before .before .before .before .before .before .before .before .before .before .ask-call .ensures) (c .before .before .before .before .before .before .before .before .before .before .before .before .before .before .before .if1 .left) in
-    let o = checkTrace (now (a .text)) (a .header) (a .model) (a .row-limit) (a .process-limit) (a .byte-limit) (length (now (a .rows)))
+    let o = checkTrace (now (a .text)) (a .call .header) (a .call .model) (a .call .«row_limit») (a .call .«process_limit») (a .call .«byte_limit») (length (now (a .rows)))
     (length (now (a .counts))) in
     let ys = c .before .before .before .before .before .before .before .before .before .read-trace .last .1 .1 .1 .1 .1 .0 in
     let t = accepted-told o (sym (c .before .before .before .before .before .n .given .1)
@@ -132,13 +132,13 @@ same-length-4 c = search needs
 returns-3 : tie.Need-returns-3
 returns-3 c =
     let a = c .before .before .before .before .before .before .before .before .before .before .before .before .before .before .before .before .before .before .before .before .args in
-    let p = call-passed (now (a .text)) (a .header) (a .model) (a .row-limit) (a .process-limit) (a .byte-limit) (length (now (a .rows)))
+    let p = call-passed (now (a .text)) (a .call .header) (a .call .model) (a .call .«row_limit») (a .call .«process_limit») (a .call .«byte_limit») (length (now (a .rows)))
     (length (now (a .counts))) (c .before .before .before .before .before .before .before .before .before .before .before .before .before .before .before .before .ask-call .ensures) (c .before .before .before .before .before .before .before .before .before .before .before .before .before .before .before .if1 .left) in
-    let o = checkTrace (now (a .text)) (a .header) (a .model) (a .row-limit) (a .process-limit) (a .byte-limit) (length (now (a .rows)))
+    let o = checkTrace (now (a .text)) (a .call .header) (a .call .model) (a .call .«row_limit») (a .call .«process_limit») (a .call .«byte_limit») (length (now (a .rows)))
     (length (now (a .counts))) in
     let e = refused-told o (sym (c .before .before .before .before .before .number .given .1)
     ∙ c .before .before .before .before .before .before .before .before .before .read-trace .ensures .0 ∙ ap checkedOf (sym p)) in
-    let four = refused-from-four (a .header) (a .row-limit) (a .process-limit) (records (now (a .text)) (a .byte-limit)) _ _ (sym p ∙ e) in
+    let four = refused-from-four (a .call .header) (a .call .«row_limit») (a .call .«process_limit») (records (now (a .text)) (a .call .«byte_limit»)) _ _ (sym p ∙ e) in
     leaves-none (now (a .rows)) (now (a .counts)) e four (c .before .before .clear2 .ensures ∙ ap (λ (k : ℕ). replicate k 0)
     (c .before .before .before .before .before .before .before .before .before .read-trace .kept .1 .1 .1 .1 .1 .0))
     (c .before .before .before .before .before .before .before .before .before .before .before .before .before .clear-counts .ensures)

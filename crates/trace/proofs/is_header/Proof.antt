@@ -13,11 +13,11 @@ use Rattle.trace.proofs.is_header.Reads as reads
 use Rattle.trace.proofs.is_header.Lts as lts
 use Rattle.csv_content.proofs.is_word.Reads as is-word-reads
 
--- the first k names are there
+-- the record has the first k names
 abbrev Here : lts.Start (is-word-reads.Asked, is-word-reads.Learnt) reads.Pre reads.Post → ℕ → Type 0
 Here c k = Named (now (c .args .text)) (c .args .count) (c .args .t3) k
 
--- where the code goes on, one name more is there
+-- behind each test the record has one name more
 here-0 : (c : lts.Else1 (is-word-reads.Asked, is-word-reads.Learnt) reads.Pre reads.Post) → Here (c .before .before) 0
 here-0 c = let s : length (c .before .before .args .t3) ≡ 6 = omega arith in none-named s (c .if1 .left)
 

@@ -12,6 +12,7 @@ use mathlib.Core.Path.{_≡_, refl, _∙_}
 use Rattle.trace.proofs.reading.read_rows.Statement.{statement}
 use Rattle.trace.proofs.reading.read_rows.Tie as tie
 
+-- The outcome is that of the records from `at` on behind the n rows read so far, and the slice holds those rows.
 abbrev Inv-loop : tie.InvT-loop
 Inv-loop text start row-limit process-limit byte-limit rows₀ at₀ n₀ rows at n = Going row-limit process-limit text byte-limit start rows₀ at n rows × (length rows ≡ length rows₀)
 

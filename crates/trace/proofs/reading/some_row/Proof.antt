@@ -11,6 +11,7 @@ use denote.Ref.{now}
 use Rattle.trace.proofs.reading.some_row.Statement.{statement}
 use Rattle.trace.proofs.reading.some_row.Tie as tie
 
+-- Some of the first n rows matches exactly where some of the rows from i on does.
 abbrev Inv-loop : tie.InvT-loop
 Inv-loop rows n kind message process other i₀ i =
     let f = matches kind message process other in
