@@ -39,18 +39,18 @@ use Rattle.machine_state.proofs.Answering.{same-kept, carried, refused}
 
 -- ---- Is the state lawful?
 
--- a map behind the first one lies in the slice
+-- The map of process p lies in the slice.
 pub next-in : (size n len p : ℕ) → (n + 1) * size ≤ len → p < n → (p + 1) * size + size ≤ len
 next-in size n len p h l = let m : p + 1 + 1 ≤ n + 1 = omega arith in omega (arith, mul-le-mul-right size m)
 
--- the space of all maps is a number of 64 bits
+-- The space of all maps is a number of 64 bits.
 pub limit-fits : (space n : ℕ) → space < 4294967296 → processLimit n ≡ true → space * (n + 1) < 18446744073709551616
 limit-fits space n h e =
     let b = and-out (leb 1 n) (leb n PROCESSES) e in
     let m : n + 1 ≤ 65 = omega (arith, leb-true n PROCESSES (b .1)) in
     omega (arith, mul-le-mul-left space m)
 
--- what is asked of a map as it is lent is asked of the map
+-- The answer for the lent part of the slice is the answer for the map.
 pub lent-lawful : (size p : ℕ) (xs : List ℕ) (b : Bool) → let at = (p + 1) * size in
     b ≡ lawful (take (at + size - at) (drop at xs)) → lawful (take size (drop (suc p * size) xs)) ≡ b
 lent-lawful size p xs b h =
@@ -59,29 +59,29 @@ lent-lawful size p xs b h =
     (λ i. lawful (take (e i) (drop (q i) xs))) ∙ sym h
 
 module _ (h : Header) (xs : List ℕ) where
-  -- what is asked of the maps
+  -- The published map is lawful and without marks, and every view is lawful.
   abbrev mapsLaw : Bool
   mapsLaw = lawfulPublished (mapAt (h .space) 0 xs) && allBelow (h .processes) (λ p. lawful (mapAt (h .space) (suc p) xs))
 
-  -- the model
+  -- A model past the models: the state is not lawful.
   pub no-model : MODELS ≤ h .model → false ≡ lawfulState h xs
   unfolding lawfulState
   no-model a = sym (rw (le-ltb (h .model) MODELS a))
 
   module _ (a : h .model < MODELS) where
-    -- the process limit
+    -- No process limit: the state is not lawful.
     pub no-limit : processLimit (h .processes) ≡ false → false ≡ lawfulState h xs
     unfolding lawfulState
     no-limit b = sym (λ i. lt-ltb (h .model) MODELS a i && (b i && (ltb (h .file) FILES && (leb (mapsLength h) (length xs) && mapsLaw))))
 
     module _ (b : processLimit (h .processes) ≡ true) where
-      -- the file
+      -- A file past the files: the state is not lawful.
       pub no-file : FILES ≤ h .file → false ≡ lawfulState h xs
       unfolding lawfulState
       no-file d = sym (λ i. lt-ltb (h .model) MODELS a i && (b i && (le-ltb (h .file) FILES d i && (leb (mapsLength h) (length xs) && mapsLaw))))
 
       module _ (d : h .file < FILES) where
-        -- the slice
+        -- A slice that is too short: the state is not lawful.
         pub no-slice : length xs / 4 < h .space * (h .processes + 1) → false ≡ lawfulState h xs
         unfolding lawfulState
         no-slice l =
@@ -89,25 +89,25 @@ module _ (h : Header) (xs : List ℕ) where
             sym (λ i. lt-ltb (h .model) MODELS a i && (b i && (lt-ltb (h .file) FILES d i && (lt-leb (mapsLength h) (length xs) e i && mapsLaw))))
 
         module _ (l : h .space * (h .processes + 1) ≤ length xs / 4) where
-          -- the maps are left to ask
+          -- If the header and the slice pass, the maps decide.
           by-maps : lawfulState h xs ≡ mapsLaw
           unfolding lawfulState
           by-maps =
               let e : mapsLength h ≤ length xs = omega arith in
               λ i. lt-ltb (h .model) MODELS a i && (b i && (lt-ltb (h .file) FILES d i && (le-leb (mapsLength h) (length xs) e i && mapsLaw)))
 
-          -- the published map is lent as the front of the slice
+          -- The published map is lent as the front of the slice.
           by-first : {b : Bool} → lawfulPublished (take (4 * h .space) xs) ≡ b →
               b && allBelow (h .processes) (λ p. lawful (mapAt (h .space) (suc p) xs)) ≡ lawfulState h xs
           by-first e =
               let m = ap lawfulPublished (first-map (h .space) xs) ∙ e in
               sym (by-maps ∙ ap (λ (x : Bool). x && allBelow (h .processes) (λ p. lawful (mapAt (h .space) (suc p) xs))) m)
 
-          -- the published map
+          -- An unlawful published map: the state is not lawful.
           pub no-first : lawfulPublished (take (4 * h .space) xs) ≡ false → false ≡ lawfulState h xs
           no-first e = by-first e
 
-          -- the views
+          -- If the published map passes, the views decide.
           pub by-views : lawfulPublished (take (4 * h .space) xs) ≡ true →
               allBelow (h .processes) (λ p. lawful (mapAt (h .space) (suc p) xs)) ≡ lawfulState h xs
           by-views e = by-first e
@@ -115,7 +115,7 @@ module _ (h : Header) (xs : List ℕ) where
 -- ---- A row that is asked of a lawful state
 
 module _ (h : Header) (xs : List ℕ) (r : Row) (number : ℕ) (out : List ℕ) where
-  -- an unlawful state is refused
+  -- A step refuses an unlawful state by question 13.
   pub unlawful-step : lawfulState h xs ≡ false → Steps (stepOf h xs r number out) (Refused 13) xs out
   unfolding stepOf firstNo
   unlawful-step e =
@@ -123,7 +123,7 @@ module _ (h : Header) (xs : List ℕ) (r : Row) (number : ℕ) (out : List ℕ) 
       let pieces = piecesRead r (s .view (r .process)) in
       refused _ 13 xs out (λ i. cond (e i) (firstNo (rowAsked h r number ++ roomAsked (layersFit h s) pieces (length out))) 13) (λ z. omega arith)
 
-  -- the first No of the row decides
+  -- A step of a lawful state refuses by the first No of the row.
   pub asked-step : lawfulState h xs ≡ true → {k : ℕ} → k ≡ firstNo (rowAsked h r number) → (k ≡ 0 → ⊥) →
       Steps (stepOf h xs r number out) (Refused k) xs out
   unfolding stepOf firstNo
@@ -134,19 +134,19 @@ module _ (h : Header) (xs : List ℕ) (r : Row) (number : ℕ) (out : List ℕ) 
       refused _ k xs out (λ i. cond (law i) (first i) 13) n
 
 module _ {h : Header} {xs : List ℕ} {r : Row} {number : ℕ} (k : Ready h xs r number) where
-  -- its questions are all answered Yes
+  -- Every question of a ready row is answered Yes.
   ready-yes : AllYes (rowAsked h r number)
   ready-yes = asked-yes h r number (k .asked)
 
-  -- its process is below the limit
+  -- The process of a ready row is below the limit.
   ready-process : r .process < h .processes
   ready-process = asked-process h r number ready-yes
 
-  -- whose map lies in the slice
+  -- The map of the process lies in the slice.
   pub ready-room : (r .process + 1) * (4 * h .space) + 4 * h .space ≤ length xs
   ready-room = omega (arith, state-in h xs (k .lawful) (r .process) ready-process)
 
-  -- it has a row number
+  -- A ready row has a row number.
   ready-number : leb 1 number && leb number ROWS ≡ true
   unfolding rowAsked
   ready-number = ready-yes .1 .0
@@ -154,42 +154,43 @@ module _ {h : Header} {xs : List ℕ} {r : Row} {number : ℕ} (k : Ready h xs r
 -- ---- What a step answers and leaves
 
 module _ {h : Header} {xs : List ℕ} {r : Row} {number : ℕ} (k : Ready h xs r number) where
-  -- the state before the row
+  -- The state before the row.
   abbrev old : Layers
   old = layersIn h xs
 
-  -- its view of the row's process
+  -- The view of the row's process before the row.
   abbrev own : Bytes
   own = old .view (r .process)
 
-  -- the view of the process and the published map are two maps of the slice
+  -- The view of the process and the published map are two maps of the slice.
   two : twoMaps (h .space) (suc (r .process)) 0 xs ≡ true
   two = state-two h xs (k .lawful) (r .process) (ready-process k)
 
-  -- the view as it is lent
+  -- The lent view is the map of the process.
   lent-own : lentMap (h .space) (r .process + 1) xs ≡ mapAt (h .space) (suc (r .process)) xs
   lent-own = map-lent (h .space) (r .process + 1) xs ∙ ap (λ (n : ℕ). mapAt (h .space) n xs) (add-one (r .process))
 
-  -- so the entries for lawful maps serve: those of two maps, and those of one
+  -- A ready row meets what the entries for lawful maps ask: those of two maps, and those of one.
   pub ready-two : twoMaps (h .space) (r .process + 1) 0 xs ≡ true
   ready-two = ap (λ (n : ℕ). twoMaps (h .space) n 0 xs) (add-one (r .process)) ∙ two
 
+  -- The lent view of a ready row is lawful.
   pub ready-own : lawful (lentMap (h .space) (r .process + 1) xs) ≡ true
   ready-own = ap lawful lent-own ∙ state-view h xs (k .lawful) (r .process) (ready-process k)
 
-  -- the published map fits
+  -- The published map fits its space.
   shared-fits : plainFits h (old .shared) ≡ true
   shared-fits =
       let t = two-told (h .space) (suc (r .process)) 0 xs two in
       le-leb _ _ (here-fit (h .space) 0 xs (t .below-law) (t .below-in))
 
-  -- and so does the view
+  -- The view fits its space.
   own-fits : plainFits h own ≡ true
   own-fits =
       let t = two-told (h .space) (suc (r .process)) 0 xs two in
       le-leb _ _ (here-fit (h .space) (suc (r .process)) xs (t .view-law) (t .view-in))
 
-  -- and a state that keeps them is as it was
+  -- A state that keeps both maps is as it was.
   still-to : layersTo h (anew h xs (k .lawful) (r .process) (ready-process k) own (old .shared)) xs ≡ xs
   still-to =
       alike-to h (record { shared = refl; view = λ q l. go q (eqb q (r .process)) refl }) xs
@@ -199,21 +200,21 @@ module _ {h : Header} {xs : List ℕ} {r : Row} {number : ℕ} (k : Ready h xs r
       go q true e = ap (old .view) (sym (eqb-true q (r .process) e))
       go q false e = refl
 
-  -- a published map and a view, which are those after the row
+  -- A view v and published bytes w that the row leaves.
   module _ (v w : Bytes) (view : view′ (h .model) r number old ≡ v) (shared : shared′ (h .model) r number old ≡ w) where
-    -- that state
+    -- The state with these two maps.
     abbrev state : Layers
     state = anew h xs (k .lawful) (r .process) (ready-process k) v w
 
-    -- what a read lists of it
+    -- The pieces that a read lists of the view.
     abbrev pieces : List Run
     pieces = piecesRead r v
 
-    -- and whether it fits
+    -- Both maps fit their space.
     abbrev fits : Bool
     fits = plainFits h w && plainFits h v
 
-    -- the state after the row has them, and else what it had
+    -- The state after the row is the state with these two maps.
     row-alike : Alike (h .processes) (afterRow (h .model) r number old) state
     row-alike = let e = row-both (h .model) r number old in record { shared = e .0 ∙ shared; view = λ q l. go q (eqb q (r .process)) refl }
       where
@@ -222,7 +223,7 @@ module _ {h : Header} {xs : List ℕ} {r : Row} {number : ℕ} (k : Ready h xs r
             ap (afterRow (h .model) r number old .view) (eqb-true q (r .process) e) ∙ row-both (h .model) r number old .1 ∙ view
         go q false e = row-both (h .model) r number old .2 q (eqb-false q (r .process) e)
 
-    -- 16 and 17 are left to ask
+    -- If the state and the row pass, questions 16 and 17 decide.
     ready-step : (out : List ℕ) →
         stepOf h xs r number out ≡ decided (firstNo (roomAsked fits pieces (length out))) (answered r pieces (layersTo h state xs) out) xs out
     unfolding stepOf
@@ -235,17 +236,17 @@ module _ {h : Header} {xs : List ℕ} {r : Row} {number : ℕ} (k : Ready h xs r
         (no-behind qs (roomAsked (fit i) (p i) (length out)) (k .lawful, ready-yes k) i)
         (answered r (p i) (alike-to h row-alike xs i) out) xs out)
 
-    -- where nothing is refused, both fit
+    -- If neither 16 nor 17 refuses, both maps fit.
     fits-both : (out : List ℕ) → firstNo (roomAsked fits pieces (length out)) ≡ 0 → fits ≡ true
     fits-both out e = no-none (roomAsked fits pieces (length out)) (room-named fits pieces (length out)) e .0
 
-    -- and are put into the slice
+    -- Encoding the new state replaces both maps.
     both-to : fits ≡ true → layersTo h state xs ≡ bothMaps (h .space) (suc (r .process)) 0 xs v w
     both-to f =
         let b = and-out (plainFits h w) (plainFits h v) f in
         to-both h xs (k .lawful) (r .process) (ready-process k) v w (leb-true _ _ (b .1)) (leb-true _ _ (b .0))
 
-    -- so the step is what an entry answers and leaves that asks the same
+    -- An entry that asks the same questions answers and leaves what the step does.
     module _ (out : List ℕ) {n : ℕ} (asks : n ≡ firstNo (roomAsked fits pieces (length out))) where
       by-entry : {answer : extents.Answer} {maps′ out′ ys : List ℕ} →
           answer ≡ orRefused n (answerOf (answered r pieces (layersTo h state xs) out .answer)) →
@@ -255,7 +256,7 @@ module _ {h : Header} {xs : List ℕ} {r : Row} {number : ℕ} (k : Ready h xs r
           rw (ready-step out)
           (carried (answered r pieces (layersTo h state xs) out) n xs out (sym asks) a m o (λ z. e (fits-both out (sym asks ∙ z))))
 
-    -- a row that is no read lists nothing
+    -- A row that is no read lists nothing.
     module _ (quiet : eqb (r .kind) READ ≡ false) where
       by-quiet : {n : ℕ} {answer : extents.Answer} {maps′ ys : List ℕ} → n ≡ cond fits 0 16 → answer ≡ orRefused n Done →
           maps′ ≡ orKept n ys xs → (fits ≡ true → ys ≡ layersTo h state xs) → (out : List ℕ) → Steps (stepOf h xs r number out) answer maps′ out
@@ -266,7 +267,7 @@ module _ {h : Header} {xs : List ℕ} {r : Row} {number : ℕ} (k : Ready h xs r
           by-entry out (e ∙ sym room) (a ∙ ap (λ (b : Bool). orRefused n (answerOf (cond b (listed (length pieces)) done))) (sym quiet)) m
           (same-kept n (ap (λ (ps : List Run). listedIn ps out) none)) t
 
-      -- one that an entry for two maps serves
+      -- A row that an entry for two maps serves.
       by-two : (refusal : ℕ → ℕ) (left : ℕ → List ℕ) → refusal (suc (r .process)) ≡ cond (plainFits h v && plainFits h w) 0 16 →
           left (suc (r .process)) ≡ bothMaps (h .space) (suc (r .process)) 0 xs v w → {answer : extents.Answer} {maps′ : List ℕ} →
           answer ≡ orRefused (refusal (r .process + 1)) Done → maps′ ≡ orKept (refusal (r .process + 1)) (left (r .process + 1)) xs →
@@ -277,7 +278,7 @@ module _ {h : Header} {xs : List ℕ} {r : Row} {number : ℕ} (k : Ready h xs r
           (a ∙ ap (λ (n : ℕ). orRefused (refusal n) Done) q) (m ∙ ap (λ (n : ℕ). orKept (refusal n) (left n) xs) q)
           (λ f. l ∙ sym (both-to f))
 
-    -- a read lists the pieces of its range
+    -- A read lists the pieces of its range.
     by-read : eqb (r .kind) READ ≡ true → (out : List ℕ) → {n : ℕ} {answer : extents.Answer} {maps′ out′ ys : List ℕ} →
         let ps = piecesOf v (r .offset) (r .length) in n ≡ cond fits (cond (leb (3 * length ps) (length out)) 0 17) 16 →
         answer ≡ orRefused n (listedCount ps) → maps′ ≡ orKept n ys xs → out′ ≡ orKept n (listedIn ps out) out →
@@ -294,16 +295,16 @@ module _ {h : Header} {xs : List ℕ} {r : Row} {number : ℕ} (k : Ready h xs r
 
 module _ {h : Header} {xs : List ℕ} {r : Row} {number : ℕ} (k : Ready h xs r number) where
   module _ (other : 1 < r .kind) where
-    -- it is no read
+    -- The row is no read.
     no-read : eqb (r .kind) READ ≡ false
     no-read = ne-eqb (r .kind) READ (λ e. omega arith)
 
-    -- it is no write
+    -- The row is no write.
     no-write : eqb (r .kind) WRITE ≡ false
     no-write = ne-eqb (r .kind) WRITE (λ e. omega arith)
 
     module _ {answer : extents.Answer} {maps′ : List ℕ} where
-      -- it publishes and refreshes
+      -- A row that publishes and refreshes does what `sync` does.
       pub share-both : publishes (h .model) (r .kind) ≡ true → refreshes (h .model) (r .kind) ≡ true →
           answer ≡ orRefused (syncRefusal (h .space) (r .process + 1) 0 xs) Done →
           maps′ ≡ orKept (syncRefusal (h .space) (r .process + 1) 0 xs) (syncedMaps (h .space) (r .process + 1) 0 xs) xs →
@@ -314,7 +315,7 @@ module _ {h : Header} {xs : List ℕ} {r : Row} {number : ℕ} (k : Ready h xs r
           by-two k (refreshed (asPublished (own k)) w) w (rw (no-write, p, f)) (rw (no-write, p)) no-read
           (λ n. syncRefusal (h .space) n 0 xs) (λ n. syncedMaps (h .space) n 0 xs) (rw (two k)) refl
 
-      -- it publishes only
+      -- A row that publishes only does what `publish` does.
       pub share-publish : publishes (h .model) (r .kind) ≡ true → refreshes (h .model) (r .kind) ≡ false →
           answer ≡ orRefused (publishRefusal (h .space) (r .process + 1) 0 xs) Done →
           maps′ ≡ orKept (publishRefusal (h .space) (r .process + 1) 0 xs) (publishedMaps (h .space) (r .process + 1) 0 xs) xs →
@@ -324,7 +325,7 @@ module _ {h : Header} {xs : List ℕ} {r : Row} {number : ℕ} (k : Ready h xs r
           by-two k (asPublished (own k)) (published (own k) (old k .shared)) (rw (no-write, p, f)) (rw (no-write, p)) no-read
           (λ n. publishRefusal (h .space) n 0 xs) (λ n. publishedMaps (h .space) n 0 xs) (rw (two k)) refl
 
-      -- it refreshes only
+      -- A row that refreshes only does what `refresh` does.
       pub share-refresh : publishes (h .model) (r .kind) ≡ false → refreshes (h .model) (r .kind) ≡ true →
           answer ≡ orRefused (refreshRefusal (h .space) (r .process + 1) 0 xs) Done →
           maps′ ≡ orKept (refreshRefusal (h .space) (r .process + 1) 0 xs) (refreshedMaps (h .space) (r .process + 1) 0 xs) xs →
@@ -334,7 +335,7 @@ module _ {h : Header} {xs : List ℕ} {r : Row} {number : ℕ} (k : Ready h xs r
           by-two k (refreshed (own k) (old k .shared)) (old k .shared) (rw (no-write, p, f)) (rw (no-write, p)) no-read
           (λ n. refreshRefusal (h .space) n 0 xs) (λ n. refreshedMaps (h .space) n 0 xs) (rw (two k)) refl
 
-    -- it does neither
+    -- A row that does neither changes nothing.
     pub share-none : publishes (h .model) (r .kind) ≡ false → refreshes (h .model) (r .kind) ≡ false →
         (out : List ℕ) → Steps (stepOf h xs r number out) Done xs out
     share-none p f =
@@ -345,29 +346,29 @@ module _ {h : Header} {xs : List ℕ} {r : Row} {number : ℕ} (k : Ready h xs r
 -- ---- A write
 
 module _ {h : Header} {xs : List ℕ} {r : Row} {number : ℕ} (k : Ready h xs r number) (kind : r .kind ≡ WRITE) where
-  -- its range ends in time
+  -- The range of a write ends within files.
   write-range : (r .offset ≤ OFFSET-MAX) × (r .length ≤ OFFSET-MAX) × (r .offset + r .length ≤ OFFSET-MAX)
   write-range = asked-range h r number (ready-yes k) (omega (arith, kind))
 
-  -- it is no read
+  -- A write is no read.
   write-quiet : eqb (r .kind) READ ≡ false
   write-quiet = rw kind
 
-  -- but a write
+  -- The kind of the row is that of a write.
   write-is : eqb (r .kind) WRITE ≡ true
   write-is = rw kind
 
-  -- no write refreshes
+  -- No write refreshes.
   write-stays : refreshes (h .model) (r .kind) ≡ false
   unfolding refreshes
   write-stays = rw kind (simp and-false)
 
-  -- the view with the range written
+  -- The view with the range written.
   abbrev new : Bytes
   new = overwrite (r .offset) (r .length) (cellOf number 1) (own k)
 
   module _ {answer : extents.Answer} {maps′ : List ℕ} where
-    -- one that publishes
+    -- A write that publishes does what `write_through` does.
     pub write-write-through : publishes (h .model) 1 ≡ true →
         answer ≡ orRefused (writeThroughRefusal (h .space) (r .process + 1) 0 xs (r .offset) (r .length) number) Done →
         maps′ ≡ orKept (writeThroughRefusal (h .space) (r .process + 1) 0 xs (r .offset) (r .length) number)
@@ -380,15 +381,15 @@ module _ {h : Header} {xs : List ℕ} {r : Row} {number : ℕ} (k : Ready h xs r
         (λ n. writeThroughRefusal (h .space) n 0 xs (r .offset) (r .length) number) (λ n. writtenThroughMaps (h .space) n 0 xs (r .offset) (r .length) number)
         (rw (two k, ready-number k, le-leb _ _ (write-range .0), le-leb _ _ (write-range .1), le-leb _ _ (write-range .2))) refl
 
-  -- the map of the process
+  -- The map of the process.
   abbrev map : List ℕ
   map = mapAt (h .space) (suc (r .process)) xs
 
-  -- it lies in the slice
+  -- The map of the process lies in the slice.
   write-in : (suc (r .process) + 1) * (4 * h .space) ≤ length xs
   write-in = state-in h xs (k .lawful) (r .process) (ready-process k)
 
-  -- it is asked for its space alone
+  -- A write refuses by the space of the map alone.
   write-asks : writeRefusal map (r .offset) (r .length) number true ≡ cond (plainFits h new) 0 16
   unfolding firstNo writeRefusal
   write-asks =
@@ -396,13 +397,13 @@ module _ {h : Header} {xs : List ℕ} {r : Row} {number : ℕ} (k : Ready h xs r
       rw (state-view h xs (k .lawful) (r .process) (ready-process k), ready-number k, le-leb _ _ (b .0), le-leb _ _ (b .1), le-leb _ _ (b .2))
       (ap (λ (n : ℕ). cond (leb (length (runsOf new)) n) 0 16) (map-space (h .space) (suc (r .process)) xs write-in))
 
-  -- it comes home
+  -- Replacing the lent map replaces the view in the slice.
   write-home : (b : Bool) → withMap (h .space) (suc (r .process)) (cond b (mapFor (h .space) new) map) xs
       ≡ cond b (withMap (h .space) (suc (r .process)) (mapFor (h .space) new) xs) xs
   write-home true = refl
   write-home false = with-same (h .space) (suc (r .process)) xs write-in
 
-  -- one that does not publish
+  -- A write that does not publish does what `write` does to the view.
   pub write-own : publishes (h .model) 1 ≡ false → {answer : extents.Answer} {last : List ℕ} →
       let m = lentMap (h .space) (r .process + 1) xs in
       let at = (r .process + 1) * (4 * h .space) in
@@ -428,26 +429,27 @@ module _ {h : Header} {xs : List ℕ} {r : Row} {number : ℕ} (k : Ready h xs r
 -- ---- A read
 
 module _ {h : Header} {xs : List ℕ} {r : Row} {number : ℕ} (k : Ready h xs r number) (kind : r .kind ≡ READ) where
-  -- its range ends in time
+  -- The range of a read ends within files.
   read-range : (r .offset ≤ OFFSET-MAX) × (r .length ≤ OFFSET-MAX) × (r .offset + r .length ≤ OFFSET-MAX)
   read-range = asked-range h r number (ready-yes k) (omega (arith, kind))
 
-  -- it is a read
+  -- The kind of the row is that of a read.
   read-is : eqb (r .kind) READ ≡ true
   read-is = rw kind
 
-  -- and no write
+  -- A read is no write.
   read-plain : eqb (r .kind) WRITE ≡ false
   read-plain = rw kind
 
-  -- no read publishes
+  -- No read publishes.
   read-stays : publishes (h .model) (r .kind) ≡ false
   unfolding publishes
   read-stays = rw kind (simp and-false)
 
   module _ (out : List ℕ) {answer : extents.Answer} where
-    -- one that refreshes
+    -- A read that refreshes does what `read` of the map of pieces does.
     module _ {maps′ out′ : List ℕ} where
+      -- The answer slice and the maps are those that `read` of the map of pieces leaves.
       pub read-fresh : refreshes (h .model) 0 ≡ true → let p = r .process + 1 in
           let n = readRefusal (h .space) p 0 xs (r .offset) (r .length) (length out) in
           let ps = piecesOf (refreshed (viewOf (h .space) p 0 xs) (belowOf (h .space) p 0 xs)) (r .offset) (r .length) in
@@ -469,7 +471,7 @@ module _ {h : Header} {xs : List ℕ} {r : Row} {number : ℕ} (k : Ready h xs r
           (o ∙ (λ i. orKept (n (e i)) (listedIn (ps (e i)) out) out))
           (λ t. sym (both-to k v (old k .shared) (rw (read-plain, read-stays, q)) (rw read-stays) t))
 
-    -- one that does not
+    -- A read that does not refresh lists the pieces of the view.
     pub read-own : refreshes (h .model) 0 ≡ false → {out′ : List ℕ} →
         let m = lentMap (h .space) (r .process + 1) xs in
         let n = listRefusal m (r .offset) (r .length) (length out) in

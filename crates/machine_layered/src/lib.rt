@@ -19,7 +19,7 @@ use machine_state::Replayed;
 use rows::Row;
 use rows::refusal;
 
-// A lawful state: a header as for making, a slice that is long enough, and lawful maps in it.
+// Whether the state is lawful: a header as for making, a slice that is long enough, and lawful maps in it.
 pub fn is_state(machine: Machine, maps: &[u32]) -> bool
     ensures { λ r. ⌜ r ≡ lawfulState (headerOf machine) (now (maps .entry)) ⌝ }
 {
@@ -46,7 +46,7 @@ pub fn is_state(machine: Machine, maps: &[u32]) -> bool
     are_lawful(maps, size, limit as usize)
 }
 
-// The maps from the second on are lawful.
+// Whether the maps behind the first one are lawful.
 fn are_lawful(maps: &[u32], size: usize, n: usize) -> bool
     requires { ⌜ (n + 1) * size ≤ length (now maps) ⌝ }
     ensures { λ r. ⌜ r ≡ allBelow n (λ p. lawful (take size (drop (suc p * size) (now (maps .entry))))) ⌝ }
@@ -98,8 +98,8 @@ pub fn step(machine: Machine, maps: &mut [u32], row: Row, number: u32, out: &mut
     advance(machine, maps, row, number, out)
 }
 
-// Puts the rows behind the first ones, up to row n, to the machine, each that names its file, under its number in the trace. The counts get the
-// count of pieces of each row, and the answer slice the pieces of all reads one after the other. A refusal ends it before that row.
+// Puts each row of the machine's file behind the first ones, up to row n, to the machine under its number in the trace. The counts get the count
+// of pieces of each row, and the answer slice the pieces of all reads one after the other. A refusal ends the replay before that row.
 pub fn replay(
     machine: Machine,
     maps: &mut [u32],
@@ -152,7 +152,7 @@ pub fn replay(
     }
 }
 
-// Puts a row to a lawful machine if it names its file.
+// Puts a row to a lawful machine if the row is one of its file.
 fn put(machine: Machine, maps: &mut [u32], row: Row, number: u32, out: &mut [u32]) -> Answer
     requires { ⌜ lawfulState (headerOf machine) (now maps) ≡ true ⌝ }
     ensures { λ r. ⌜ Steps (putTo (stepOf (headerOf machine)) (headerOf machine .file) (now (maps .entry)) row number (now (out .entry)))
@@ -181,7 +181,7 @@ fn advance(machine: Machine, maps: &mut [u32], row: Row, number: u32, out: &mut 
     }
 }
 
-// A read: it refreshes first where the table says so.
+// A read refreshes first where the table says so, then lists its range.
 fn read(machine: Machine, maps: &mut [u32], row: Row, number: u32, out: &mut [u32]) -> Answer
     requires { ⌜ Ready (headerOf machine) (now maps) row number × (row .kind ≡ 0) ⌝ }
     ensures { λ r. ⌜ Steps (stepOf (headerOf machine) (now (maps .entry)) row number (now (out .entry))) r (now (maps .exit)) (now (out .exit)) ⌝ }
@@ -198,7 +198,7 @@ fn read(machine: Machine, maps: &mut [u32], row: Row, number: u32, out: &mut [u3
     extents::lawful::list_range(&maps[at..at + size], offset, length, out)
 }
 
-// A write: it then publishes where the table says so.
+// A write publishes where the table says so.
 fn write(machine: Machine, maps: &mut [u32], row: Row, number: u32) -> Answer
     requires { ⌜ Ready (headerOf machine) (now maps) row number × (row .kind ≡ 1) ⌝ }
     ensures { λ r. ⌜ ((out : List ℕ) → Steps (stepOf (headerOf machine) (now (maps .entry)) row number out) r (now (maps .exit)) out) ⌝ }
@@ -215,7 +215,7 @@ fn write(machine: Machine, maps: &mut [u32], row: Row, number: u32) -> Answer
     extents::lawful::write(&mut maps[at..at + size], offset, length, number, true)
 }
 
-// Any other row: it publishes and refreshes where the table says so.
+// Any other row publishes, then refreshes, where the table says so.
 fn share(machine: Machine, maps: &mut [u32], row: Row, number: u32) -> Answer
     requires { ⌜ Ready (headerOf machine) (now maps) row number × (1 < row .kind) ⌝ }
     ensures { λ r. ⌜ ((out : List ℕ) → Steps (stepOf (headerOf machine) (now (maps .entry)) row number out) r (now (maps .exit)) out) ⌝ }

@@ -17,7 +17,7 @@ module _ (h : Header) (some-process : 1 ≤ h .processes) (few-processes : h .pr
   -- ---- Machines
 
   module _ (is-model : h .model < MODELS) (n : ℕ) (room : mapsLength h ≤ n) where
-    -- no question is answered No
+    -- Every making question is answered Yes.
     pub making-yes : AllYes (makingQuestions h n)
     unfolding makingQuestions
     making-yes = (
@@ -28,11 +28,11 @@ module _ (h : Header) (some-process : 1 ≤ h .processes) (few-processes : h .pr
       ),
     )
 
-    -- so making is accepted
+    -- Making the layered file is accepted.
     pub making-accepted : firstNo (makingQuestions h n) ≡ 0
     making-accepted = none-no (makingQuestions h n) making-yes
 
-  -- and leaves the fresh layered file
+  -- Making leaves the fresh layered file.
   pub making-fresh : h .model < MODELS → (xs : List ℕ) → mapsLength h ≤ length xs →
       madeTo (firstNo (makingQuestions h (length xs))) (mapsLength h) xs ≡ layersTo h fresh xs
   making-fresh m xs room = ap (λ (refusal : ℕ). madeTo refusal (mapsLength h) xs) (making-accepted m (length xs) room) ∙ fresh-to h xs
@@ -40,7 +40,7 @@ module _ (h : Header) (some-process : 1 ≤ h .processes) (few-processes : h .pr
   -- ---- Plain files
 
   module _ (n : ℕ) (room : 4 * h .space ≤ n) where
-    -- no question is answered No
+    -- Every making question of the plain file is answered Yes.
     pub plain-making-yes : AllYes (plainMakingQuestions h n)
     unfolding plainMakingQuestions
     plain-making-yes = (
@@ -48,11 +48,11 @@ module _ (h : Header) (some-process : 1 ≤ h .processes) (few-processes : h .pr
       ((λ i. le-leb _ _ some-process i && le-leb _ _ few-processes i), (lt-ltb _ _ is-file, tt)),
     )
 
-    -- so making is accepted
+    -- Making the plain file is accepted.
     pub plain-making-accepted : firstNo (plainMakingQuestions h n) ≡ 0
     plain-making-accepted = none-no (plainMakingQuestions h n) plain-making-yes
 
-  -- and leaves the fresh plain file
+  -- Making leaves the fresh plain file.
   pub plain-making-fresh : (ys : List ℕ) → 4 * h .space ≤ length ys →
       madeTo (firstNo (plainMakingQuestions h (length ys))) (4 * h .space) ys ≡ plainTo h nothing ys
   plain-making-fresh ys room = ap (λ (refusal : ℕ). madeTo refusal (4 * h .space) ys) (plain-making-accepted (length ys) room) ∙ fresh-plain h ys

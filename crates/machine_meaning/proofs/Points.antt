@@ -1,4 +1,4 @@
--- Bytes whose cells change only at some points: fresh ones are so, and every row keeps them so.
+-- Bytes whose cells change only at given points: fresh bytes do so, and every row keeps them so.
 use Prim.Native.Nat.{ℕ, zero, suc, _+_, _%_, _≤_, _<_}
 use native.Mathlib.Omega.{arith}
 use native.Mathlib.Decide.{decLt, ℕ-discrete}
@@ -21,43 +21,43 @@ use Rattle.extents_meaning.proofs.Points.{few-runs, few-pieces}
 use Rattle.extents_meaning.proofs.Passes.{over-in, over-before, over-behind}
 use Rattle.machine_meaning.specs.Layers.{Layers, nothing, fresh, withView, written, publishing, refreshing, afterRow, afterPlain}
 
--- what holds of both is so of the one a test picks
+-- A property of both branches holds of the branch that a test picks.
 pub picked : {A : Type 0} (P : A → Type 0) (x : Bool) (a b : A) → (x ≡ true → P a) → P b → P (cond x a b)
 picked P true a b f p = f refl
 picked P false a b f p = p
 
--- the same row number, published, is fine too
+-- A fine cell without its mark is fine.
 cleared-fine : (c : ℕ) → Fine c → Fine (cleared c)
 cleared-fine c (inl e) = inl (omega arith)
 cleared-fine c (inr f) = inr (omega (arith, f .0), omega (arith, f .1))
 
--- and not marked
+-- A cell without its mark is published.
 cleared-unmarked : (c : ℕ) → unpublished (cleared c) ≡ false
 cleared-unmarked c = ne-eqb (cleared c % 2) 1 (omega arith)
 
 -- ---- Bytes
 
--- the cell before a byte, 0 before the first
+-- The cell before a byte, and 0 before the first byte.
 abbrev pub prior : Bytes → Bytes
 prior f zero = 0
 prior f (suc b) = f b
 
--- cells are fine, 0 from the end of all files on, and other than the one before only at points
+-- Cells are fine, 0 from the end of all files on, and differ from the cell before only at points.
 pub record Pointed (points : List ℕ) (f : Bytes) : Type 0 where
   pub fine : (b : ℕ) → Fine (f b)
   pub ends : (b : ℕ) → OFFSET-MAX ≤ b → f b ≡ 0
   pub changes : (b : ℕ) → (prior f b ≡ f b → ⊥) → In b points
 
 module _ {points : List ℕ} where
-  -- there are no more runs than points
+  -- Bytes that change only at the points have at most one run for each point.
   pub pointed-runs : {f : Bytes} → Pointed points f → length (runsOf f) ≤ length points
   pointed-runs {f} k = few-runs f points (λ n. k .changes 0 (λ e. n (sym e))) (λ b _. k .changes (suc b))
 
-  -- and at most one piece more of any range
+  -- Every range of such bytes has at most one piece more than there are points.
   pub pointed-pieces : {f : Bytes} → Pointed points f → (s n : ℕ) → length (piecesOf f s n) ≤ suc (length points)
   pointed-pieces {f} k s n = few-pieces f points s n (λ b _ _ d. k .changes (suc b) (λ e. d (ap numberIn e)))
 
-  -- no byte written
+  -- Bytes that nobody wrote change nowhere.
   nothing-pointed : Pointed points nothing
   nothing-pointed = record { fine = λ b. inl refl; ends = λ b _. refl; changes = λ b d. absurd (d (same b)) }
     where
@@ -66,7 +66,7 @@ module _ {points : List ℕ} where
       same (suc b) = refl
 
   module _ (F : ℕ → ℕ → ℕ) (none : F 0 0 ≡ 0) (keeps : (c d : ℕ) → Fine c → Fine d → Fine (F c d)) where
-    -- two made one byte by byte
+    -- A function of two cells, byte by byte, changes only at the points.
     both-pointed : {f g : Bytes} → Pointed points f → Pointed points g → Pointed points (λ b. F (f b) (g b))
     both-pointed {f} {g} k m =
         record {
@@ -86,24 +86,24 @@ module _ {points : List ℕ} where
 
   -- ---- Bytes of a view and published bytes
 
-  -- a publish keeps the published bytes so
+  -- Publishing keeps the points of the published bytes.
   published-pointed : {f g : Bytes} → Pointed points f → Pointed points g → Pointed points (published f g)
   published-pointed =
       both-pointed (λ c d. cond (unpublished c) (cleared c) d) refl
       (λ c d p q. picked Fine (unpublished c) (cleared c) d (λ _. cleared-fine c p) q)
 
-  -- and the view
+  -- Publishing keeps the points of the view.
   as-published-pointed : {f : Bytes} → Pointed points f → Pointed points (asPublished f)
   as-published-pointed k = both-pointed (λ c d. cleared c) refl (λ c d p q. cleared-fine c p) k k
 
-  -- and so does a refresh
+  -- Refreshing keeps the points of the view.
   refreshed-pointed : {f g : Bytes} → Pointed points f → Pointed points g → Pointed points (refreshed f g)
   refreshed-pointed = both-pointed (λ c d. cond (unpublished c) c d) refl (λ c d p q. picked Fine (unpublished c) c d (λ _. p) q)
 
   -- ---- A range that gets a cell
 
   module _ (start size c : ℕ) (f : Bytes) (k : Pointed points f) (there : In start points) (end : In (start + size) points) where
-    -- it brings no change but at its ends
+    -- Overwriting a range adds changes only at its two ends.
     over-changes : (b : ℕ) → (prior (overwrite start size c f) b ≡ overwrite start size c f b → ⊥) → In b points
     over-changes b d = go b d (ℕ-discrete b start) (ℕ-discrete b (start + size)) (decLt b start) (decLt b (start + size))
       where
@@ -121,7 +121,7 @@ module _ {points : List ℕ} where
         go (suc a) d (no e) (no q) (no l) (no m) =
             k .changes (suc a) (λ p. d (over-behind start size c f a (omega arith) ∙ p ∙ sym (over-behind start size c f (suc a) (omega arith))))
 
-    -- so it keeps bytes so
+    -- Overwriting a range between two points keeps the points.
     over-pointed : start + size ≤ OFFSET-MAX → Fine c → Pointed points (overwrite start size c f)
     over-pointed h w =
         record {
@@ -132,18 +132,18 @@ module _ {points : List ℕ} where
 
 -- ---- Rows
 
--- the layered file: its bytes are so, and no published byte is marked
+-- The bytes of a layered file change only at the points, and no published byte is marked.
 pub record LayersPointed (points : List ℕ) (s : Layers) : Type 0 where
   pub shared : Pointed points (s .shared)
   pub unmarked : (b : ℕ) → unpublished (s .shared b) ≡ false
   pub view : (p : ℕ) → Pointed points (s .view p)
 
--- the plain file: its bytes are so, and none is marked
+-- The bytes of a plain file change only at the points, and no byte is marked.
 pub record PlainPointed (points : List ℕ) (f : Bytes) : Type 0 where
   pub bytes : Pointed points f
   pub unmarked : (b : ℕ) → unpublished (f b) ≡ false
 
--- a row under a row number; if it writes, its range ends within files, and both its ends are points
+-- A row under a row number. If the row writes, its range ends within files, and both its ends are points.
 pub record Writing (points : List ℕ) (r : Row) (number : ℕ) : Type 0 where
   pub numbered : 1 ≤ number
   pub number-most : number ≤ ROWS
@@ -151,19 +151,20 @@ pub record Writing (points : List ℕ) (r : Row) (number : ℕ) : Type 0 where
   pub at-points : r .kind ≡ WRITE → In (r .offset) points × In (r .offset + r .length) points
 
 module _ {points : List ℕ} where
-  -- files just made
+  -- A fresh layered file changes nowhere.
   pub fresh-pointed : LayersPointed points fresh
   fresh-pointed = record { shared = nothing-pointed; unmarked = λ b. refl; view = λ p. nothing-pointed }
 
+  -- A fresh plain file changes nowhere.
   pub plain-pointed : PlainPointed points nothing
   plain-pointed = record { bytes = nothing-pointed; unmarked = λ b. refl }
 
-  -- a view that is put in
+  -- Replacing a view by one that changes only at the points keeps the points.
   with-pointed : (p : ℕ) {f : Bytes} {views : ℕ → Bytes} → Pointed points f → ((q : ℕ) → Pointed points (views q)) →
       (q : ℕ) → Pointed points (withView p f views q)
   with-pointed p {f} {views} k m q = picked (Pointed points) (eqb q p) f (views q) (λ _. k) (m q)
 
-  -- a publish, a refresh and a write keep them so, each where a test picks it
+  -- A publish, a refresh and a write keep the points, where a test picks them.
   publishing-pointed : (x : Bool) (p : ℕ) {s : Layers} → LayersPointed points s → LayersPointed points (cond x (publishing p s) s)
   publishing-pointed x p {s} k = picked (LayersPointed points) x (publishing p s) s (λ _. then) k
     where
@@ -187,7 +188,7 @@ module _ {points : List ℕ} where
       then = record { shared = k .shared; unmarked = k .unmarked; view = with-pointed p (refreshed-pointed (k .view p) (k .shared)) (k .view) }
 
   module _ {r : Row} {number : ℕ} (w : Writing points r number) where
-    -- a range that gets the row's number, with a mark or without
+    -- Writing the row number over the range of the row, marked or not, keeps the points.
     write-pointed : (mark : ℕ) → mark ≤ 1 → {f : Bytes} → r .kind ≡ WRITE → Pointed points f →
         Pointed points (overwrite (r .offset) (r .length) (cellOf number mark) f)
     write-pointed mark h {f} e k =
@@ -207,13 +208,14 @@ module _ {points : List ℕ} where
               view = with-pointed (r .process) (write-pointed 1 (omega arith) e (k .view (r .process))) (k .view);
             }
 
-    -- so every row does, in the layered file and in the plain one
+    -- Every row keeps the points of the layered file.
     pub row-pointed : (model : ℕ) {s : Layers} → LayersPointed points s → LayersPointed points (afterRow model r number s)
     unfolding afterRow
     row-pointed model k =
         refreshing-pointed (refreshes model (r .kind)) (r .process)
         (publishing-pointed (publishes model (r .kind)) (r .process) (writing-pointed k))
 
+    -- Every row keeps the points of the plain file.
     pub plain-row-pointed : {f : Bytes} → PlainPointed points f → PlainPointed points (afterPlain r number f)
     unfolding afterPlain
     plain-row-pointed {f} k =

@@ -1,4 +1,4 @@
--- Layered and plain files in slices: what was written is lawful, stands in its place and is read back.
+-- Layered and plain files in slices: an encoded file is lawful, each map is at its place, and decoding gives the file back.
 use Prim.Native.Nat.{ℕ, zero, suc, _+_, _*_, _≤_, _<_}
 use native.Mathlib.Nat.{zero-mul}
 use native.Mathlib.Decide.{decLt}
@@ -24,13 +24,13 @@ use Rattle.machine_meaning.proofs.Points.{Pointed, pointed-runs, Layers
 
 -- ---- Numbers below a bound
 
--- where each passes, all do
+-- If each number below a bound passes a test, all pass.
 pub all-in : (n : ℕ) (test : ℕ → Bool) → ((p : ℕ) → p < n → test p ≡ true) → allBelow n test ≡ true
 unfolding allBelow
 all-in zero test h = refl
 all-in (suc n) test h = λ i. all-in n test (λ p l. h p (omega arith)) i && h n (omega arith) i
 
--- where all pass, each does
+-- If all numbers below a bound pass a test, each passes.
 pub all-out : (n : ℕ) (test : ℕ → Bool) → allBelow n test ≡ true → (p : ℕ) → p < n → test p ≡ true
 unfolding allBelow
 all-out zero test e p l = absurd (omega arith)
@@ -40,19 +40,19 @@ all-out (suc n) test e p l = let b = and-out (allBelow n test) (test n) e in go 
     go (yes q) ih t = ih q
     go (no q) ih t = let e : p ≡ n = omega arith in ap test e ∙ t
 
--- tests that agree there
+-- Two tests that agree below a bound are passed by all or by not all alike.
 pub all-same : (n : ℕ) (f g : ℕ → Bool) → ((p : ℕ) → p < n → f p ≡ g p) → allBelow n f ≡ allBelow n g
 unfolding allBelow
 all-same zero f g h = refl
 all-same (suc n) f g h = λ i. all-same n f g (λ p l. h p (omega arith)) i && h n (omega arith) i
 
--- lists that agree there
+-- Two families of lists that agree below a bound have the same blocks.
 pub blocks-same : (n : ℕ) (f g : ℕ → List ℕ) → ((p : ℕ) → p < n → f p ≡ g p) → blocks n f ≡ blocks n g
 unfolding blocks
 blocks-same zero f g h = refl
 blocks-same (suc n) f g h = λ i. blocks-same n f g (λ p l. h p (omega arith)) i ++ h n (omega arith) i
 
--- blocks of zeros are zeros
+-- Blocks of zeros are zeros.
 blocks-zeros : (m n : ℕ) → blocks n (λ p. replicate m 0) ≡ replicate (n * m) 0
 unfolding blocks
 blocks-zeros m zero = ap (λ (k : ℕ). replicate k 0) (sym (zero-mul m))
@@ -61,14 +61,14 @@ blocks-zeros m (suc n) =
     ap (λ (l : List ℕ). l ++ replicate m 0) (blocks-zeros m n) ∙ replicate-append-replicate (n * m) m 0 ∙ ap (λ (k : ℕ). replicate k 0) e
 
 module _ (m : ℕ) (g : ℕ → List ℕ) where
-  -- blocks of one length
+  -- The length of n blocks of length m is n * m.
   blocks-length : (n : ℕ) → ((p : ℕ) → p < n → length (g p) ≡ m) → length (blocks n g) ≡ n * m
   unfolding blocks
   blocks-length zero h = sym (zero-mul m)
   blocks-length (suc n) h =
       omega (arith, length-append (blocks n g) (g n), blocks-length n (λ p l. h p (omega arith)), h n (omega arith))
 
-  -- each stands in its place
+  -- Block p starts at p * m.
   block-at : (n : ℕ) → ((p : ℕ) → p < n → length (g p) ≡ m) → (p : ℕ) → p < n → (z : List ℕ) → take m (drop (p * m) (blocks n g ++ z)) ≡ g p
   unfolding blocks
   block-at zero h p l z = absurd (omega arith)
@@ -87,18 +87,18 @@ module _ (m : ℕ) (g : ℕ → List ℕ) where
 
 -- ---- One map
 
--- bytes that a map of a space holds: fine cells, 0 from the end of all files on, no more runs than fit
+-- Bytes that a map of a space holds: cells are fine, 0 from the end of all files on, and there are no more runs than fit.
 pub record Held (space : ℕ) (f : Bytes) : Type 0 where
   pub fine : (b : ℕ) → Fine (f b)
   pub ends : (b : ℕ) → OFFSET-MAX ≤ b → f b ≡ 0
   pub fit : length (runsOf f) ≤ space
 
 module _ {space : ℕ} {f : Bytes} (k : Held space f) where
-  -- their runs are lawful
+  -- The runs of held bytes are lawful.
   held-runs : Lawful (runsOf f)
   held-runs = runs-lawful f (λ b _. k .fine b)
 
-  -- and mean them at every byte
+  -- The runs of held bytes mean these bytes.
   held-cell : (b : ℕ) → cellAt (runsOf f) b ≡ f b
   held-cell b = go (decLt b OFFSET-MAX)
     where
@@ -108,50 +108,53 @@ module _ {space : ℕ} {f : Bytes} (k : Held space f) where
           let h : OFFSET-MAX ≤ b = omega arith in
           mean-behind OFFSET-MAX 0 0 (runsOf f) (held-runs .in-order) b h ∙ sym (k .ends b h)
 
-  -- the map has these runs
+  -- Decoding the runs of the map gives the runs of the bytes.
   held-back : runs (mapFor space f) ≡ runsOf f
   held-back = map-back space (runsOf f) held-runs (k .fit)
 
-  -- it fills its space, is lawful, and is read back as the bytes
+  -- The map of held bytes fills its space.
   pub held-length : length (mapFor space f) ≡ 4 * space
   held-length = length-map space (runsOf f) (k .fit)
 
+  -- The map of held bytes is lawful.
   pub held-lawful : lawful (mapFor space f) ≡ true
   held-lawful = map-lawful space (runsOf f) held-runs (k .fit)
 
+  -- The map of held bytes decodes to the bytes.
   pub held-bytes : bytesOf (mapFor space f) ≡ f
   held-bytes = fun-ext (λ b. ap (λ (rs : List Run). cellAt rs b) held-back ∙ held-cell b)
 
-  -- and without marks where the bytes have none
+  -- The map of bytes without marks is a lawful published map.
   pub held-published : ((b : ℕ) → unpublished (f b) ≡ false) → lawfulPublished (mapFor space f) ≡ true
   held-published h =
       (λ i. held-lawful i && noMarks (held-back i)) ∙ no-marks-in (runsOf f) held-runs (λ b. ap unpublished (held-cell b) ∙ h b)
 
--- no byte written: no run, so a map of zeros
+-- The map of bytes that nobody wrote is zeros.
 nothing-map : (space : ℕ) → mapFor space nothing ≡ replicate (4 * space) 0
 unfolding cellAt
 nothing-map space = ap (mapOf space) (sym (runs-unique nothing [] (record { in-order = tt; numbered = tt }) (λ b _. refl))) ∙ map-none space
 
 -- ---- Layered files
 
--- each map holds its bytes, and no published byte is marked
+-- Each map of a layered file holds its bytes, and no published byte is marked.
 pub record LayersHeld (h : Header) (s : Layers) : Type 0 where
   pub shared : Held (h .space) (s .shared)
   pub unmarked : (b : ℕ) → unpublished (s .shared b) ≡ false
   pub view : (p : ℕ) → p < h .processes → Held (h .space) (s .view p)
 
--- one published file and, for the processes below a limit, one view
+-- Two layered files have the same published bytes and the same views of processes below a limit.
 pub record Alike (processes : ℕ) (s t : Layers) : Type 0 where
   pub shared : s .shared ≡ t .shared
   pub view : (p : ℕ) → p < processes → s .view p ≡ t .view p
 
--- they fit alike, and are written alike
+-- Files that are alike fit alike.
 pub alike-fit : (h : Header) {s t : Layers} → Alike (h .processes) s t → layersFit h s ≡ layersFit h t
 unfolding layersFit
 alike-fit h {s} {t} a =
     let views = all-same (h .processes) (λ p. plainFits h (s .view p)) (λ p. plainFits h (t .view p)) (λ p l. ap (plainFits h) (a .view p l)) in
     λ i. plainFits h (a .shared i) && views i
 
+-- Files that are alike have the same encoding.
 pub alike-to : (h : Header) {s t : Layers} → Alike (h .processes) s t → (xs : List ℕ) → layersTo h s xs ≡ layersTo h t xs
 unfolding layersTo
 alike-to h {s} {t} a xs =
@@ -160,14 +163,14 @@ alike-to h {s} {t} a xs =
     λ i. (map (a .shared i) ++ views i) ++ drop (mapsLength h) xs
 
 module _ (h : Header) {s : Layers} (k : LayersHeld h s) where
-  -- every map fits
+  -- Every map of a held file fits its space.
   pub held-fit : layersFit h s ≡ true
   unfolding layersFit
   held-fit =
       let views = all-in (h .processes) (λ p. plainFits h (s .view p)) (λ p l. le-leb _ _ (k .view p l .fit)) in
       λ i. le-leb _ _ (k .shared .fit) i && views i
 
-  -- the first map, that of a view, and those of all views
+  -- The published map, the map of one view, and the maps of all views.
   abbrev mapFirst : List ℕ
   mapFirst = mapFor (h .space) (s .shared)
 
@@ -177,7 +180,7 @@ module _ (h : Header) {s : Layers} (k : LayersHeld h s) where
   abbrev mapViews : List ℕ
   mapViews = blocks (h .processes) mapOne
 
-  -- they fill their part of it
+  -- The lengths of these maps.
   one-length : (p : ℕ) → p < h .processes → length (mapOne p) ≡ 4 * h .space
   one-length p l = held-length (k .view p l)
 
@@ -186,31 +189,33 @@ module _ (h : Header) {s : Layers} (k : LayersHeld h s) where
       omega (arith, length-append mapFirst mapViews, held-length (k .shared), blocks-length (4 * h .space) mapOne (h .processes) one-length)
 
   module _ (xs : List ℕ) where
-    -- what stands behind them is kept
+    -- Encoding keeps the numbers past the maps.
     to-rest : drop (mapsLength h) (layersTo h s xs) ≡ drop (mapsLength h) xs
     unfolding layersTo
     to-rest = drop-at (mapFirst ++ mapViews) (drop (mapsLength h) xs) (mapsLength h) maps-length
 
-    -- so is the length, and what is written over them is the same
+    -- Encoding keeps the length of the slice.
     pub to-length : mapsLength h ≤ length xs → length (layersTo h s xs) ≡ length xs
     unfolding layersTo
     to-length l = omega (arith, length-append (mapFirst ++ mapViews) (drop (mapsLength h) xs), maps-length, length-drop (mapsLength h) xs)
 
+    -- A second encoding replaces the first.
     pub to-again : (t : Layers) → layersTo h t (layersTo h s xs) ≡ layersTo h t xs
     unfolding layersTo
     to-again t = ap (λ (l : List ℕ). (mapFor (h .space) (t .shared) ++ blocks (h .processes) (λ p. mapFor (h .space) (t .view p))) ++ l) to-rest
 
-    -- the first map apart
+    -- The published map, then the views, then the rest of the slice.
     to-apart : layersTo h s xs ≡ mapFirst ++ (mapViews ++ drop (mapsLength h) xs)
     unfolding layersTo
     to-apart = append-assoc mapFirst mapViews (drop (mapsLength h) xs)
 
-    -- each map stands in its place
+    -- The published map of the encoding is at its place.
     pub to-shared : mapAt (h .space) 0 (layersTo h s xs) ≡ mapFor (h .space) (s .shared)
     to-shared =
         (λ i. take (4 * h .space) (drop (zero-mul (4 * h .space) i) (to-apart i)))
         ∙ take-at mapFirst (mapViews ++ drop (mapsLength h) xs) (4 * h .space) (held-length (k .shared))
 
+    -- The map of each view is at its place.
     pub to-view : (p : ℕ) → p < h .processes → mapAt (h .space) (suc p) (layersTo h s xs) ≡ mapFor (h .space) (s .view p)
     to-view p l =
         let m : ℕ = 4 * h .space in
@@ -220,7 +225,7 @@ module _ (h : Header) {s : Layers} (k : LayersHeld h s) where
         ∙ ap (take m) (drop-append-add mapFirst (mapViews ++ z) (p * m))
         ∙ block-at m mapOne (h .processes) one-length p l z
 
-    -- so the slice is read back as the layered file
+    -- Decoding the encoded slice gives the layered file.
     pub to-in : Alike (h .processes) (layersIn h (layersTo h s xs)) s
     to-in =
         record {
@@ -228,7 +233,7 @@ module _ (h : Header) {s : Layers} (k : LayersHeld h s) where
           view = λ p l. ap bytesOf (to-view p l) ∙ held-bytes (k .view p l);
         }
 
--- a slice just made holds the fresh file
+-- Making leaves the encoding of the fresh layered file.
 pub fresh-to : (h : Header) (xs : List ℕ) → madeTo 0 (mapsLength h) xs ≡ layersTo h fresh xs
 unfolding layersTo
 fresh-to h xs =
@@ -241,49 +246,52 @@ fresh-to h xs =
 
 -- ---- Plain files
 
--- the map holds the bytes, and none is marked
+-- The map of a plain file holds its bytes, and no byte is marked.
 pub record PlainHeld (h : Header) (f : Bytes) : Type 0 where
   pub bytes : Held (h .space) f
   pub unmarked : (b : ℕ) → unpublished (f b) ≡ false
 
 module _ (h : Header) {f : Bytes} (k : PlainHeld h f) (xs : List ℕ) where
-  -- the map stands in its place
+  -- The map of the encoding is the first map of the slice.
   pub plain-first : mapAt (h .space) 0 (plainTo h f xs) ≡ mapFor (h .space) f
   unfolding plainTo
   plain-first =
       (λ i. take (4 * h .space) (drop (zero-mul (4 * h .space) i) (plainTo h f xs)))
       ∙ take-at (mapFor (h .space) f) (drop (4 * h .space) xs) (4 * h .space) (held-length (k .bytes))
 
-  -- the length is kept, what is written over it is the same, and the slice is read back
+  -- Encoding keeps the length of the slice.
   pub plain-length : 4 * h .space ≤ length xs → length (plainTo h f xs) ≡ length xs
   unfolding plainTo
   plain-length l =
       omega (arith, length-append (mapFor (h .space) f) (drop (4 * h .space) xs), held-length (k .bytes), length-drop (4 * h .space) xs)
 
+  -- A second encoding replaces the first.
   pub plain-again : (g : Bytes) → plainTo h g (plainTo h f xs) ≡ plainTo h g xs
   unfolding plainTo
   plain-again g =
       ap (λ (l : List ℕ). mapFor (h .space) g ++ l)
       (drop-at (mapFor (h .space) f) (drop (4 * h .space) xs) (4 * h .space) (held-length (k .bytes)))
 
+  -- Decoding the encoded slice gives the bytes.
   pub plain-in : plainIn h (plainTo h f xs) ≡ f
   plain-in = ap bytesOf plain-first ∙ held-bytes (k .bytes)
 
--- a slice just made holds no byte
+-- Making leaves the encoding of the fresh plain file.
 pub fresh-plain : (h : Header) (xs : List ℕ) → madeTo 0 (4 * h .space) xs ≡ plainTo h nothing xs
 unfolding plainTo
 fresh-plain h xs = ap (λ (l : List ℕ). l ++ drop (4 * h .space) xs) (sym (nothing-map (h .space)))
 
 -- ---- Bytes that change at no more points than fit
 
--- a map holds them
+-- A map whose space is at least the number of points holds such bytes.
 pointed-held : {space : ℕ} {points : List ℕ} → length points ≤ space → {f : Bytes} → Pointed points f → Held space f
 pointed-held enough k = record { fine = k .fine; ends = k .ends; fit = omega (arith, pointed-runs k, enough) }
 
 module _ (h : Header) {points : List ℕ} (enough : length points ≤ h .space) where
-  -- and so do the maps of a layered file and of a plain one
+  -- Maps with that space hold a layered file.
   pub layers-held : {s : Layers} → LayersPointed points s → LayersHeld h s
   layers-held k = record { shared = pointed-held enough (k .shared); unmarked = k .unmarked; view = λ p _. pointed-held enough (k .view p) }
 
+  -- Maps with that space hold a plain file.
   pub plain-held : {f : Bytes} → PlainPointed points f → PlainHeld h f
   plain-held k = record { bytes = pointed-held enough (k .bytes); unmarked = k .unmarked }

@@ -1,4 +1,4 @@
--- One step of a machine and of a plain file whose maps hold bytes: where no question says No, it is the row's step by the bytes.
+-- A step of a machine or of a plain file whose maps hold bytes: if every question is answered Yes, the step does what the row does to the bytes.
 use Prim.Native.Nat.{ℕ, suc, _*_, _≤_, _<_}
 use native.Mathlib.Omega.{arith}
 use mathlib.Core.Path.{_≡_, refl, ap, _∙_}
@@ -24,41 +24,41 @@ use Rattle.machine_meaning.proofs.Slices.{all-in, held-lawful, held-pub
 
 -- ---- Questions
 
--- every answer is Yes
+-- Every question is answered Yes.
 abbrev pub AllYes : List Question → Type 0
 AllYes [] = Unit {0}
 AllYes (q ∷ qs) = (q .yes ≡ true) × AllYes qs
 
--- then there is no first No
+-- If every question is answered Yes, the first No is 0.
 pub none-no : (qs : List Question) → AllYes qs → firstNo qs ≡ 0
 unfolding firstNo
 none-no [] y = refl
 none-no (q ∷ qs) y = rw (y .0) (none-no qs (y .1))
 
--- every answer to questions one after the other
+-- Two lists of questions that are all answered Yes are so one after the other.
 pub yes-append : (ps qs : List Question) → AllYes ps → AllYes qs → AllYes (ps ++ qs)
 yes-append [] qs y z = z
 yes-append (p ∷ ps) qs y z = (y .0, yes-append ps qs (y .1) z)
 
--- no refusal decides
+-- A first No of 0 leaves the decision to the step.
 decided-none : (n : ℕ) (s : Step) (maps out : List ℕ) → n ≡ 0 → decided n s maps out ≡ s
 decided-none n s maps out e = rw (eq-eqb n 0 e)
 
 -- ---- A row by the bytes of alike files
 
 module _ {processes : ℕ} where
-  -- where a test picks
+  -- A test picks alike files from files that are alike.
   alike-picked : (x : Bool) {s t u v : Layers} → Alike processes s t → Alike processes u v → Alike processes (cond x s u) (cond x t v)
   alike-picked true a b = a
   alike-picked false a b = b
 
   module _ (p : ℕ) (l : p < processes) where
-    -- a view that is put in
+    -- Replacing a view by the same view keeps views alike.
     alike-with : {f g : Bytes} {views others : ℕ → Bytes} → f ≡ g → ((q : ℕ) → q < processes → views q ≡ others q) →
         (q : ℕ) → q < processes → withView p f views q ≡ withView p g others q
     alike-with e v q h = λ i. cond (eqb q p) (e i) (v q h i)
 
-    -- a publish, a refresh and a write keep files alike
+    -- A publish, a refresh and a write keep files alike.
     alike-publishing : {s t : Layers} → Alike processes s t → Alike processes (publishing p s) (publishing p t)
     alike-publishing a =
         record {
@@ -77,7 +77,7 @@ module _ {processes : ℕ} where
           view = alike-with (r .process) l (ap (overwrite (r .offset) (r .length) (cellOf number 1)) (a .view (r .process) l)) (a .view);
         }
 
-    -- so every row of a process below the limit does
+    -- Every row of a process below the limit keeps files alike.
     pub alike-row : (model : ℕ) {s t : Layers} → Alike processes s t → Alike processes (afterRow model r number s) (afterRow model r number t)
     unfolding afterRow
     alike-row model a =
@@ -87,7 +87,7 @@ module _ {processes : ℕ} where
 
 -- ---- A step of the machine
 
--- from any slice, where every answer is Yes
+-- If every answer is Yes, a step of the machine does what the row does to the layers of the slice.
 pub step-yes : (h : Header) (xs : List ℕ) (r : Row) (number : ℕ) (out : List ℕ) →
     let s = afterRow (h .model) r number (layersIn h xs) in
     lawfulState h xs ≡ true → AllYes (rowAsked h r number) → layersFit h s ≡ true →
@@ -98,7 +98,7 @@ step-yes h xs r number out state asked fit room =
     decided-none _ _ xs out (none-no _ (state, yes-append (rowAsked h r number) _ asked (fit, (le-leb _ _ room, tt))))
 
 module _ (h : Header) {s : Layers} (held : LayersHeld h s) (xs : List ℕ) (making : AllYes (makingQuestions h (length xs))) where
-  -- a slice that holds a file is a lawful state
+  -- The encoding of a held layered file is a lawful state.
   pub to-lawful : lawfulState h (layersTo h s xs) ≡ true
   unfolding lawfulState makingQuestions
   to-lawful =
@@ -112,7 +112,7 @@ module _ (h : Header) {s : Layers} (held : LayersHeld h s) (xs : List ℕ) (maki
       λ i. limits .0 i && (limits .1 i && (making .1 .1 .0 i && (room i && (first i && others i))))
 
   module _ (r : Row) (number : ℕ) (asked : AllYes (rowAsked h r number)) (out : List ℕ) where
-    -- a step from a slice that holds a file leaves the slice that holds the file after the row, and lists the row's pieces
+    -- A step from an encoded file leaves the encoding of the file after the row, and lists the pieces of the row.
     pub step-held : let t = afterRow (h .model) r number s in
         layersFit h t ≡ true → 3 * length (piecesRead r (t .view (r .process))) ≤ length out →
         stepOf h (layersTo h s xs) r number out ≡ answered r (piecesRead r (t .view (r .process))) (layersTo h t xs) out
@@ -127,7 +127,7 @@ module _ (h : Header) {s : Layers} (held : LayersHeld h s) (xs : List ℕ) (maki
 
 -- ---- A step of the plain file
 
--- from any slice, where every answer is Yes
+-- If every answer is Yes, a step of the plain file does what the row does to the bytes of the slice.
 pub plain-step-yes : (h : Header) (xs : List ℕ) (r : Row) (number : ℕ) (out : List ℕ) →
     let f = afterPlain r number (plainIn h xs) in
     lawfulPlain h xs ≡ true → AllYes (rowAsked h r number) → plainFits h f ≡ true → 3 * length (piecesRead r f) ≤ length out →
@@ -137,7 +137,7 @@ plain-step-yes h xs r number out state asked fit room =
     decided-none _ _ xs out (none-no _ (state, yes-append (rowAsked h r number) _ asked (fit, (le-leb _ _ room, tt))))
 
 module _ (h : Header) {f : Bytes} (held : PlainHeld h f) (xs : List ℕ) (making : AllYes (plainMakingQuestions h (length xs))) where
-  -- a slice that holds bytes is a lawful state
+  -- The encoding of held bytes is a lawful plain file.
   pub plain-lawful : lawfulPlain h (plainTo h f xs) ≡ true
   unfolding lawfulPlain plainMakingQuestions
   plain-lawful =
@@ -148,7 +148,7 @@ module _ (h : Header) {f : Bytes} (held : PlainHeld h f) (xs : List ℕ) (making
       λ i. making .1 .0 i && (making .1 .1 .0 i && (room i && first i))
 
   module _ (r : Row) (number : ℕ) (asked : AllYes (rowAsked h r number)) (out : List ℕ) where
-    -- a step from a slice that holds bytes leaves the slice that holds those after the row, and lists the row's pieces
+    -- A step from encoded bytes leaves the encoding of the bytes after the row, and lists the pieces of the row.
     pub plain-step-held : let g = afterPlain r number f in
         plainFits h g ≡ true → 3 * length (piecesRead r g) ≤ length out →
         plainStepOf h (plainTo h f xs) r number out ≡ answered r (piecesRead r g) (plainTo h g xs) out

@@ -8,7 +8,7 @@ use Rattle.models.specs.Table.{publishes, refreshes}
 use Rattle.rows.specs.declared.Row.{Row}
 use Rattle.machine_meaning.specs.Layers.{Layers, written, publishing, refreshing, afterRow}
 
--- a row of a kind by process p
+-- The row r with another kind.
 abbrev of : ℕ → Row → Row
 of kind r = record { process = r .process; kind = kind; file = r .file; offset = r .offset; length = r .length; message = r .message }
 

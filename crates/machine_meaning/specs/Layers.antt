@@ -15,14 +15,15 @@ pub record Layers : Type 0 where
   pub shared : Bytes
   pub view : ℕ → Bytes
 
--- a fresh machine has 0 everywhere
+-- Bytes that nobody wrote hold 0.
 abbrev pub nothing : Bytes
 nothing b = 0
 
+-- A fresh machine holds 0 everywhere.
 abbrev pub fresh : Layers
 fresh = record { shared = nothing; view = λ p. nothing }
 
--- the views with another one for process p
+-- The views with another view for process p.
 abbrev pub withView : ℕ → Bytes → (ℕ → Bytes) → ℕ → Bytes
 withView p f views q = cond (eqb q p) f (views q)
 
@@ -61,10 +62,10 @@ afterRow model r number s =
 unfoldable pub afterPlain : Row → ℕ → Bytes → Bytes
 afterPlain r number f = cond (eqb (r .kind) WRITE) (overwrite (r .offset) (r .length) (cellOf number 0) f) f
 
--- a read's pieces; other rows have none
+-- The pieces of a read. Other rows have none.
 abbrev pub piecesRead : Row → Bytes → List Run
 piecesRead r f = cond (eqb (r .kind) READ) (piecesOf f (r .offset) (r .length)) []
 
--- a read, write, commit, open, close or sync of this file
+-- The row is a read, write, commit, open, close or sync of this file.
 abbrev pub ofFile : ℕ → Row → Bool
 ofFile file r = ltb (r .kind) SEND && eqb (r .file) file

@@ -12,7 +12,7 @@ pub use Rattle.extents_meaning.specs.Maps.{mapFor, mapAt}
 use Rattle.extents_meaning.specs.Maps.{bytesOf, lawful, lawfulPublished}
 use Rattle.machine_meaning.specs.Layers.{Layers, nothing}
 
--- what a machine is made for; a plain file's model is not read
+-- What a machine is made for. A plain file ignores its model.
 pub record Header : Type 0 where
   pub model : ℕ
   pub processes : ℕ
@@ -21,13 +21,13 @@ pub record Header : Type 0 where
 
 -- ---- Maps of a slice
 
--- how many numbers the maps of a machine take
+-- The count of numbers that the maps of a machine take.
 abbrev pub mapsLength : Header → ℕ
 mapsLength h = 4 * h .space * (h .processes + 1)
 
 -- ---- Machines
 
--- process limit 1 to 64; file 0 to 63
+-- A process limit is 1 to 64.
 abbrev pub processLimit : ℕ → Bool
 processLimit n = leb 1 n && leb n PROCESSES
 
@@ -40,7 +40,7 @@ lawfulState h xs =
     && (leb (mapsLength h) (length xs)
     && (lawfulPublished (mapAt (h .space) 0 xs) && allBelow (h .processes) (λ p. lawful (mapAt (h .space) (suc p) xs))))))
 
--- what the maps say of every byte
+-- The layered file that the maps of a slice encode.
 abbrev pub layersIn : Header → List ℕ → Layers
 layersIn h xs =
     record {
@@ -48,7 +48,7 @@ layersIn h xs =
       view = λ p. bytesOf (mapAt (h .space) (suc p) xs);
     }
 
--- the slice with the maps of a layered file; numbers past the maps stay
+-- The slice with the maps of a layered file. Numbers past the maps stay.
 unfoldable pub layersTo : Header → Layers → List ℕ → List ℕ
 layersTo h s xs =
     (mapFor (h .space) (s .shared) ++ blocks (h .processes) (λ p. mapFor (h .space) (s .view p))) ++ drop (mapsLength h) xs
@@ -60,16 +60,20 @@ layersFit h s =
 
 -- ---- Plain files: one map with marks 0
 
+-- Is the plain file one with process limit, file and slice as for making, and lawful runs without marks in its map?
 unfoldable pub lawfulPlain : Header → List ℕ → Bool
 lawfulPlain h xs =
     processLimit (h .processes)
     && (ltb (h .file) FILES && (leb (4 * h .space) (length xs) && lawfulPublished (mapAt (h .space) 0 xs)))
 
+-- The bytes that the map of a slice encodes.
 abbrev pub plainIn : Header → List ℕ → Bytes
 plainIn h xs = bytesOf (mapAt (h .space) 0 xs)
 
+-- The slice with the map of these bytes. Numbers past the map stay.
 unfoldable pub plainTo : Header → Bytes → List ℕ → List ℕ
 plainTo h f xs = mapFor (h .space) f ++ drop (4 * h .space) xs
 
+-- Does the map of these bytes fit its space?
 abbrev pub plainFits : Header → Bytes → Bool
 plainFits h f = leb (length (runsOf f)) (h .space)

@@ -32,24 +32,24 @@ use Rattle.machine_state.proofs.Answering.{same-kept, kept-append, carried, ref
 -- ---- Lawful plain files
 
 module _ (h : Header) (xs : List ℕ) where
-  -- the process limit
+  -- No process limit: the plain file is not lawful.
   pub no-limit : processLimit (h .processes) ≡ false → false ≡ lawfulPlain h xs
   unfolding lawfulPlain
   no-limit e = rw e
 
   module _ (limit : processLimit (h .processes) ≡ true) where
-    -- the file
+    -- A file past the files: the plain file is not lawful.
     pub no-file : FILES ≤ h .file → false ≡ lawfulPlain h xs
     unfolding lawfulPlain
     no-file l = rw (limit, le-ltb (h .file) FILES l)
 
     module _ (file : h .file < FILES) where
-      -- the slice
+      -- A slice that is too short: the plain file is not lawful.
       pub no-room : length xs / 4 < h .space → false ≡ lawfulPlain h xs
       unfolding lawfulPlain
       no-room l = rw (limit, lt-ltb (h .file) FILES file, lt-leb (4 * h .space) (length xs) (omega arith))
 
-      -- its map is left to ask
+      -- If the header and the slice pass, the map decides.
       pub one-map : h .space ≤ length xs / 4 → lawfulPublished (take (4 * h .space) xs) ≡ lawfulPlain h xs
       unfolding lawfulPlain
       one-map l =
@@ -59,48 +59,48 @@ module _ (h : Header) (xs : List ℕ) where
 -- ---- Steps
 
 module _ (h : Header) (xs : List ℕ) (law : lawfulPlain h xs ≡ true) where
-  -- its map
+  -- The map of the plain file.
   abbrev map : List ℕ
   map = take (4 * h .space) xs
 
-  -- it lies in the slice
+  -- The map lies in the slice.
   pub plain-in : 4 * h .space ≤ length xs
   unfolding plainMakingQuestions
   plain-in = leb-true _ _ (plain-making h xs law .0 .0)
 
-  -- it is lawful, as the first map of the slice
+  -- The first map of the slice is lawful.
   here-law : lawful (mapAt (h .space) 0 xs) ≡ true
   here-law = and-out (lawful (mapAt (h .space) 0 xs)) _ (plain-making h xs law .1) .0
 
-  -- and as it is lent
+  -- The lent map is lawful.
   pub map-law : lawful map ≡ true
   map-law = ap lawful (sym (first-map (h .space) xs)) ∙ here-law
 
-  -- its length
+  -- The length of the lent map.
   pub map-length : 4 * h .space ≡ length map
   map-length = sym (length-take-le (4 * h .space) xs plain-in)
 
-  -- its space
+  -- The space of the lent map.
   map-space : spaceIn map ≡ h .space
   map-space = omega (arith, map-length)
 
-  -- its bytes
+  -- The bytes of the plain file are those of the lent map.
   map-bytes : plainIn h xs ≡ bytesOf map
   map-bytes = ap bytesOf (first-map (h .space) xs)
 
-  -- it is written again as it is
+  -- Encoding the bytes of the plain file gives the slice.
   same-map : plainTo h (plainIn h xs) xs ≡ xs
   unfolding plainTo
   same-map =
       let again = here-again (h .space) 0 xs here-law (omega (arith, plain-in)) in
       (λ i. (again ∙ first-map (h .space) xs) i ++ drop (4 * h .space) xs) ∙ take-append-drop (4 * h .space) xs
 
-  -- and fits
+  -- The bytes of the plain file fit the map.
   same-fits : plainFits h (plainIn h xs) ≡ true
   same-fits = le-leb _ _ (here-fit (h .space) 0 xs here-law (omega (arith, plain-in)))
 
   module _ (r : Row) (number : ℕ) (out : List ℕ) where
-    -- a row that is refused by itself
+    -- A step of a lawful plain file refuses by the first No of the row.
     pub plain-asked : (k : ℕ) → k ≡ firstNo (rowAsked h r number) → (k ≡ 0 → ⊥) → Steps (plainStepOf h xs r number out) (Refused k) xs out
     unfolding plainStepOf firstNo
     plain-asked k e n =
@@ -109,37 +109,37 @@ module _ (h : Header) (xs : List ℕ) (law : lawfulPlain h xs ≡ true) where
         refused _ k xs out (λ i. cond (law i) (first i) 13) n
 
     module _ (asked : firstNo (rowAsked h r number) ≡ 0) where
-      -- every question is answered Yes
+      -- Every question of the row is answered Yes.
       passes : AllYes (rowAsked h r number)
       passes = asked-yes h r number asked
 
-      -- the bytes after it
+      -- The bytes after the row.
       abbrev after : Bytes
       after = afterPlain r number (plainIn h xs)
 
-      -- what it reads of them
+      -- The pieces that the row reads.
       abbrev read : List Run
       read = piecesRead r after
 
-      -- else 16 and 17 decide
+      -- If the state and the row pass, questions 16 and 17 decide.
       room : firstNo (record { number = 13; yes = lawfulPlain h xs } ∷ (rowAsked h r number ++ roomAsked (plainFits h after) read (length out))) ≡
           cond (plainFits h after) (cond (leb (3 * length read) (length out)) 0 17) 16
       unfolding firstNo
       room =
           λ i. cond (law i) (no-behind (rowAsked h r number) (roomAsked (plainFits h after) read (length out)) passes i) 13
 
-      -- a read lists the map's pieces
+      -- A read lists the pieces of the map.
       module _ (kind : r .kind ≡ READ) where
-        -- it changes no byte
+        -- A read changes no byte.
         read-after : after ≡ plainIn h xs
         unfolding afterPlain
         read-after = λ i. cond (eqb (kind i) WRITE) (overwrite (r .offset) (r .length) (cellOf number 0) (plainIn h xs)) (plainIn h xs)
 
-        -- its pieces are those of the map
+        -- The pieces of a read are those of the map.
         read-pieces : read ≡ piecesOf (bytesOf map) (r .offset) (r .length)
         read-pieces = λ i. cond (eqb (kind i) READ) (piecesOf ((read-after ∙ map-bytes) i) (r .offset) (r .length)) []
 
-        -- it is asked for the room of its pieces alone
+        -- A read refuses by the room for its pieces alone.
         read-refusal : cond (plainFits h after) (cond (leb (3 * length read) (length out)) 0 17) 16
             ≡ listRefusal map (r .offset) (r .length) (length out)
         unfolding listRefusal firstNo
@@ -153,7 +153,7 @@ module _ (h : Header) (xs : List ℕ) (law : lawfulPlain h xs ≡ true) where
               le-leb (r .offset + r .length) OFFSET-MAX (b .2),
             ))
 
-        -- so the step is what the listing answers and leaves
+        -- A read does what `list_range` does.
         pub plain-read : {a : extents.Answer} {zs : List ℕ} → a ≡ orRefused (listRefusal map (r .offset) (r .length) (length out))
             (listedCount (piecesOf (bytesOf map) (r .offset) (r .length))) → zs ≡ orKept (listRefusal map (r .offset) (r .length) (length out))
             (listedIn (piecesOf (bytesOf map) (r .offset) (r .length)) out) out → Steps (plainStepOf h xs r number out) a xs zs
@@ -167,43 +167,43 @@ module _ (h : Header) (xs : List ℕ) (law : lawfulPlain h xs ≡ true) where
             (same-kept k (ap (λ (f : Bytes). plainTo h f xs) read-after ∙ same-map))
             (left ∙ (λ i. orKept k (listedIn (back i) out) out)) (λ _. refl)
 
-      -- other rows list nothing
+      -- A row that is no read lists nothing.
       module _ (kind : eqb (r .kind) READ ≡ false) where
-        -- it has no pieces
+        -- The row has no pieces.
         no-pieces : read ≡ []
         no-pieces = λ i. cond (kind i) (piecesOf after (r .offset) (r .length)) []
 
-        -- so there is nothing to tell
+        -- The step answers that the row is done.
         no-answer : done ≡ cond (eqb (r .kind) READ) (listed (length read)) done
         no-answer = sym (λ i. cond (kind i) (listed (length read)) done)
 
-        -- the answer slice stays as it is
+        -- The answer slice stays as it is.
         no-list : (k : ℕ) → out ≡ orKept k (listedIn read out) out
         unfolding threes
         no-list k = same-kept k (λ i. listedIn (no-pieces i) out)
 
-        -- and 17 is answered Yes
+        -- Question 17 is answered Yes.
         no-seventeen : cond {A = ℕ} (plainFits h after) (cond (leb (3 * length read) (length out)) 0 17) 16 ≡ cond {A = ℕ} (plainFits h after) 0 16
         no-seventeen =
             let fits = ap (λ (ps : List Run). leb (3 * length ps) (length out)) no-pieces ∙ le-leb 0 (length out) (omega arith) in
             λ i. cond (plainFits h after) (cond (fits i) 0 17) 16
 
-      -- a write writes the map
+      -- A write changes the map.
       module _ (kind : r .kind ≡ WRITE) where
-        -- the bytes with the range written
+        -- The bytes with the range written.
         abbrev anew : Bytes
         anew = overwrite (r .offset) (r .length) (cellOf number 0) (bytesOf map)
 
-        -- it is no read
+        -- A write is no read.
         no-read : eqb (r .kind) READ ≡ false
         no-read = λ i. eqb (kind i) READ
 
-        -- those are the bytes after it
+        -- A write leaves the bytes with the range written.
         write-after : after ≡ anew
         unfolding afterPlain
         write-after = λ i. cond (eqb (kind i) WRITE) (overwrite (r .offset) (r .length) (cellOf number 0) (map-bytes i)) (map-bytes i)
 
-        -- it is asked for the space of the map alone
+        -- A write refuses by the space of the map alone.
         write-refusal : cond (plainFits h after) 0 16 ≡ writeRefusal map (r .offset) (r .length) number false
         unfolding writeRefusal firstNo
         write-refusal =
@@ -219,7 +219,7 @@ module _ (h : Header) (xs : List ℕ) (law : lawfulPlain h xs ≡ true) where
               le-leb (r .offset + r .length) OFFSET-MAX (b .2),
             ))
 
-        -- so the step is what the writing answers and leaves
+        -- A write does what `write` of the map of pieces does.
         pub plain-write : {a : extents.Answer} {zs : List ℕ} → a ≡ orRefused (writeRefusal map (r .offset) (r .length) number false) Done →
             zs ≡ orKept (writeRefusal map (r .offset) (r .length) number false) (writtenMap map (r .offset) (r .length) number false) map →
             Steps (plainStepOf h xs r number out) a (zs ++ drop (4 * h .space) xs) out
@@ -234,7 +234,7 @@ module _ (h : Header) (xs : List ℕ) (law : lawfulPlain h xs ≡ true) where
             ∙ (λ i. orKept k (mapFor (map-space i) (back i) ++ rest) (take-append-drop (4 * h .space) xs i)))
             (no-list no-read k) (λ _. refl)
 
-      -- other rows change nothing
+      -- A row that is neither a read nor a write changes nothing.
       pub plain-other : (r .kind ≡ READ → ⊥) → (r .kind ≡ WRITE → ⊥) → Steps (plainStepOf h xs r number out) Done xs out
       unfolding plainStepOf afterPlain
       plain-other nr nw =
@@ -244,7 +244,7 @@ module _ (h : Header) (xs : List ℕ) (law : lawfulPlain h xs ≡ true) where
           carried _ 0 xs out (room ∙ no-seventeen no ∙ (λ i. cond ((ap (plainFits h) same ∙ same-fits) i) 0 16)) (ap answerOf (no-answer no))
           (same-kept 0 (ap (λ (f : Bytes). plainTo h f xs) same ∙ same-map)) (no-list no 0) (λ _. refl)
 
--- an unlawful one
+-- A step refuses an unlawful plain file by question 13.
 pub plain-unlawful : (h : Header) (xs : List ℕ) (r : Row) (number : ℕ) (out : List ℕ) → lawfulPlain h xs ≡ false →
     Steps (plainStepOf h xs r number out) (Refused 13) xs out
 unfolding plainStepOf firstNo

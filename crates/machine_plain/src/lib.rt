@@ -16,7 +16,7 @@ use machine_state::Replayed;
 use rows::Row;
 use rows::refusal;
 
-// A lawful plain file: limits as for making, a slice that is long enough, and a lawful map without marks.
+// Whether the plain file is lawful: limits as for making, a slice that is long enough, and a lawful map without marks.
 pub fn is_plain(plain: Machine, map: &[u32]) -> bool
     ensures { λ r. ⌜ r ≡ lawfulPlain (headerOf plain) (now (map .entry)) ⌝ }
 {
@@ -36,7 +36,7 @@ pub fn is_plain(plain: Machine, map: &[u32]) -> bool
     extents::is_published(&map[..size])
 }
 
-// Makes a plain file: one map, 0 everywhere in it.
+// Makes a plain file: one map, 0 everywhere in it. A refusal changes nothing.
 pub fn make(plain: Machine, map: &mut [u32]) -> Made
     ensures answer { λ r. ⌜ r ≡ madeOf (firstNo (plainMakingQuestions (headerOf plain) (length (now (map .entry))))) ⌝ }
     ensures left { λ r. ⌜ now (map .exit) ≡ madeTo (firstNo (plainMakingQuestions (headerOf plain) (length (now (map .entry))))) (4 * headerOf plain .space) (now (map .entry)) ⌝ }
@@ -58,7 +58,7 @@ pub fn make(plain: Machine, map: &mut [u32]) -> Made
     Made::Made
 }
 
-// Puts a row of the file to the plain file under a row number.
+// Puts a row of the file to the plain file under a row number. A read's pieces go to the answer slice.
 pub fn step(plain: Machine, map: &mut [u32], row: Row, number: u32, out: &mut [u32]) -> Answer
     ensures { λ r. ⌜ Steps (plainStepOf (headerOf plain) (now (map .entry)) row number (now (out .entry))) r (now (map .exit)) (now (out .exit)) ⌝ }
 {
@@ -68,7 +68,8 @@ pub fn step(plain: Machine, map: &mut [u32], row: Row, number: u32, out: &mut [u
     advance(plain, map, row, number, out)
 }
 
-// The same for the plain file.
+// Puts each row of the file behind the first ones, up to row n, to the plain file under its number in the trace. The counts get the count of
+// pieces of each row, and the answer slice the pieces of all reads one after the other. A refusal ends the replay before that row.
 pub fn replay(
     plain: Machine,
     map: &mut [u32],
@@ -121,7 +122,7 @@ pub fn replay(
     }
 }
 
-// Puts a row to a lawful plain file if it names the file.
+// Puts a row to a lawful plain file if the row is one of the file.
 fn put(plain: Machine, map: &mut [u32], row: Row, number: u32, out: &mut [u32]) -> Answer
     requires { ⌜ lawfulPlain (headerOf plain) (now map) ≡ true ⌝ }
     ensures { λ r. ⌜ Steps (putTo (plainStepOf (headerOf plain)) (headerOf plain .file) (now (map .entry)) row number (now (out .entry)))

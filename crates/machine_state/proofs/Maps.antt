@@ -1,4 +1,4 @@
--- A machine's state as two maps at a time: a row changes the published map and one view.
+-- A machine's state as two maps: a row changes the published map and one view.
 use Prim.Native.Nat.{ℕ, zero, suc, _+_, _*_, _-_, _≤_, _<_}
 use native.Mathlib.Numerals.{add-one}
 use native.Mathlib.Nat.{zero-mul}
@@ -34,21 +34,21 @@ use Rattle.extents.specs.Entries.{bothMaps}
 
 -- ---- Numbers below a bound
 
--- none
+-- All of no numbers pass.
 pub all-none : (test : ℕ → Bool) → allBelow 0 test ≡ true
 unfolding allBelow
 all-none test = refl
 
--- one more that passes
+-- If all numbers below n pass, and n passes, all below n + 1 pass.
 pub all-more : (n : ℕ) (test : ℕ → Bool) → allBelow n test ≡ true → test n ≡ true → allBelow (n + 1) test ≡ true
 unfolding allBelow
 all-more n test a t = ap (λ (k : ℕ). allBelow k test) (add-one n) ∙ (λ i. a i && t i)
 
--- one that does not pass
+-- If one number does not pass, not all pass.
 pub all-not : (n : ℕ) (test : ℕ → Bool) (p : ℕ) → p < n → test p ≡ false → allBelow n test ≡ false
 all-not n test p l t = not-passed (allBelow n test) (λ e. false≢true (sym t ∙ all-out n test e p l))
 
--- where all others pass, one decides
+-- If all other numbers pass, one number decides.
 all-one : (n p : ℕ) (test : ℕ → Bool) → p < n → ((q : ℕ) → (q ≡ p → ⊥) → q < n → test q ≡ true) → allBelow n test ≡ test p
 unfolding allBelow
 all-one zero p test l h = absurd (omega arith)
@@ -63,11 +63,11 @@ all-one (suc n) p test l h = go (decLt p n) (all-one n p test)
 
 -- ---- Maps of a slice
 
--- the first map is the front
+-- The first map is the front of the slice.
 pub first-map : (space : ℕ) (xs : List ℕ) → mapAt space 0 xs ≡ take (4 * space) xs
 first-map space xs = λ i. take (4 * space) (drop (zero-mul (4 * space) i) xs)
 
--- what stands behind a map that is put
+-- Replacing map k keeps the numbers past it.
 drop-with : (space k : ℕ) (m xs : List ℕ) → length m ≡ 4 * space → (k + 1) * (4 * space) ≤ length xs → (n : ℕ) → (k + 1) * (4 * space) ≤ n →
     drop n (withMap space k m xs) ≡ drop n xs
 drop-with space k m xs size fit n h =
@@ -79,12 +79,12 @@ drop-with space k m xs size fit n h =
 -- ---- A lawful state
 
 module _ (h : Header) (xs : List ℕ) where
-  -- it is as for making
+  -- A lawful state passes the making questions.
   pub state-making : lawfulState h xs ≡ true → AllYes (makingQuestions h (length xs))
   unfolding makingQuestions
   state-making law = let k = state-told h xs law in (k .3, (λ i. k .0 i && k .1 i, (k .2, tt)))
 
-  -- a plain one is as for making too, and its map is lawful
+  -- A lawful plain file passes the making questions, and its map is a lawful published map.
   pub plain-making : lawfulPlain h xs ≡ true → AllYes (plainMakingQuestions h (length xs)) × (lawfulPublished (mapAt (h .space) 0 xs) ≡ true)
   unfolding lawfulPlain plainMakingQuestions
   plain-making law =
@@ -94,7 +94,7 @@ module _ (h : Header) (xs : List ℕ) where
       ((e3 .0, (e1 .0, (e2 .0, tt))), e3 .1)
 
 module _ (h : Header) (xs : List ℕ) (law : lawfulState h xs ≡ true) (p : ℕ) (below : p < h .processes) where
-  -- the view of a process and the published map are two maps of the slice
+  -- The view of a process and the published map are two maps of the slice.
   pub state-two : twoMaps (h .space) (suc p) 0 xs ≡ true
   state-two =
       λ i.
@@ -103,25 +103,25 @@ module _ (h : Header) (xs : List ℕ) (law : lawfulState h xs ≡ true) (p : ℕ
       && (le-leb ((0 + 1) * (4 * h .space)) (length xs) (map-in h xs law 0 (omega arith)) i
       && (state-parts h xs law .2 p below i && state-parts h xs law .1 i)))
 
-  -- the view is lawful by itself
+  -- The view of the process is lawful by itself.
   pub state-view : lawful (mapAt (h .space) (suc p) xs) ≡ true
   state-view = state-parts h xs law .2 p below
 
-  -- and lies within the slice
+  -- The view of the process lies within the slice.
   pub state-in : (suc p + 1) * (4 * h .space) ≤ length xs
   state-in = map-in h xs law (suc p) below
 
-  -- the slice with another view of p: its maps, and what stands behind them
+  -- The slice with another view of process p: its maps, and the numbers past them.
   module _ (v : Bytes) (fit : length (runsOf v) ≤ h .space) where
-    -- that slice
+    -- The slice with the new view.
     abbrev viewed : List ℕ
     viewed = withMap (h .space) (suc p) (mapFor (h .space) v) xs
 
-    -- the new map's length
+    -- The length of the new map.
     v-size : length (mapFor (h .space) v) ≡ 4 * h .space
     v-size = length-map (h .space) (runsOf v) fit
 
-    -- the views in it
+    -- The views in the new slice.
     viewed-view : (q : ℕ) → q < h .processes → mapAt (h .space) (suc q) viewed ≡ mapFor (h .space) (withView p v (layersIn h xs .view) q)
     viewed-view q l = go (eqb q p) refl
       where
@@ -132,24 +132,24 @@ module _ (h : Header) (xs : List ℕ) (law : lawfulState h xs ≡ true) (p : ℕ
             let z = eqb-false q p e in
             at-other (h .space) (suc p) (mapFor (h .space) v) xs v-size state-in (suc q) (λ s. z (omega arith)) ∙ sym (view-again h xs law q l)
 
-    -- the published map in it
+    -- The published map in the new slice.
     viewed-shared : mapAt (h .space) 0 viewed ≡ mapAt (h .space) 0 xs
     viewed-shared = at-other (h .space) (suc p) (mapFor (h .space) v) xs v-size state-in 0 (λ s. omega arith)
 
-    -- its length
+    -- The length of the new slice.
     viewed-length : length viewed ≡ length xs
     viewed-length = with-length (h .space) (suc p) (mapFor (h .space) v) xs v-size state-in
 
-    -- what stands behind its maps
+    -- The new slice keeps the numbers past the maps.
     viewed-rest : drop (mapsLength h) viewed ≡ drop (mapsLength h) xs
     viewed-rest = drop-with (h .space) (suc p) (mapFor (h .space) v) xs v-size state-in (mapsLength h) (map-below h xs law (suc p) below)
 
   module _ (v w : Bytes) where
-    -- the state with another published map and another view of p
+    -- The state with another published map and another view of p.
     abbrev pub anew : Layers
     anew = record { shared = w; view = withView p v (layersIn h xs .view) }
 
-    -- 16 is asked of these two alone: the other maps fit
+    -- Question 16 depends on these two maps alone: the other maps fit.
     pub fit-both : layersFit h anew ≡ leb (length (runsOf w)) (h .space) && leb (length (runsOf v)) (h .space)
     unfolding layersFit
     fit-both =
@@ -160,7 +160,7 @@ module _ (h : Header) (xs : List ℕ) (law : lawfulState h xs ≡ true) (p : ℕ
         let own : test p ≡ leb (length (runsOf v)) (h .space) = rw (eq-eqb p p refl) in
         ap (λ (b : Bool). leb (length (runsOf w)) (h .space) && b) (all-one (h .processes) p test below others ∙ own)
 
-    -- and they alone are put into the slice
+    -- Encoding the new state replaces these two maps alone.
     pub to-both : length (runsOf v) ≤ h .space → length (runsOf w) ≤ h .space → layersTo h anew xs ≡ bothMaps (h .space) (suc p) 0 xs v w
     unfolding bothMaps
     to-both vf wf =
@@ -172,7 +172,7 @@ module _ (h : Header) (xs : List ℕ) (law : lawfulState h xs ≡ true) (p : ℕ
         (λ q l. at-other (h .space) 0 m ys size room (suc q) (λ s. omega arith) ∙ viewed-view v vf q l)
         (drop-with (h .space) 0 m ys size room (mapsLength h) (map-below h xs law 0 (omega arith)) ∙ viewed-rest v vf)
 
-  -- a published map that is not changed is as it was
+  -- A state with another view alone keeps its published map.
   pub to-view-alone : (v : Bytes) → length (runsOf v) ≤ h .space →
       layersTo h (record { shared = layersIn h xs .shared; view = withView p v (layersIn h xs .view) }) xs
       ≡ withMap (h .space) (suc p) (mapFor (h .space) v) xs
@@ -181,56 +181,56 @@ module _ (h : Header) (xs : List ℕ) (law : lawfulState h xs ≡ true) (p : ℕ
 
 -- ---- A row
 
--- a state whose published map and view of p are these, and whose other views are those of s
+-- The state t has the published bytes w and the view v of process p, and the other views of s.
 abbrev Both : ℕ → Layers → Layers → Bytes → Bytes → Type 0
 Both p s t w v = (t .shared ≡ w) × (t .view p ≡ v) × ((q : ℕ) → (q ≡ p → ⊥) → t .view q ≡ s .view q)
 
 module _ (p : ℕ) (s : Layers) where
-  -- the view of p is the new one
+  -- The replaced view of p is the new view.
   own : (f : Bytes) (views : ℕ → Bytes) → withView p f views p ≡ f
   own f views = rw (eq-eqb p p refl)
 
-  -- other views are as they were
+  -- Replacing the view of p keeps the other views.
   others : (f : Bytes) (views : ℕ → Bytes) (q : ℕ) → (q ≡ p → ⊥) → withView p f views q ≡ views q
   others f views q a = rw (ne-eqb q p a)
 
-  -- after a write
+  -- The two maps after a write.
   both-written : (b : Bool) (f : Bytes) →
       Both p s (cond b (record { shared = s .shared; view = withView p f (s .view) }) s) (s .shared) (cond b f (s .view p))
   both-written true f = (refl, own f (s .view), others f (s .view))
   both-written false f = (refl, refl, λ q a. refl)
 
-  -- after publishing
+  -- The two maps after publishing.
   both-published : (b : Bool) (t : Layers) (w v : Bytes) → Both p s t w v →
       Both p s (cond b (publishing p t) t) (cond b (published v w) w) (cond b (asPublished v) v)
   both-published true t w v k =
       ((λ i. published (k .1 i) (k .0 i)), own _ (t .view) ∙ ap asPublished (k .1), λ q a. others _ (t .view) q a ∙ k .2 q a)
   both-published false t w v k = k
 
-  -- after refreshing
+  -- The two maps after refreshing.
   both-refreshed : (b : Bool) (t : Layers) (w v : Bytes) → Both p s t w v → Both p s (cond b (refreshing p t) t) w (cond b (refreshed v w) v)
   both-refreshed true t w v k = (k .0, own _ (t .view) ∙ (λ i. refreshed (k .1 i) (k .0 i)), λ q a. others _ (t .view) q a ∙ k .2 q a)
   both-refreshed false t w v k = k
 
--- what a row does, as one new view and one new published map
+-- What a row does, as one new view and one new published map.
 module _ (model : ℕ) (r : Row) (number : ℕ) (s : Layers) where
-  -- the view with the range of a write
+  -- The view after the write of the row.
   abbrev wrote : Bytes
   wrote = cond (eqb (r .kind) WRITE) (overwrite (r .offset) (r .length) (cellOf number 1) (s .view (r .process))) (s .view (r .process))
 
-  -- the view after publishing
+  -- The view after publishing.
   abbrev pub put : Bytes
   put = cond (publishes model (r .kind)) (asPublished wrote) wrote
 
-  -- the published map after it
+  -- The published bytes after publishing.
   abbrev pub shared′ : Bytes
   shared′ = cond (publishes model (r .kind)) (published wrote (s .shared)) (s .shared)
 
-  -- the view after refreshing
+  -- The view after refreshing.
   abbrev pub view′ : Bytes
   view′ = cond (refreshes model (r .kind)) (refreshed put shared′) put
 
-  -- the state after the row differs from the one before in these two alone
+  -- A row changes the published bytes and the view of its process alone.
   pub row-both : (afterRow model r number s .shared ≡ shared′)
       × (afterRow model r number s .view (r .process) ≡ view′)
       × ((q : ℕ) → (q ≡ r .process → ⊥) → afterRow model r number s .view q ≡ s .view q)

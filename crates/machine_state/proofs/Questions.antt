@@ -23,35 +23,35 @@ use Rattle.machine_state.specs.Answers.{fileAsked, rangeAsked}
 
 -- ---- Limits and slices
 
--- a process limit is 1 or more
+-- A process limit is 1 or more.
 pub limit-low : (n : ℕ) → n < 1 → false ≡ processLimit n
 limit-low n h = sym (λ i. lt-leb 1 n h i && leb n 64)
 
--- and at most 64
+-- A process limit is at most 64.
 pub limit-high : (n : ℕ) → 1 ≤ n → leb n 64 ≡ processLimit n
 limit-high n h = sym (λ i. le-leb 1 n h i && leb n 64)
 
 module _ (n rows counts : ℕ) where
-  -- rows that do not fit
+  -- The rows do not fit.
   pub rows-short : rows / 6 < n → false ≡ leb (6 * n) rows && leb n counts
   rows-short h = sym (λ i. lt-leb (6 * n) rows (omega arith) i && leb n counts)
 
-  -- rows that fit: the counts decide
+  -- The rows fit: the counts decide.
   pub rows-long : n ≤ rows / 6 → leb n counts ≡ leb (6 * n) rows && leb n counts
   rows-long h = sym (λ i. le-leb (6 * n) rows (omega arith) i && leb n counts)
 
 -- ---- A row of the file
 
 module _ (file : ℕ) (r : Row) where
-  -- a send, a receive or no kind
+  -- A send, a receive or a number that is no kind names no file.
   pub kind-past : SEND ≤ r .kind → false ≡ ofFile file r
   kind-past h = sym (λ i. le-ltb (r .kind) SEND h i && eqb (r .file) file)
 
-  -- another kind: the file decides
+  -- Any other kind: the file decides.
   pub kind-in : r .kind < SEND → eqb (r .file) file ≡ ofFile file r
   kind-in h = sym (λ i. lt-ltb (r .kind) SEND h i && eqb (r .file) file)
 
--- reads and writes use offset and length
+-- Reads and writes use offset and length.
 uses : (r : Row) → r .kind ≤ 1 → usesRange r ≡ true
 uses r h = go (r .kind) h
   where
@@ -60,18 +60,18 @@ uses r h = go (r .kind) h
     go (suc zero) l = refl
     go (suc (suc k)) l = absurd (omega arith)
 
--- other rows do not
+-- Other rows do not use offset and length.
 uses-not : (r : Row) → 1 < r .kind → usesRange r ≡ false
 uses-not r h = λ i. ne-eqb (r .kind) READ (λ e. omega arith) i || ne-eqb (r .kind) WRITE (λ e. omega arith) i
 
 -- ---- The first No of questions in sequence
 
--- no question has number 0
+-- No question has number 0.
 abbrev pub Named : List Question → Type 0
 Named [] = Unit {0}
 Named (q ∷ qs) = (q .number ≡ 0 → ⊥) × Named qs
 
--- so where there is no first No, every answer is Yes
+-- If the first No is 0, every answer is Yes.
 pub no-none : (qs : List Question) → Named qs → firstNo qs ≡ 0 → AllYes qs
 unfolding firstNo
 no-none [] named e = tt
@@ -81,13 +81,13 @@ no-none (q ∷ qs) named e = go (q .yes) refl (no-none qs (named .1)) e
     go true y rest z = (y, rest z)
     go false y rest z = absurd (named .0 z)
 
--- behind answers that are all Yes
+-- Questions that are all answered Yes leave the first No to the questions behind them.
 pub no-behind : (ps qs : List Question) → AllYes ps → firstNo (ps ++ qs) ≡ firstNo qs
 unfolding firstNo
 no-behind [] qs y = refl
 no-behind (p ∷ ps) qs y = (λ i. cond (y .0 i) (firstNo (ps ++ qs)) (p .number)) ∙ no-behind ps qs (y .1)
 
--- a first No stays the first before other questions
+-- A first No stays the first before other questions.
 pub no-before : (ps qs : List Question) → (firstNo ps ≡ 0 → ⊥) → firstNo (ps ++ qs) ≡ firstNo ps
 unfolding firstNo
 no-before [] qs n = absurd (n refl)
@@ -98,24 +98,24 @@ no-before (p ∷ ps) qs n = go (p .yes) (no-before ps qs) n
     go true rest m = rest m
     go false rest m = refl
 
--- numbers of questions one after the other
+-- Two lists of questions without number 0 are so one after the other.
 pub named-append : (ps qs : List Question) → Named ps → Named qs → Named (ps ++ qs)
 named-append [] qs m n = n
 named-append (p ∷ ps) qs m n = (m .0, named-append ps qs (m .1) n)
 
--- every answer to the first and to the later of questions one after the other
+-- Answers that are all Yes are so for the first and for the later questions.
 pub yes-parts : (ps qs : List Question) → AllYes (ps ++ qs) → AllYes ps × AllYes qs
 yes-parts [] qs y = (tt, y)
 yes-parts (p ∷ ps) qs y = let b = yes-parts ps qs (y .1) in ((y .0, b .0), b .1)
 
--- 16 and 17 have numbers
+-- Questions 16 and 17 are not number 0.
 pub room-named : (fit : Bool) (pieces : List Run) (room : ℕ) → Named (roomAsked fit pieces room)
 room-named fit pieces room = ((λ e. omega arith), ((λ e. omega arith), tt))
 
 -- ---- 15, 14, 10 and 11, by the fields that a kind uses
 
 module _ (h : Header) (r : Row) (number : ℕ) where
-  -- the questions one by one
+  -- The questions one by one.
   asks : firstNo (rowAsked h r number) ≡
       cond (ofFile (h .file) r)
       (cond (leb 1 number && leb number ROWS)
@@ -124,16 +124,16 @@ module _ (h : Header) (r : Row) (number : ℕ) where
   unfolding rowAsked firstNo
   asks = refl
 
-  -- no file is used: 15
+  -- A row that names no file: 15.
   pub asks-none : SEND ≤ r .kind → 15 ≡ firstNo (rowAsked h r number)
   asks-none l = sym (asks ∙ rw (sym (kind-past (h .file) r l)))
 
-  -- process and file are used
+  -- A row that uses process and file.
   pub asks-file : COMMIT ≤ r .kind → r .kind < SEND → firstNo (fileAsked h r number) ≡ firstNo (rowAsked h r number)
   unfolding firstNo
   asks-file l u = sym (asks ∙ rw (sym (kind-in (h .file) r u), uses-not r l, and-true))
 
-  -- offset and length too, which are numbers of 32 bits
+  -- A row that uses offset and length too, which are numbers of 32 bits.
   pub asks-range : r .kind < COMMIT → r .offset ≤ OFFSET-MAX → r .length ≤ OFFSET-MAX →
       firstNo (rangeAsked h r number) ≡ firstNo (rowAsked h r number)
   unfolding firstNo
@@ -141,41 +141,41 @@ module _ (h : Header) (r : Row) (number : ℕ) where
       let of = sym (kind-in (h .file) r (omega arith)) in
       sym (asks ∙ rw (of, uses r (omega arith), le-leb (r .offset) OFFSET-MAX o, le-leb (r .length) OFFSET-MAX l, and-true))
 
-  -- 15: another file
+  -- 15: another file.
   pub file-other : (r .file ≡ h .file → ⊥) → 15 ≡ firstNo (fileAsked h r number)
   unfolding firstNo
   file-other l = sym (rw (ne-eqb (r .file) (h .file) l))
 
   module _ (same : r .file ≡ h .file) where
-    -- 14: number 0
+    -- 14: number 0.
     pub number-low : number < 1 → 14 ≡ firstNo (fileAsked h r number)
     unfolding firstNo
     number-low l = sym (rw (eq-eqb (r .file) (h .file) same, lt-leb 1 number l))
 
-    -- 14: a number past the rows
+    -- 14: a number past the rows.
     pub number-high : ROWS < number → 14 ≡ firstNo (fileAsked h r number)
     unfolding firstNo
     number-high l = sym (rw (eq-eqb (r .file) (h .file) same, lt-leb number ROWS l, and-false))
 
     module _ (low : 1 ≤ number) (high : number ≤ ROWS) where
-      -- 10: the process
+      -- 10: the process.
       pub process-past : h .processes ≤ r .process → 10 ≡ firstNo (fileAsked h r number)
       unfolding firstNo
       process-past l =
           sym (rw (eq-eqb (r .file) (h .file) same, le-leb 1 number low, le-leb number ROWS high, le-ltb (r .process) (h .processes) l))
 
-      -- every answer is Yes
+      -- Every answer is Yes.
       pub file-asked : r .process < h .processes → 0 ≡ firstNo (fileAsked h r number)
       unfolding firstNo
       file-asked l =
           sym (rw (eq-eqb (r .file) (h .file) same, le-leb 1 number low, le-leb number ROWS high, lt-ltb (r .process) (h .processes) l))
 
-  -- a No to 15, 14 or 10 stays the first
+  -- A No to 15, 14 or 10 stays the first.
   pub range-before : {k : ℕ} → k ≡ firstNo (fileAsked h r number) → (k ≡ 0 → ⊥) → k ≡ firstNo (rangeAsked h r number)
   range-before {k} e n = e ∙ sym (no-before (fileAsked h r number) _ (λ z. n (e ∙ z)))
 
   module _ (yes : firstNo (fileAsked h r number) ≡ 0) where
-    -- else 11 decides
+    -- If 15, 14 and 10 are answered Yes, 11 decides.
     range-asks : firstNo (rangeAsked h r number) ≡ cond (leb (r .offset + r .length) OFFSET-MAX) 0 11
     unfolding firstNo
     range-asks =
@@ -183,38 +183,38 @@ module _ (h : Header) (r : Row) (number : ℕ) where
         no-behind (fileAsked h r number) (record { number = 11; yes = leb (r .offset + r .length) OFFSET-MAX } ∷ [])
         (no-none (fileAsked h r number) named yes)
 
-    -- 11: an end past the range
+    -- 11: an end past the range.
     pub end-past : OFFSET-MAX < r .offset + r .length → 11 ≡ firstNo (rangeAsked h r number)
     end-past p = sym (range-asks ∙ rw (lt-leb (r .offset + r .length) OFFSET-MAX p))
 
-    -- every answer is Yes
+    -- Every answer is Yes.
     pub range-asked : r .offset + r .length ≤ OFFSET-MAX → 0 ≡ firstNo (rangeAsked h r number)
     range-asked p = sym (range-asks ∙ rw (le-leb (r .offset + r .length) OFFSET-MAX p))
 
 -- ---- A row that passes
 
 module _ (h : Header) (r : Row) (number : ℕ) where
-  -- 15, 14, 10 and 11 have numbers
+  -- Questions 15, 14, 10 and 11 are not number 0.
   pub row-named : Named (rowAsked h r number)
   unfolding rowAsked
   row-named = ((λ e. omega arith), ((λ e. omega arith), ((λ e. omega arith), ((λ e. omega arith), tt))))
 
-  -- with no first No of them, every answer is Yes
+  -- If the first No of the row is 0, every answer is Yes.
   pub asked-yes : firstNo (rowAsked h r number) ≡ 0 → AllYes (rowAsked h r number)
   asked-yes = no-none (rowAsked h r number) row-named
 
   module _ (all : AllYes (rowAsked h r number)) where
-    -- a row number
+    -- The number of a row that passes is a row number.
     pub asked-number : (1 ≤ number) × (number ≤ ROWS)
     unfolding rowAsked
     asked-number = let b = and-out (leb 1 number) _ (all .1 .0) in (leb-true _ _ (b .0), leb-true _ _ (b .1))
 
-    -- a process below the limit
+    -- The process of a row that passes is below the limit.
     pub asked-process : r .process < h .processes
     unfolding rowAsked
     asked-process = ltb-true _ _ (and-out (ltb (r .process) (h .processes)) _ (all .1 .1 .0) .0)
 
-    -- and a range that ends in time, where it is used
+    -- The range of a read or a write that passes ends within files.
     pub asked-range : r .kind ≤ 1 → (r .offset ≤ OFFSET-MAX) × (r .length ≤ OFFSET-MAX) × (r .offset + r .length ≤ OFFSET-MAX)
     unfolding rowAsked
     asked-range range =

@@ -1,13 +1,13 @@
--- A replay turn by turn: what the code has done so far, and that the rest of the definition stands for what is left.
+-- The loop of a replay over any step that preserves its law: the invariant, and the laws of its start, its turn and its ends.
 use Prim.Native.Nat.{ℕ, zero, suc, _+_, _*_, _-_, _≤_, _<_}
 use native.Mathlib.Omega.{arith}
 use mathlib.Core.Path.{_≡_, refl, sym, ap, subst, _∙_}
-use mathlib.Core.Bool.{Bool, true, false, cond, _&&_}
+use mathlib.Core.Bool.{Bool, true, false, cond, not, _&&_}
 use mathlib.Core.List.{List, _++_, append-nil}
 use lib.ListN.{length, take, drop, set, length-set, length-append, length-drop, drop-of-length-le, take-append-drop}
 use lib.Seq.{length-take-le, take-all}
 use lib.Dec.{leb, eqb}
-use borrow.Author.Tests.{leb-true, eq-eqb, ne-eqb}
+use borrow.Author.Tests.{leb-true, eq-eqb, ne-eqb, not-true, not-false}
 use Rattle.rows.specs.declared.Row.{Row}
 use Rattle.rows.specs.Questions.{firstNo}
 use Rattle.rows.specs.Rows.{rowIn}
@@ -17,15 +17,15 @@ use Rattle.extents.specs.declared.Answer as extents
 use Rattle.extents.specs.declared.Answer.the-variants.{Done}
 use Rattle.machine_state.specs.Answers.{answerOf, refusalOf, countOf, Steps, putTo}
 use Rattle.machine_state.proofs.Keeping.{Keeps, Preserves, put-preserves}
-use Rattle.machine_state.specs.Replays.{Replay, refusalIn, countIn, tried, passed, stopped, onward, after, replayQuestions, started, replayBy, Replays}
+use Rattle.machine_state.specs.Replays.{Replay, refusalIn, countIn, tried, rowPassed, stopped, onward, after, replayQuestions, started, replayBy, Replays}
 
--- the code's refusal is the definition's
+-- The refusal in the code's answer is that of the step.
 refusal-told : (a : StepAnswer) → refusalOf (answerOf a) ≡ refusalIn a
 refusal-told (refusing number) = refl
 refusal-told done = refl
 refusal-told (listed count) = refl
 
--- and so is its count of pieces
+-- The count of pieces in the code's answer is that of the step.
 count-told : (a : StepAnswer) → countOf (answerOf a) ≡ countIn a
 count-told (refusing number) = refl
 count-told done = refl
@@ -34,14 +34,14 @@ count-told (listed count) = refl
 -- ---- One row
 
 module _ (step : List ℕ → Row → ℕ → List ℕ → Step) (file : ℕ) (rows : List ℕ) where
-  -- a row that is refused ends the replay
+  -- A row that is refused ends the replay.
   stop-next : (n : ℕ) (s : Replay) → s .refusal ≡ 0 → (refusalIn (tried step file rows s .answer) ≡ 0 → ⊥) →
       after step file rows (suc n) s ≡ stopped step file rows (refusalIn (tried step file rows s .answer)) s
   unfolding after onward
   stop-next n s e k =
       let t = tried step file rows s in
       let refused : onward step file rows s ≡ stopped step file rows (refusalIn (t .answer)) s =
-      λ i. cond (ne-eqb (refusalIn (t .answer)) 0 k i) (passed step file rows t s) (stopped step file rows (refusalIn (t .answer)) s) in
+      λ i. cond (ne-eqb (refusalIn (t .answer)) 0 k i) (rowPassed step file rows t s) (stopped step file rows (refusalIn (t .answer)) s) in
       (λ i. cond (eq-eqb (s .refusal) 0 e i) (after step file rows n (onward step file rows s)) s)
       ∙ ap (after step file rows n) refused ∙ stay n
     where
@@ -50,20 +50,20 @@ module _ (step : List ℕ → Row → ℕ → List ℕ → Step) (file : ℕ) (r
       stay zero = refl
       stay (suc n) = rw (ne-eqb (refusalIn (tried step file rows s .answer)) 0 k)
 
-  -- one that is not passes
+  -- A row that is not refused leads on.
   pass-next : (n : ℕ) (s : Replay) → s .refusal ≡ 0 → refusalIn (tried step file rows s .answer) ≡ 0 →
-      after step file rows (suc n) s ≡ after step file rows n (passed step file rows (tried step file rows s) s)
+      after step file rows (suc n) s ≡ after step file rows n (rowPassed step file rows (tried step file rows s) s)
   unfolding after onward
   pass-next n s e k =
       let t = tried step file rows s in
       (λ i. cond (eq-eqb (s .refusal) 0 e i) (after step file rows n (onward step file rows s)) s)
       ∙ ap (after step file rows n)
-      (λ i. cond (eq-eqb (refusalIn (t .answer)) 0 k i) (passed step file rows t s) (stopped step file rows (refusalIn (t .answer)) s))
+      (λ i. cond (eq-eqb (refusalIn (t .answer)) 0 k i) (rowPassed step file rows t s) (stopped step file rows (refusalIn (t .answer)) s))
 
 -- ---- Before the rows
 
 module _ (step : List ℕ → Row → ℕ → List ℕ → Step) (law₀ : Bool) (file : ℕ) (rows : List ℕ) (first n : ℕ) (maps₀ counts₀ out₀ : List ℕ) where
-  -- where the slices are long enough and the state is lawful, the rows decide
+  -- If the slices are long enough and the state is lawful, the rows decide.
   replay-is : leb (6 * n) (length rows) && leb n (length counts₀) ≡ true → law₀ ≡ true →
       replayBy step law₀ file rows first n maps₀ counts₀ out₀ ≡ after step file rows (n - first) (started 0 first maps₀ counts₀ out₀)
   unfolding replayBy replayQuestions firstNo
@@ -72,7 +72,7 @@ module _ (step : List ℕ → Row → ℕ → List ℕ → Step) (law₀ : Bool)
       cond (eqb (cond (fit i) (cond (l i) 0 13) 1) 0) (after step file rows (n - first) (started 0 first maps₀ counts₀ out₀))
       (started (cond (fit i) (cond (l i) 0 13) 1) first maps₀ counts₀ out₀)
 
-  -- else the first No answers, and nothing is changed
+  -- A first No other than 0 is the answer, and nothing changes.
   none-gone : (refusal : ℕ) → firstNo (replayQuestions law₀ n (length rows) (length counts₀)) ≡ refusal → (refusal ≡ 0 → ⊥) →
       Replays (replayBy step law₀ file rows first n maps₀ counts₀ out₀) (record { rows = first; pieces = 0; refusal = refusal }) maps₀ counts₀ out₀
   unfolding replayBy
@@ -80,26 +80,33 @@ module _ (step : List ℕ → Row → ℕ → List ℕ → Step) (law₀ : Bool)
       rw (e, ne-eqb refusal 0 some)
       (record { refused = refl; gone = refl; listed = refl; maps-left = refl; counts-left = refl; out-left = refl })
 
-  -- 1: the slices
-  pub short : leb (6 * n) (length rows) && leb n (length counts₀) ≡ false →
+  -- The slices fit, as the code asks.
+  abbrev Fit : Bool
+  Fit = leb (6 * n) (length rows) && leb n (length counts₀)
+
+  -- 1: the code finds that the slices are too short.
+  pub short : {fit : Bool} → fit ≡ Fit → not fit ≡ true →
       Replays (replayBy step law₀ file rows first n maps₀ counts₀ out₀) (record { rows = first; pieces = 0; refusal = 1 }) maps₀ counts₀ out₀
   unfolding replayQuestions firstNo
-  short fit = none-gone 1 (λ i. cond (fit i) (cond law₀ 0 13) 1) (λ z. omega arith)
+  short {fit} f left = let e : Fit ≡ false = sym f ∙ not-true fit left in none-gone 1 (λ i. cond (e i) (cond law₀ 0 13) 1) (λ z. omega arith)
 
-  -- 13: the state
-  pub unlawful : leb (6 * n) (length rows) && leb n (length counts₀) ≡ true → law₀ ≡ false →
+  -- 13: the code finds that the slices fit and that the state is not lawful.
+  pub unlawful : {fit : Bool} → fit ≡ Fit → not fit ≡ false → {law : Bool} → law ≡ law₀ → not law ≡ true →
       Replays (replayBy step law₀ file rows first n maps₀ counts₀ out₀) (record { rows = first; pieces = 0; refusal = 13 }) maps₀ counts₀ out₀
   unfolding replayQuestions firstNo
-  unlawful fit l = none-gone 13 (λ i. cond (fit i) (cond (l i) 0 13) 1) (λ z. omega arith)
+  unlawful {fit} f passes {law} l fails =
+      let e : Fit ≡ true = sym f ∙ not-false fit passes in
+      let q : law₀ ≡ false = sym l ∙ not-true law fails in
+      none-gone 13 (λ i. cond (e i) (cond (q i) 0 13) 1) (λ z. omega arith)
 
 -- ---- Turns
 
--- how far a replay is that was not refused
+-- A replay that is not refused so far.
 abbrev so-far : List ℕ → List ℕ → List ℕ → ℕ → ℕ → Replay
 so-far maps counts out k pieces = record { refusal = 0; rows = k; pieces = pieces; maps = maps; counts = counts; out = out }
 
--- what is left gives what the whole gives
-pub record Going {law : List ℕ → Bool} {step : List ℕ → Row → ℕ → List ℕ → Step} (keeps : Preserves law step) (file : ℕ) (rows : List ℕ)
+-- The rest of the replay from row k on gives what the whole replay gives, the maps are lawful, and the slices keep their lengths.
+pub record Replaying {law : List ℕ → Bool} {step : List ℕ → Row → ℕ → List ℕ → Step} (keeps : Preserves law step) (file : ℕ) (rows : List ℕ)
     (first n : ℕ) (maps₀ counts₀ out₀ maps counts out : List ℕ) (k pieces : ℕ) : Type 0 where
   pub whole : replayBy step (law maps₀) file rows first n maps₀ counts₀ out₀ ≡ after step file rows (n - k) (so-far maps counts out k pieces)
   pub lawful : law maps ≡ true
@@ -112,13 +119,15 @@ pub record Going {law : List ℕ → Bool} {step : List ℕ → Row → ℕ → 
 
 module _ {law : List ℕ → Bool} {step : List ℕ → Row → ℕ → List ℕ → Step} {keeps : Preserves law step} {file : ℕ} {rows : List ℕ}
     {first n : ℕ} {maps₀ counts₀ out₀ : List ℕ} where
-  -- before the first row
-  pub start : leb (6 * n) (length rows) && leb n (length counts₀) ≡ true → law maps₀ ≡ true →
-      Going keeps file rows first n maps₀ counts₀ out₀ maps₀ counts₀ out₀ first 0
-  start fit l =
-      let b = and-out (leb (6 * n) (length rows)) (leb n (length counts₀)) fit in
+  -- The invariant holds before the first row, where the code finds that the slices fit and that the state is lawful.
+  pub start : {fit : Bool} → fit ≡ leb (6 * n) (length rows) && leb n (length counts₀) → not fit ≡ false →
+      {is : Bool} → is ≡ law maps₀ → not is ≡ false → Replaying keeps file rows first n maps₀ counts₀ out₀ maps₀ counts₀ out₀ first 0
+  start {fit} f passes {is} g holds =
+      let e : leb (6 * n) (length rows) && leb n (length counts₀) ≡ true = sym f ∙ not-false fit passes in
+      let l : law maps₀ ≡ true = sym g ∙ not-false is holds in
+      let b = and-out (leb (6 * n) (length rows)) (leb n (length counts₀)) e in
       record {
-        whole = replay-is step (law maps₀) file rows first n maps₀ counts₀ out₀ fit l;
+        whole = replay-is step (law maps₀) file rows first n maps₀ counts₀ out₀ e l;
         lawful = l;
         listed = omega arith;
         rows-fit = leb-true _ _ (b .0);
@@ -128,44 +137,44 @@ module _ {law : List ℕ → Bool} {step : List ℕ → Row → ℕ → List ℕ
         out-size = refl;
       }
 
-  module _ {maps counts out : List ℕ} {k pieces : ℕ} (g : Going keeps file rows first n maps₀ counts₀ out₀ maps counts out k pieces) (less : k < n)
+  module _ {maps counts out : List ℕ} {k pieces : ℕ} (g : Replaying keeps file rows first n maps₀ counts₀ out₀ maps counts out k pieces) (less : k < n)
       {row : Row} (here : row ≡ rowIn rows k) {at : ℕ} {a : extents.Answer} {ys zs : List ℕ}
       (put : Steps (putTo step file maps row (k + 1) (take (length out - at) (drop at out))) a ys zs) (e : at ≡ pieces * 3) where
-    -- how far it is before the row
+    -- The replay before the row.
     abbrev s : Replay
     s = so-far maps counts out k pieces
 
-    -- what lies behind the pieces
+    -- The answer slice behind the pieces.
     abbrev rest : List ℕ
     rest = drop (3 * pieces) out
 
-    -- where that begins
+    -- The rest begins behind three numbers for each piece.
     there : at ≡ 3 * pieces
     there = omega (arith, e)
 
-    -- so it is the part lent
+    -- The lent part is the rest.
     lent : take (length out - at) (drop at out) ≡ rest
     lent =
         let size = length-drop at out in
         take-all (length out - at) (drop at out) (omega (arith, size)) ∙ ap (λ (m : ℕ). drop m out) there
 
-    -- what the row does
+    -- What the row does.
     abbrev t : Step
     t = tried step file rows s
 
-    -- the code puts it so
+    -- The code puts this row, under this number, with this rest.
     t-is : putTo step file maps row (k + 1) (take (length out - at) (drop at out)) ≡ t
     t-is = let k1 : k + 1 ≡ suc k = omega arith in λ i. putTo step file maps (here i) (k1 i) (lent i)
 
-    -- it keeps what every step keeps
+    -- The step keeps what every step keeps.
     kept : Keeps law maps rest t
     kept = put-preserves keeps file .each maps (rowIn rows k) (suc k) rest
 
-    -- what the code answers and leaves is told by it
+    -- The code answers and leaves what the step does.
     told : Steps t a ys zs
     told = subst (λ (u : Step). Steps u a ys zs) t-is put
 
-    -- what the part comes home to
+    -- The answer slice after the lent part is given back.
     home : take at out ++ (zs ++ drop (length out - at) (drop at out)) ≡ take (3 * pieces) out ++ zs
     home =
         let size = length-drop at out in
@@ -173,15 +182,15 @@ module _ {law : List ℕ → Bool} {step : List ℕ → Row → ℕ → List ℕ
         (λ i. take (there i) out ++ (zs ++ drop-of-length-le (drop at out) none i))
         ∙ ap (λ (l : List ℕ). take (3 * pieces) out ++ l) (append-nil zs)
 
-    -- one row less is left
+    -- One row less is left.
     next : n - k ≡ suc (n - (k + 1))
     next = omega arith
 
-    -- the part keeps its length
+    -- The lent part keeps its length.
     rest-size : length zs ≡ length rest
     rest-size = ap (λ (l : List ℕ). length l) (told .out-left) ∙ kept .size
 
-    -- and so does the slice
+    -- The answer slice keeps its length.
     home-size : length (take (3 * pieces) out ++ zs) ≡ length out
     home-size =
         let p = length-append (take (3 * pieces) out) zs in
@@ -190,17 +199,17 @@ module _ {law : List ℕ → Bool} {step : List ℕ → Row → ℕ → List ℕ
         let l = g .listed in
         omega (arith, p, q, m, rest-size)
 
-    -- the refusal is told
+    -- The refusal in the code's answer is that of the row.
     refusal-is : refusalOf a ≡ refusalIn (t .answer)
     refusal-is = ap refusalOf (told .answered) ∙ refusal-told (t .answer)
 
-    -- and so is the count of pieces
+    -- The count in the code's answer is that of the row.
     count-is : countOf a ≡ countIn (t .answer)
     count-is = ap countOf (told .answered) ∙ count-told (t .answer)
 
-    -- a turn
+    -- A turn keeps the invariant.
     pub turn : refusalOf a ≡ 0 → {c : ℕ} → c ≡ countOf a → length ys ≡ length maps →
-        Going keeps file rows first n maps₀ counts₀ out₀ ys (set counts k c) (take at out ++ (zs ++ drop (length out - at) (drop at out)))
+        Replaying keeps file rows first n maps₀ counts₀ out₀ ys (set counts k c) (take at out ++ (zs ++ drop (length out - at) (drop at out)))
         (k + 1) (pieces + c)
     turn none {c} q same =
         let is = q ∙ count-is in
@@ -224,11 +233,11 @@ module _ {law : List ℕ → Bool} {step : List ℕ → Row → ℕ → List ℕ
           out-size = size ∙ g .out-size;
         }
 
-    -- the answer slice keeps its length
+    -- The answer slice has its first length after a turn.
     pub turn-size : length (take at out ++ (zs ++ drop (length out - at) (drop at out))) ≡ length out₀
     turn-size = ap (λ (l : List ℕ). length l) home ∙ home-size ∙ g .out-size
 
-    -- its pieces fit
+    -- The pieces after a turn fit the answer slice.
     pub turn-room : {c : ℕ} → c ≡ countOf a → 3 * (pieces + c) ≤ length out
     turn-room {c} q =
         let is = q ∙ count-is in
@@ -237,7 +246,7 @@ module _ {law : List ℕ → Bool} {step : List ℕ → Row → ℕ → List ℕ
         let l = g .listed in
         omega (arith, is, room, m, l)
 
-    -- the end at a refusal, which leaves all as it is
+    -- The end at a refusal, which leaves all as it was.
     pub refused-turn : {q : ℕ} → q ≡ refusalOf a → (q ≡ 0 → ⊥) →
         Replays (replayBy step (law maps₀) file rows first n maps₀ counts₀ out₀) (record { rows = k; pieces = pieces; refusal = q }) ys counts
         (take at out ++ (zs ++ drop (length out - at) (drop at out)))
@@ -255,8 +264,8 @@ module _ {law : List ℕ → Bool} {step : List ℕ → Row → ℕ → List ℕ
           out-left = home ∙ ap (λ (l : List ℕ). take (3 * pieces) out ++ l) (told .out-left ∙ still .1) ∙ take-append-drop (3 * pieces) out;
         })
 
-  -- the end behind the last row
-  pub finish : {maps counts out : List ℕ} {k pieces : ℕ} → Going keeps file rows first n maps₀ counts₀ out₀ maps counts out k pieces → n ≤ k →
+  -- The end behind the last row.
+  pub finish : {maps counts out : List ℕ} {k pieces : ℕ} → Replaying keeps file rows first n maps₀ counts₀ out₀ maps counts out k pieces → n ≤ k →
       Replays (replayBy step (law maps₀) file rows first n maps₀ counts₀ out₀) (record { rows = k; pieces = pieces; refusal = 0 }) maps counts out
   unfolding after
   finish {maps} {counts} {out} {k} {pieces} g past =

@@ -5,6 +5,6 @@ use lib.Dec.{eqb}
 use Rattle.machine_state.specs.declared.Made.{Made}
 use Rattle.machine_state.specs.declared.Made.the-variants as made
 
--- the first No, or that it is made
+-- Making answers its first No, or that the maps are made.
 abbrev pub madeOf : ℕ → Made
 madeOf refusal = cond (eqb refusal 0) made.Made (made.Refused refusal)

@@ -1,4 +1,4 @@
-// What a machine and a plain file serve, the questions that both ask, and rows and answers by their numbers.
+// What the layered file and the plain file share: the header, the questions, answers by their numbers, and what making and a replay answer.
 ghost use Prim.Native.Nat.{_+_, _*_, _≤_};
 ghost use mathlib.Core.Path.{_≡_};
 ghost use mathlib.Core.Bool.{_&&_};
@@ -15,8 +15,8 @@ use extents::Answer;
 use rows::Row;
 use rows::refusal;
 
-// What a machine serves: a model, processes below a limit, one file, and maps with space for so many pieces each. A plain file's model is not
-// read.
+// What a machine serves: a model, processes below a limit, one file, and maps with space for so many runs each. A plain file ignores
+// its model.
 pub struct Machine {
     pub model: u32,
     pub process_limit: u32,
@@ -46,7 +46,7 @@ impl Machine {
     }
 }
 
-// The number is a process limit: 1 to 64.
+// Whether the number is a process limit: 1 to 64.
 pub fn is_process_limit(n: u32) -> bool
     ensures { λ r. ⌜ r ≡ processLimit n ⌝ }
 {
@@ -106,7 +106,7 @@ fn ask_range(machine: Machine, row: Row, number: u32) -> u32
     0
 }
 
-// A row of the file: its kind uses a file, and the row names this one.
+// Whether a row is one of the file: its kind uses a file, and the row names this one.
 pub fn is_of(machine: Machine, row: Row) -> bool
     ensures { λ r. ⌜ r ≡ ofFile (headerOf machine .file) row ⌝ }
 {
@@ -120,7 +120,7 @@ pub fn is_of(machine: Machine, row: Row) -> bool
     }
 }
 
-// Six numbers for each row, and one for its count.
+// Whether the slices have six numbers for each of n rows, and one for its count.
 pub fn slices_fit(rows_len: usize, counts_len: usize, n: u32) -> bool
     ensures { λ r. ⌜ r ≡ leb (6 * n) «rows_len» && leb n «counts_len» ⌝ }
 {

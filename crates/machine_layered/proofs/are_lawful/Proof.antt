@@ -14,6 +14,7 @@ use Rattle.rows.specs.Counting.{allBelow}
 use Rattle.machine_layered.proofs.are_lawful.Statement.{statement}
 use Rattle.machine_layered.proofs.are_lawful.Tie as tie
 
+-- The maps of the processes below p are lawful.
 abbrev Inv-loop : tie.InvT-loop
 Inv-loop maps size n p₀ p = (p ≤ n) × (allBelow p (λ q. lawful (take size (drop (suc q * size) maps))) ≡ true)
 

@@ -3,16 +3,16 @@ use borrow.Author.Needs.{needs}
 use native.Mathlib.Omega.{arith}
 use Prim.Native.Nat.{_-_}
 use mathlib.Core.Path.{refl, sym, _∙_}
-use borrow.Author.Tests.{not-true, not-false}
 use Rattle.machine_state.specs.Answers.{headerOf}
 use Rattle.machine_layered.proofs.Keeping.{step-preserves}
-use Rattle.machine_state.proofs.Replaying.{Going, start, turn, turn-size, turn-room, refused-turn, finish, short, unlawful}
+use Rattle.machine_state.proofs.Replaying.{Replaying, start, turn, turn-size, turn-room, refused-turn, finish, short, unlawful}
 use Rattle.machine_layered.proofs.replay.Statement.{statement}
 use Rattle.machine_layered.proofs.replay.Tie as tie
 
+-- The rest of the replay from row k on gives what the whole replay gives, the maps are lawful, and the slices keep their lengths.
 abbrev Inv-loop : tie.InvT-loop
 Inv-loop machine maps₀ rows first n counts₀ out₀ k₀ pieces₀ maps counts out k pieces =
-    Going (step-preserves (headerOf machine)) (machine .file) rows first n maps₀ counts₀ out₀ maps counts out k pieces
+    Replaying (step-preserves (headerOf machine)) (machine .file) rows first n maps₀ counts₀ out₀ maps counts out k pieces
 
 abbrev μ-loop : tie.MeasureT-loop
 μ-loop machine maps₀ rows first n counts₀ out₀ k₀ pieces₀ maps counts out k pieces = n - k
@@ -21,9 +21,7 @@ slices-fit-requires : tie.Need-slices-fit-requires Inv-loop μ-loop
 slices-fit-requires c κs = tt
 
 returns : tie.Need-returns Inv-loop μ-loop
-returns c =
-    let fit = c .before .slices-fit in
-    short _ _ _ _ _ _ _ _ _ (sym (fit .ensures) ∙ not-true (fit .result) (c .if1 .taken))
+returns c = short _ _ _ _ _ _ _ _ _ (c .before .slices-fit .ensures) (c .if1 .taken)
 
 is-state-requires : tie.Need-is-state-requires Inv-loop μ-loop
 is-state-requires c κs = tt
@@ -34,17 +32,12 @@ same-length c = search needs
 returns-2 : tie.Need-returns-2 Inv-loop μ-loop
 returns-2 c =
     let p3 = c .before .before .before in
-    let fit = p3 .before .slices-fit in
-    let law = c .before .is-state in
-    unlawful _ _ _ _ _ _ _ _ _ (sym (fit .ensures) ∙ not-false (fit .result) (p3 .if1 .left))
-    (sym (law .ensures) ∙ not-true (law .result) (c .if2 .taken))
+    unlawful _ _ _ _ _ _ _ _ _ (p3 .before .slices-fit .ensures) (p3 .if1 .left) (c .before .is-state .ensures) (c .if2 .taken)
 
 loop-holds : tie.Need-loop-holds Inv-loop μ-loop
 loop-holds c =
     let p3 = c .before .before .before in
-    let fit = p3 .before .slices-fit in
-    let law = c .before .is-state in
-    start (sym (fit .ensures) ∙ not-false (fit .result) (p3 .if1 .left)) (sym (law .ensures) ∙ not-false (law .result) (c .if2 .left))
+    start (p3 .before .slices-fit .ensures) (p3 .if1 .left) (c .before .is-state .ensures) (c .if2 .left)
 
 cast-row-at : tie.Need-cast-row-at Inv-loop μ-loop
 cast-row-at c = search needs
