@@ -54,10 +54,12 @@ module _ (f g : Bytes) (same : (b : ℕ) → f b ≡ g b) (space : ℕ) {r : Boo
   short : not r ≡ true → space < length (runsOf g)
   short q = leb-false (length (runsOf g)) space (sym told-of ∙ not-true r q)
 
+-- Without a range the mix is publishing.
 pub mix-publish : (v w : Bytes) (b : ℕ) → mix Publish 0 0 0 v w b ≡ published v w b
 unfolding mixed
 mix-publish v w b = rw (empty-range b)
 
+-- Without a range the mix is a refresh.
 pub mix-refresh : (v w : Bytes) (b : ℕ) → mix Refresh 0 0 0 v w b ≡ refreshed v w b
 unfolding mixed
 mix-refresh v w b = refl
@@ -138,14 +140,17 @@ module _ (space view below : ℕ) (xs : List ℕ) where
   unfolding publishRefusal firstNo
   publish-asks = refl
 
+  -- Publishing refuses unlawful maps with 13.
   pub publish-unlawful : twoMaps space view below xs ≡ false → publishRefusal space view below xs ≡ 13
   publish-unlawful e = publish-asks ∙ rw e
 
   -- whether the published map fits
   module _ {r : Bool} (e : r ≡ leb (length (runsFrom (4294967295 - 0) 0 (mix Publish 0 (0 - 0) 0 own base))) space) where
+    -- The test passed: the published map fits.
     pub publish-enough : not r ≡ false → length (runsOf (published own base)) ≤ space
     publish-enough = enough (mix Publish 0 0 0 own base) (published own base) (mix-publish own base) space e
 
+    -- The test failed: the published map does not fit.
     pub publish-short : not r ≡ true → space < length (runsOf (published own base))
     publish-short = short (mix Publish 0 0 0 own base) (published own base) (mix-publish own base) space e
 
@@ -155,17 +160,21 @@ module _ (space view below : ℕ) (xs : List ℕ) where
   unfolding syncRefusal firstNo
   sync-asks = refl
 
+  -- A sync refuses unlawful maps with 13.
   pub sync-unlawful : twoMaps space view below xs ≡ false → syncRefusal space view below xs ≡ 13
   sync-unlawful e = sync-asks ∙ rw e
 
   module _ (two : twoMaps space view below xs ≡ true) where
+    -- A sync refuses with 16 where the published map does not fit.
     pub sync-full : space < length (runsOf (published own base)) → syncRefusal space view below xs ≡ 16
     sync-full h = sync-asks ∙ rw (two, lt-leb (length (runsOf (published own base))) space h, and-false)
 
+    -- Publishing refuses with 16 where the published map does not fit.
     pub publish-full : space < length (runsOf (published own base)) → publishRefusal space view below xs ≡ 16
     publish-full h = publish-asks ∙ rw (two, lt-leb (length (runsOf (published own base))) space h, and-false)
 
     module _ (fit : length (runsOf (published own base)) ≤ space) where
+      -- Publishing is accepted where the published map fits.
       pub publish-fits : publishRefusal space view below xs ≡ 0
       publish-fits = publish-asks ∙ rw (two, le-leb (length (runsOf (asPublished own))) space (as-published-fits two), le-leb (length (runsOf (published own base))) space fit)
 
@@ -173,22 +182,27 @@ module _ (space view below : ℕ) (xs : List ℕ) where
       same-runs : runsOf (mix Publish 0 0 0 own base) ≡ runsOf (published own base)
       same-runs = runs-same (mix Publish 0 0 0 own base) (published own base) (λ b l. mix-publish own base b)
 
+      -- The mix that `share` writes fits where the published map does.
       pub share-fits : length (runsOf (mix Publish 0 (0 - 0) (cellOf 0 0) own base)) ≤ space
       share-fits = omega (arith, fit, ap (λ (l : List Run). length l) same-runs)
 
       module _ {ys : List ℕ} (y : ys ≡ withMap space below (mapFor space (mix Publish 0 (0 - 0) (cellOf 0 0) own base)) xs) where
+        -- After `share` the slice holds the published map in its place.
         pub after-share : ys ≡ shared two (published own base) fit
         after-share = y ∙ ap (λ (l : List Run). withMap space below (mapOf space l) xs) same-runs
 
+        -- After `share` the view stands inside the slice.
         pub view-in-after : (view + 1) * (4 * space) ≤ length ys
         view-in-after = omega (arith, told two .view-in, ap length after-share, shared-length two (published own base) fit)
 
+        -- After `share` the published map stands inside the slice.
         pub below-in-after : (below + 1) * (4 * space) ≤ length ys
         below-in-after = omega (arith, told two .below-in, ap length after-share, shared-length two (published own base) fit)
 
         view-after : mapAt space view ys ≡ mapAt space view xs
         view-after = ap (mapAt space view) after-share ∙ shared-view two (published own base) fit
 
+        -- After `share` the view is lawful.
         pub view-law-after : lawful (mapAt space view ys) ≡ true
         view-law-after = ap lawful view-after ∙ told two .view-law
 
@@ -196,6 +210,7 @@ module _ (space view below : ℕ) (xs : List ℕ) where
         pub own-after : {k : ℕ} → k ≡ length (marked (runs (mapAt space view xs))) → k ≡ length (marked (runs (mapAt space view ys)))
         own-after e = e ∙ ap (λ (m : List ℕ). length (marked (runs m))) (sym view-after)
 
+        -- After `share` the published map is lawful.
         pub below-law-after : lawful (mapAt space below ys) ≡ true
         below-law-after =
             ap lawful (ap (mapAt space below) after-share ∙ shared-below two (published own base) fit)
@@ -206,6 +221,7 @@ module _ (space view below : ℕ) (xs : List ℕ) where
                 clear-fine (own b) (lawful-fine (runs (mapAt space view xs)) (lawful-map (mapAt space view xs) (told two .view-law) .lawful-runs) b)
             go b false = lawful-fine (runs (mapAt space below xs)) (lawful-map (mapAt space below xs) (told two .below-law) .lawful-runs) b
 
+        -- The steps of publishing meet the entry.
         pub publish-done : {zs : List ℕ} → zs ≡ withMap space view (mapFor space (asPublished (bytesOf (mapAt space view ys)))) ys →
             PublishEntry space view below xs Done zs
         unfolding publishedMaps
@@ -242,18 +258,22 @@ module _ (space view below : ℕ) (xs : List ℕ) where
   unfolding refreshRefusal firstNo
   refresh-asks = refl
 
+  -- A refresh refuses unlawful maps with 13.
   pub refresh-unlawful : twoMaps space view below xs ≡ false → refreshRefusal space view below xs ≡ 13
   refresh-unlawful e = refresh-asks ∙ rw e
 
   -- whether the refreshed view fits
   module _ {r : Bool} (e : r ≡ leb (length (runsFrom (4294967295 - 0) 0 (mix Refresh 0 (0 - 0) 0 own base))) space) where
+    -- The test passed: the refreshed view fits.
     pub refresh-enough : not r ≡ false → length (runsOf (refreshed own base)) ≤ space
     refresh-enough = enough (mix Refresh 0 0 0 own base) (refreshed own base) (mix-refresh own base) space e
 
+    -- The test failed: the refreshed view does not fit.
     pub refresh-short : not r ≡ true → space < length (runsOf (refreshed own base))
     refresh-short = short (mix Refresh 0 0 0 own base) (refreshed own base) (mix-refresh own base) space e
 
   module _ (two : twoMaps space view below xs ≡ true) where
+    -- A refresh refuses with 16 where the refreshed view does not fit.
     pub refresh-full : space < length (runsOf (refreshed own base)) → refreshRefusal space view below xs ≡ 16
     refresh-full h = refresh-asks ∙ rw (two, lt-leb (length (runsOf (refreshed own base))) space h)
 
@@ -261,6 +281,7 @@ module _ (space view below : ℕ) (xs : List ℕ) where
       refresh-fits : refreshRefusal space view below xs ≡ 0
       refresh-fits = refresh-asks ∙ rw (two, le-leb (length (runsOf (refreshed own base))) space fit, le-leb (length (runsOf base)) space (below-fits two))
 
+      -- The steps of a refresh meet the entry.
       pub refresh-done : {zs : List ℕ} → zs ≡ withMap space view (mapFor space (refreshed own base)) xs →
           RefreshEntry space view below xs Done zs
       unfolding refreshedMaps
@@ -268,6 +289,7 @@ module _ (space view below : ℕ) (xs : List ℕ) where
 
       -- what a refresh leaves of the view
       module _ {ys : List ℕ} (y : ys ≡ withMap space view (mapFor space (refreshed own base)) xs) where
+        -- After a refresh the view stands inside the slice.
         pub view-in-fresh : (view + 1) * (4 * space) ≤ length ys
         view-in-fresh =
             omega (
@@ -289,6 +311,7 @@ module _ (space view below : ℕ) (xs : List ℕ) where
             go b true = lawful-fine (runs (mapAt space view xs)) (lawful-map (mapAt space view xs) (told two .view-law) .lawful-runs) b
             go b false = lawful-fine (runs (mapAt space below xs)) (lawful-map (mapAt space below xs) (told two .below-law) .lawful-runs) b
 
+        -- After a refresh the view is lawful.
         pub view-law-fresh : lawful (mapAt space view ys) ≡ true
         view-law-fresh = ap lawful view-fresh ∙ map-lawful space (runsOf (refreshed own base)) fresh-lawful fit
 
@@ -316,22 +339,27 @@ module _ (space view below : ℕ) (xs : List ℕ) where
     read-asks s l = rw (le-leb start OFFSET-MAX s, le-leb n OFFSET-MAX l)
 
     module _ (s : start ≤ OFFSET-MAX) (l : n ≤ OFFSET-MAX) where
+      -- A read refuses unlawful maps with 13.
       pub read-unlawful : twoMaps space view below xs ≡ false → readRefusal space view below xs start n room ≡ 13
       read-unlawful e = read-asks s l ∙ rw e
 
       module _ (two : twoMaps space view below xs ≡ true) where
+        -- A read refuses with 11 where the range ends past the offset range.
         pub read-past : OFFSET-MAX < start + n → readRefusal space view below xs start n room ≡ 11
         read-past h = read-asks s l ∙ rw (two, lt-leb (start + n) OFFSET-MAX h)
 
         module _ (end : start + n ≤ OFFSET-MAX) where
+          -- A read refuses with 16 where the refreshed view does not fit.
           pub read-full : space < length (runsOf (refreshed own base)) → readRefusal space view below xs start n room ≡ 16
           read-full h = read-asks s l ∙ rw (two, le-leb (start + n) OFFSET-MAX end, lt-leb (length (runsOf (refreshed own base))) space h)
 
           module _ (fit : length (runsOf (refreshed own base)) ≤ space) where
+            -- A read refuses with 17 where the pieces do not fit the answer slice.
             pub read-long : room < 3 * length listed → readRefusal space view below xs start n room ≡ 17
             read-long h =
                 read-asks s l ∙ rw (two, le-leb (start + n) OFFSET-MAX end, le-leb (length (runsOf (refreshed own base))) space fit, le-leb (length (runsOf base)) space (below-fits two), lt-leb (3 * length listed) room h)
 
+            -- A read is accepted where the refreshed view and the pieces fit.
             pub read-fits : 3 * length listed ≤ room → readRefusal space view below xs start n room ≡ 0
             read-fits h =
                 read-asks s l ∙ rw (two, le-leb (start + n) OFFSET-MAX end, le-leb (length (runsOf (refreshed own base))) space fit, le-leb (length (runsOf base)) space (below-fits two), le-leb (3 * length listed) room h)
@@ -388,9 +416,11 @@ module _ (space view below : ℕ) (xs : List ℕ) where
         write-through-told : r ≡ leb (length (runsFrom (4294967295 - 0) 0 (mix Publish start n (cellOf number 0) own base))) space
         write-through-told = e ∙ (λ i. leb (length (runsFrom (4294967295 - 0) 0 (mix Publish start (there i) (q i) own base))) space)
 
+        -- The test passed: the published map fits.
         pub write-through-enough : not r ≡ false → length (runsOf (published wrote base)) ≤ space
         write-through-enough = enough (mix Publish start n (cellOf number 0) own base) (published wrote base) mix-write-through space write-through-told
 
+        -- The test failed: the published map does not fit.
         pub write-through-short : not r ≡ true → space < length (runsOf (published wrote base))
         write-through-short = short (mix Publish start n (cellOf number 0) own base) (published wrote base) mix-write-through space write-through-told
 
@@ -399,9 +429,11 @@ module _ (space view below : ℕ) (xs : List ℕ) where
         mark-published-told : r ≡ leb (length (runsFrom (4294967295 - 0) 0 (mix MarkPublished start n (cellOf number 0) own base))) space
         mark-published-told = e ∙ (λ i. leb (length (runsFrom (4294967295 - 0) 0 (mix MarkPublished start (there i) (q i) own base))) space)
 
+        -- The test passed: the view marked published fits.
         pub mark-published-enough : not r ≡ false → length (runsOf (asPublished wrote)) ≤ space
         mark-published-enough = enough (mix MarkPublished start n (cellOf number 0) own base) (asPublished wrote) mix-mark-published space mark-published-told
 
+        -- The test failed: the view marked published does not fit.
         pub mark-published-short : not r ≡ true → space < length (runsOf (asPublished wrote))
         mark-published-short = short (mix MarkPublished start n (cellOf number 0) own base) (asPublished wrote) mix-mark-published space mark-published-told
 
@@ -413,26 +445,32 @@ module _ (space view below : ℕ) (xs : List ℕ) where
     write-through-asks s l = rw (le-leb start OFFSET-MAX s, le-leb n OFFSET-MAX l)
 
     module _ (s : start ≤ OFFSET-MAX) (l : n ≤ OFFSET-MAX) where
+      -- A write through refuses unlawful maps with 13.
       pub write-through-unlawful : twoMaps space view below xs ≡ false → writeThroughRefusal space view below xs start n number ≡ 13
       write-through-unlawful e = write-through-asks s l ∙ rw e
 
       module _ (two : twoMaps space view below xs ≡ true) where
+        -- A write through refuses row number 0 with 14.
         pub write-through-low : number < 1 → writeThroughRefusal space view below xs start n number ≡ 14
         write-through-low h = write-through-asks s l ∙ rw (two, lt-leb 1 number h)
 
+        -- A write through refuses row numbers over the limit with 14.
         pub write-through-high : ROWS < number → writeThroughRefusal space view below xs start n number ≡ 14
         write-through-high h = write-through-asks s l ∙ rw (two, lt-leb number ROWS h, and-false)
 
         module _ (low : 1 ≤ number) (high : number ≤ ROWS) where
+          -- A write through refuses with 11 where the range ends past the offset range.
           pub write-through-past : OFFSET-MAX < start + n → writeThroughRefusal space view below xs start n number ≡ 11
           write-through-past h = write-through-asks s l ∙ rw (two, le-leb 1 number low, le-leb number ROWS high, lt-leb (start + n) OFFSET-MAX h)
 
           module _ (end : start + n ≤ OFFSET-MAX) where
+            -- A write through refuses with 16 where the published map does not fit.
             pub write-through-full : space < length (runsOf (published wrote base)) → writeThroughRefusal space view below xs start n number ≡ 16
             write-through-full h =
                 write-through-asks s l
                 ∙ rw (two, le-leb 1 number low, le-leb number ROWS high, le-leb (start + n) OFFSET-MAX end, lt-leb (length (runsOf (published wrote base))) space h, and-false)
 
+            -- A write through refuses with 16 where the view does not fit.
             pub write-through-view-full : space < length (runsOf (asPublished wrote)) → writeThroughRefusal space view below xs start n number ≡ 16
             write-through-view-full h =
                 write-through-asks s l
@@ -456,6 +494,7 @@ module _ (space view below : ℕ) (xs : List ℕ) where
                   (λ i. runsOf (mix Publish start (there i) (cellOf number 0) own base))
                   ∙ runs-same (mix Publish start n (cellOf number 0) own base) (published wrote base) (λ b l. mix-write-through b)
 
+              -- The mix that `share` writes fits where the published map does.
               pub write-through-share : length (runsOf (mix Publish start (start + n - start) (cellOf number 0) own base)) ≤ space
               write-through-share = omega (arith, fit, ap (λ (l : List Run). length l) written-through-runs)
 
@@ -463,12 +502,14 @@ module _ (space view below : ℕ) (xs : List ℕ) where
                 written-through : ys ≡ shared two (published wrote base) fit
                 written-through = y ∙ ap (λ (l : List Run). withMap space below (mapOf space l) xs) written-through-runs
 
+                -- After `share` the view stands inside the slice.
                 pub view-in-written-through : (view + 1) * (4 * space) ≤ length ys
                 view-in-written-through = omega (arith, told two .view-in, ap length written-through, shared-length two (published wrote base) fit)
 
                 view-written-through : mapAt space view ys ≡ mapAt space view xs
                 view-written-through = ap (mapAt space view) written-through ∙ shared-view two (published wrote base) fit
 
+                -- After `share` the view is lawful.
                 pub view-law-written-through : lawful (mapAt space view ys) ≡ true
                 view-law-written-through = ap lawful view-written-through ∙ told two .view-law
 
@@ -514,10 +555,12 @@ module _ (space view below : ℕ) (xs : List ℕ) where
                       runs-lawful (asPublished own)
                       (λ b l. clear-fine (own b) (lawful-fine (runs (mapAt space view xs)) (lawful-map (mapAt space view xs) (told two .view-law) .lawful-runs) b))
 
+                  -- Marked published, the view stands inside the slice.
                   pub view-in-as-published : (view + 1) * (4 * space) ≤ length zs
                   view-in-as-published =
                       omega (arith, view-in-shared, ap length as-published-there, with-length space view (mapFor space (asPublished own)) (shared two (published wrote base) fit) own-size view-in-shared)
 
+                  -- Marked published, the view is lawful.
                   pub view-law-as-published : lawful (mapAt space view zs) ≡ true
                   view-law-as-published = ap lawful view-as-published ∙ map-lawful space (runsOf (asPublished own)) own-lawful (as-published-fits two)
 
@@ -529,6 +572,7 @@ module _ (space view below : ℕ) (xs : List ℕ) where
                       (ap (λ (rs : List Run). cellAt rs b) (map-back space (runsOf (asPublished own)) own-lawful (as-published-fits two)) ∙ runs-mean (asPublished own) b l)
                       ∙ lay-as-published b)
 
+                  -- The view with the range laid fits.
                   pub write-through-lay : {cell : ℕ} → cell ≡ cellOf number 0 →
                       length (runsOf (overwrite start (start + n - start) cell (bytesOf (mapAt space view zs)))) ≤ space
                   write-through-lay q =
@@ -539,6 +583,7 @@ module _ (space view below : ℕ) (xs : List ℕ) where
                         ap (λ (l : List Run). length l) laid-runs,
                       )
 
+                  -- The steps of a write through meet the entry.
                   pub write-through-done : {cell : ℕ} {us : List ℕ} → cell ≡ cellOf number 0 →
                       us ≡ withMap space view (mapFor space (overwrite start (start + n - start) cell (bytesOf (mapAt space view zs)))) zs →
                       WriteThroughEntry space view below xs start n number Done us

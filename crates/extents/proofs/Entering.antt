@@ -47,24 +47,30 @@ module _ (xs : List ℕ) (start n number : ℕ) (mark : Bool) where
   write-asks s l = rw (le-leb start OFFSET-MAX s, le-leb n OFFSET-MAX l)
 
   module _ (s : start ≤ OFFSET-MAX) (l : n ≤ OFFSET-MAX) where
+    -- A write refuses an unlawful map with 13.
     pub write-unlawful : lawful xs ≡ false → writeRefusal xs start n number mark ≡ 13
     write-unlawful e = write-asks s l ∙ rw e
 
     module _ (law : lawful xs ≡ true) where
+      -- A write refuses row number 0 with 14.
       pub write-low : number < 1 → writeRefusal xs start n number mark ≡ 14
       write-low h = write-asks s l ∙ rw (law, lt-leb 1 number h)
 
+      -- A write refuses row numbers over the limit with 14.
       pub write-high : ROWS < number → writeRefusal xs start n number mark ≡ 14
       write-high h = write-asks s l ∙ rw (law, lt-leb number ROWS h, and-false)
 
       module _ (low : 1 ≤ number) (high : number ≤ ROWS) where
+        -- A write refuses with 11 where the range ends past the offset range.
         pub write-past : OFFSET-MAX < start + n → writeRefusal xs start n number mark ≡ 11
         write-past h = write-asks s l ∙ rw (law, le-leb 1 number low, le-leb number ROWS high, lt-leb (start + n) OFFSET-MAX h)
 
         module _ (end : start + n ≤ OFFSET-MAX) where
+          -- A write refuses with 16 where the map does not fit.
           pub write-full : leb (length (runsOf anew)) (spaceIn xs) ≡ false → writeRefusal xs start n number mark ≡ 16
           write-full e = write-asks s l ∙ rw (law, le-leb 1 number low, le-leb number ROWS high, le-leb (start + n) OFFSET-MAX end, e)
 
+          -- A write is accepted where the map fits.
           pub write-fits : leb (length (runsOf anew)) (spaceIn xs) ≡ true → writeRefusal xs start n number mark ≡ 0
           write-fits e = write-asks s l ∙ rw (law, le-leb 1 number low, le-leb number ROWS high, le-leb (start + n) OFFSET-MAX end, e)
 
@@ -91,6 +97,7 @@ module _ (xs : List ℕ) (start n number : ℕ) (mark : Bool) where
             there : overwrite start (start + n - start) cell (bytesOf xs) ≡ anew
             there = let e : start + n - start ≡ n = omega arith in λ i. overwrite start (e i) (q i) (bytesOf xs)
 
+            -- A range laid meets the entry.
             pub write-done : r ≡ true → WriteEntry xs start n number mark Done zs
             unfolding writtenMap
             write-done e =
@@ -99,6 +106,7 @@ module _ (xs : List ℕ) (start n number : ℕ) (mark : Bool) where
                 (left ∙ ap (λ (b : Bool). cond b (mapFor (spaceIn xs) (overwrite start (start + n - start) cell (bytesOf xs))) xs) e
                 ∙ ap (mapFor (spaceIn xs)) there)
 
+            -- A range not laid is a refusal with 16.
             pub write-not : r ≡ false → WriteEntry xs start n number mark (Refused 16) zs
             write-not e =
                 let none = refused 16 Done (writtenMap xs start n number mark) xs
@@ -129,17 +137,21 @@ module _ (xs : List ℕ) (start n room : ℕ) where
   list-asks s l = rw (le-leb start OFFSET-MAX s, le-leb n OFFSET-MAX l)
 
   module _ (s : start ≤ OFFSET-MAX) (l : n ≤ OFFSET-MAX) where
+    -- A listing refuses an unlawful map with 13.
     pub list-unlawful : lawful xs ≡ false → listRefusal xs start n room ≡ 13
     list-unlawful e = list-asks s l ∙ rw e
 
     module _ (law : lawful xs ≡ true) where
+      -- A listing refuses with 11 where the range ends past the offset range.
       pub list-past : OFFSET-MAX < start + n → listRefusal xs start n room ≡ 11
       list-past h = list-asks s l ∙ rw (law, lt-leb (start + n) OFFSET-MAX h)
 
       module _ (end : start + n ≤ OFFSET-MAX) where
+        -- A listing refuses with 17 where the pieces do not fit the answer slice.
         pub list-full : room < 3 * length pieces → listRefusal xs start n room ≡ 17
         list-full h = list-asks s l ∙ rw (law, le-leb (start + n) OFFSET-MAX end, lt-leb (3 * length pieces) room h)
 
+        -- A listing is accepted where the pieces fit the answer slice.
         pub list-fits : 3 * length pieces ≤ room → listRefusal xs start n room ≡ 0
         list-fits h = list-asks s l ∙ rw (law, le-leb (start + n) OFFSET-MAX end, le-leb (3 * length pieces) room h)
 

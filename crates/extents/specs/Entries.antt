@@ -44,7 +44,7 @@ asksRoom pieces room = record { number = 17; yes = leb (3 * length pieces) room 
 abbrev pub orRefused : ℕ → Answer → Answer
 orRefused refusal a = cond (eqb refusal 0) a (Refused refusal)
 
--- a refusal changes nothing
+-- A refused entry leaves the slice as it was.
 abbrev pub orKept : ℕ → List ℕ → List ℕ → List ℕ
 orKept refusal left xs = cond (eqb refusal 0) left xs
 
@@ -64,7 +64,7 @@ pub record Entry (refusal : ℕ) (accepted : Answer) (made xs : List ℕ) (r : A
 
 -- ---- One map
 
--- write a range
+-- The refusal of a write of a range, 0 where the entry accepts.
 unfoldable pub writeRefusal : List ℕ → ℕ → ℕ → ℕ → Bool → ℕ
 writeRefusal xs start length number mark =
     firstNo
@@ -73,17 +73,20 @@ writeRefusal xs start length number mark =
     ∷ (asksRange start length
     ++ (asksSpace (spaceIn xs) (overwrite start length (cellOf number (markBit mark)) (bytesOf xs)) ∷ []))))
 
+-- The map that a write leaves.
 unfoldable pub writtenMap : List ℕ → ℕ → ℕ → ℕ → Bool → List ℕ
 writtenMap xs start length number mark = mapFor (spaceIn xs) (overwrite start length (cellOf number (markBit mark)) (bytesOf xs))
 
+-- A write of a range answers r and leaves the map xs′.
 abbrev pub WriteEntry : List ℕ → ℕ → ℕ → ℕ → Bool → Answer → List ℕ → Type 0
 WriteEntry xs start length number mark = Entry (writeRefusal xs start length number mark) Done (writtenMap xs start length number mark) xs
 
--- list the pieces of a range
+-- The refusal of a listing of the pieces of a range, 0 where the entry accepts.
 unfoldable pub listRefusal : List ℕ → ℕ → ℕ → ℕ → ℕ
 listRefusal xs start length room =
     firstNo (asksLaw (lawful xs) ∷ (asksRange start length ++ (asksRoom (piecesOf (bytesOf xs) start length) room ∷ [])))
 
+-- A listing answers r and leaves the answer slice out′.
 abbrev pub ListEntry : List ℕ → ℕ → ℕ → List ℕ → Answer → List ℕ → Type 0
 ListEntry xs start n out =
     Entry (listRefusal xs start n (length out)) (listedCount (piecesOf (bytesOf xs) start n)) (listedIn (piecesOf (bytesOf xs) start n) out) out
@@ -106,57 +109,66 @@ module _ (space view below : ℕ) (xs : List ℕ) where
   abbrev pub asksBoth : Bytes → Bytes → List Question
   asksBoth v w = record { number = 16; yes = leb (length (runsOf v)) space && leb (length (runsOf w)) space } ∷ []
 
-  -- publish the view
+  -- The refusal of publishing the view, 0 where the entry accepts.
   unfoldable pub publishRefusal : ℕ
   publishRefusal = firstNo (asksLaw (twoMaps space view below xs) ∷ asksBoth (asPublished own) (published own base))
 
+  -- The maps that publishing leaves.
   unfoldable pub publishedMaps : List ℕ
   publishedMaps = bothMaps (asPublished own) (published own base)
 
+  -- Publishing answers r and leaves the maps xs′.
   abbrev pub PublishEntry : Answer → List ℕ → Type 0
   PublishEntry = Entry publishRefusal Done publishedMaps xs
 
-  -- refresh the view
+  -- The refusal of a refresh of the view, 0 where the entry accepts.
   unfoldable pub refreshRefusal : ℕ
   refreshRefusal = firstNo (asksLaw (twoMaps space view below xs) ∷ asksBoth (refreshed own base) base)
 
+  -- The maps that a refresh leaves.
   unfoldable pub refreshedMaps : List ℕ
   refreshedMaps = bothMaps (refreshed own base) base
 
+  -- A refresh answers r and leaves the maps xs′.
   abbrev pub RefreshEntry : Answer → List ℕ → Type 0
   RefreshEntry = Entry refreshRefusal Done refreshedMaps xs
 
-  -- publish, then refresh
+  -- The refusal of a sync, which publishes and then refreshes, 0 where the entry accepts.
   unfoldable pub syncRefusal : ℕ
   syncRefusal =
       firstNo
       (asksLaw (twoMaps space view below xs)
       ∷ asksBoth (refreshed (asPublished own) (published own base)) (published own base))
 
+  -- The maps that a sync leaves.
   unfoldable pub syncedMaps : List ℕ
   syncedMaps = bothMaps (refreshed (asPublished own) (published own base)) (published own base)
 
+  -- A sync answers r and leaves the maps xs′.
   abbrev pub SyncEntry : Answer → List ℕ → Type 0
   SyncEntry = Entry syncRefusal Done syncedMaps xs
 
   module _ (start length : ℕ) where
-    -- write a range, then publish
+    -- The view after writing a range.
     abbrev pub writing : ℕ → Bytes
     writing number = overwrite start length (cellOf number 1) own
 
+    -- The number of a refused write through, 0 where the entry accepts.
     unfoldable pub writeThroughRefusal : ℕ → ℕ
     writeThroughRefusal number =
         firstNo
         (asksLaw (twoMaps space view below xs)
         ∷ (asksNumber number ∷ (asksRange start length ++ asksBoth (asPublished (writing number)) (published (writing number) base))))
 
+    -- The maps that a write through leaves.
     unfoldable pub writtenThroughMaps : ℕ → List ℕ
     writtenThroughMaps number = bothMaps (asPublished (writing number)) (published (writing number) base)
 
+    -- A write through answers r and leaves the maps xs′.
     abbrev pub WriteThroughEntry : ℕ → Answer → List ℕ → Type 0
     WriteThroughEntry number = Entry (writeThroughRefusal number) Done (writtenThroughMaps number) xs
 
-    -- refresh, then list the pieces of a range
+    -- The refusal of a read, which refreshes and then lists the pieces of a range, 0 where the entry accepts.
     unfoldable pub readRefusal : ℕ → ℕ
     readRefusal room =
         firstNo

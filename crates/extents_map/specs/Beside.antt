@@ -8,6 +8,7 @@ use Rattle.extents_meaning.specs.Runs.{Run, runOf, cellAt, Rising}
 use Rattle.extents_map.specs.Cursors.{partOf}
 use Rattle.extents_map.specs.declared.locate.Side.{Side}
 
+-- The byte behind a run.
 abbrev pub endOf : Run → ℕ
 endOf r = r .start + r .length
 
@@ -15,6 +16,7 @@ endOf r = r .start + r .length
 abbrev pub runNo : List Run → ℕ → Run
 runNo rs i = getD rs i (runOf 0 0 0)
 
+-- The run before run i, an empty run at 0 where there is none.
 abbrev pub runBefore : List Run → ℕ → Run
 runBefore rs i = getD (runOf 0 0 0 ∷ rs) i (runOf 0 0 0)
 
@@ -22,6 +24,7 @@ runBefore rs i = getD (runOf 0 0 0 ∷ rs) i (runOf 0 0 0)
 abbrev pub sideOf : Side → List Run
 sideOf s = partOf (s .start) (s .length) (s .cell)
 
+-- The runs of a range and of what stays beside it.
 abbrev pub partsOf : Side → ℕ → ℕ → Side → List Run
 partsOf left middle cell right = sideOf left ++ (partOf (left .bound) middle cell ++ sideOf right)
 

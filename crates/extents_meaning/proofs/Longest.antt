@@ -18,9 +18,11 @@ use Rattle.extents_meaning.specs.Runs.{Run, runOf, cellAt, joined, runsF
 pub range-in : (s l b : ℕ) → s ≤ b → b < s + l → inRange s l b ≡ true
 range-in s l b h k = rw (le-leb s b h, lt-ltb b (s + l) k)
 
+-- A byte before a range lies outside of it.
 pub range-before : (s l b : ℕ) → b < s → inRange s l b ≡ false
 range-before s l b h = rw (lt-leb s b h)
 
+-- A byte behind a range lies outside of it.
 pub range-behind : (s l b : ℕ) → s + l ≤ b → inRange s l b ≡ false
 range-behind s l b h = rw (le-ltb b (s + l) h) (and-false (leb s b))
 
@@ -36,6 +38,7 @@ pub cell-before : (r : Run) (rs : List Run) (b : ℕ) → b < r .start → cellA
 unfolding cellAt
 cell-before r rs b h = rw (range-before (r .start) (r .length) b h)
 
+-- A byte behind the first run has the cell that the other runs give.
 pub cell-behind : (r : Run) (rs : List Run) (b : ℕ) → r .start + r .length ≤ b → cellAt (r ∷ rs) b ≡ cellAt rs b
 unfolding cellAt
 cell-behind r rs b h = rw (range-behind (r .start) (r .length) b h)
@@ -50,6 +53,7 @@ mean-before top end c (r ∷ rs) g b h =
     let n = g .0 .rising in
     cell-before r rs b (omega arith) ∙ mean-before top (r .start + r .length) (r .cell) rs (g .1) b (omega arith)
 
+-- A list in rising order means 0 from its top on.
 pub mean-behind : (top end c : ℕ) (rs : List Run) → Rising top end c rs → (b : ℕ) → top ≤ b → cellAt rs b ≡ 0
 unfolding cellAt
 mean-behind top end c [] g b h = refl
@@ -257,10 +261,12 @@ same-from n s f g h = unique-from n s g (runsFrom n s f) (rising-from n s f) (λ
 abbrev pub Fine : ℕ → Type 0
 Fine c = (c ≡ 0) ⊎ ((1 ≤ numberIn c) × (numberIn c ≤ ROWS))
 
+-- The runs of all bytes mean those bytes.
 pub runs-mean : (f : Bytes) (b : ℕ) → b < OFFSET-MAX → cellAt (runsOf f) b ≡ f b
 unfolding runsOf
 runs-mean f b h = mean-in OFFSET-MAX 0 f b (omega arith) h
 
+-- Equal bytes have equal runs, over the whole file.
 pub runs-same : (f g : Bytes) → ((b : ℕ) → b < OFFSET-MAX → f b ≡ g b) → runsOf f ≡ runsOf g
 unfolding runsOf
 runs-same f g h = same-from OFFSET-MAX 0 f g (λ b l k. h b k)

@@ -18,9 +18,11 @@ use Rattle.extents_meaning.proofs.Points.{begins, begins-zero, begins-s
 pub over-in : (s n c : ℕ) (f : Bytes) (b : ℕ) → s ≤ b → b < s + n → overwrite s n c f b ≡ c
 over-in s n c f b h k = rw (range-in s n b h k)
 
+-- A byte before the range keeps its cell.
 pub over-before : (s n c : ℕ) (f : Bytes) (b : ℕ) → b < s → overwrite s n c f b ≡ f b
 over-before s n c f b h = rw (range-before s n b h)
 
+-- A byte behind the range keeps its cell.
 pub over-behind : (s n c : ℕ) (f : Bytes) (b : ℕ) → s + n ≤ b → overwrite s n c f b ≡ f b
 over-behind s n c f b h = rw (range-behind s n b h)
 

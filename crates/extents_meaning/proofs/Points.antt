@@ -26,9 +26,11 @@ begins w c = cond (not (eqb w 0) && not (eqb w c)) 1 0
 pub begins-zero : (w c : ℕ) → w ≡ 0 → begins w c ≡ 0
 begins-zero w c e = rw (eq-eqb w 0 e)
 
+-- A byte of the cell before it starts no run.
 pub begins-same : (w c : ℕ) → w ≡ c → begins w c ≡ 0
 begins-same w c e = rw (eq-eqb w c e, and-false)
 
+-- A written byte of another cell than the one before starts a run.
 pub begins-one : (w c : ℕ) → (w ≡ 0 → ⊥) → (w ≡ c → ⊥) → begins w c ≡ 1
 begins-one w c h k = rw (ne-eqb w 0 h, ne-eqb w c k)
 

@@ -16,6 +16,7 @@ module _ (at : ℕ) (m xs : List ℕ) (fit : at + length m ≤ length xs) where
   head-length : length (take at xs ++ m) ≡ at + length m
   head-length = length-append (take at xs) m ∙ ap (λ (k : ℕ). k + length m) (length-take-le at xs (omega arith))
 
+  -- Replacing a part by one of its length keeps the length.
   pub part-length : length (withPart at (length m) m xs) ≡ length xs
   part-length =
       length-append (take at xs ++ m) (drop (at + length m) xs)
@@ -70,9 +71,11 @@ module _ (space k : ℕ) (m xs : List ℕ) (size : length m ≡ 4 * space) (fit 
   room : k * (4 * space) + length m ≤ length xs
   room = omega (arith, size, fit)
 
+  -- Replacing map k replaces the part where it stands.
   pub with-part : withMap space k m xs ≡ withPart (k * (4 * space)) (length m) m xs
   with-part = ap (λ (n : ℕ). (take (k * (4 * space)) xs ++ m) ++ drop (k * (4 * space) + n) xs) (sym size)
 
+  -- Replacing map k keeps the length.
   pub with-length : length (withMap space k m xs) ≡ length xs
   with-length = ap length with-part ∙ part-length (k * (4 * space)) m xs room
 
@@ -133,6 +136,7 @@ with-same space k xs fit =
 -- maps at two places are put in any sequence
 module _ (space j k : ℕ) (m o xs : List ℕ) (apart : j ≡ k → ⊥) (m-size : length m ≡ 4 * space) (o-size : length o ≡ 4 * space)
     (j-fit : (j + 1) * (4 * space) ≤ length xs) (k-fit : (k + 1) * (4 * space) ≤ length xs) where
+  -- Two maps at two places may be put in either sequence.
   pub with-comm : withMap space j m (withMap space k o xs) ≡ withMap space k o (withMap space j m xs)
   with-comm =
       part-is (k * n) o inner outer (omega (arith, k-fit, o-size, inner-length)) (with-length space j m other m-size (omega (arith, j-fit, other-length)) ∙ other-length ∙ sym inner-length)

@@ -4,15 +4,19 @@ use Prim.Native.Nat.{ℕ, _+_, _*_, _/_, _%_}
 use mathlib.Core.Bool.{Bool, cond, _&&_}
 use lib.Dec.{leb, ltb, eqb}
 
+-- The cell of a row number and a mark.
 abbrev pub cellOf : ℕ → ℕ → ℕ
 cellOf number mark = number * 2 + mark
 
+-- The row number of a cell.
 abbrev pub numberIn : ℕ → ℕ
 numberIn c = c / 2
 
+-- The mark of a cell.
 abbrev pub markIn : ℕ → ℕ
 markIn c = c % 2
 
+-- The mark of an unpublished cell is 1.
 abbrev pub unpublished : ℕ → Bool
 unpublished c = eqb (markIn c) 1
 
@@ -24,6 +28,7 @@ cleared c = cellOf (numberIn c) 0
 abbrev pub Bytes : Type 0
 Bytes = ℕ → ℕ
 
+-- Byte b is one of the `length` bytes from `start` on.
 abbrev pub inRange : ℕ → ℕ → ℕ → Bool
 inRange start length b = leb start b && ltb b (start + length)
 
@@ -31,14 +36,14 @@ inRange start length b = leb start b && ltb b (start + length)
 abbrev pub overwrite : ℕ → ℕ → ℕ → Bytes → Bytes
 overwrite start length c f b = cond (inRange start length b) c (f b)
 
--- the published map after a view was published on it: it takes the unpublished bytes
+-- The published map after publishing a view: the map takes the unpublished bytes.
 abbrev pub published : Bytes → Bytes → Bytes
 published view below b = cond (unpublished (view b)) (cleared (view b)) (below b)
 
--- the view then: its bytes are marked published
+-- The view after publishing: every byte is marked published.
 abbrev pub asPublished : Bytes → Bytes
 asPublished view b = cleared (view b)
 
--- a view after a refresh: each byte that is not unpublished is taken from the published map
+-- A view after a refresh: each byte that is not unpublished comes from the published map.
 abbrev pub refreshed : Bytes → Bytes → Bytes
 refreshed view below b = cond (unpublished (view b)) (view b) (below b)

@@ -10,6 +10,7 @@ use Rattle.extents_meaning.specs.Runs.{Run, runOf, runsOf, cellAt}
 
 -- ---- Writing a map
 
+-- The four numbers of each run, one run behind the other.
 unfoldable pub fours : List Run → List ℕ
 fours [] = []
 fours (r ∷ rs) = r .start ∷ (r .length ∷ (numberIn (r .cell) ∷ (markIn (r .cell) ∷ fours rs)))
@@ -42,6 +43,7 @@ runsIn (suc n) xs = cond (eqb (getD xs 1 0) 0) [] (runHere xs ∷ runsIn n (drop
 abbrev pub spaceIn : List ℕ → ℕ
 spaceIn xs = length xs / 4
 
+-- The runs that a slice holds.
 abbrev pub runs : List ℕ → List Run
 runs xs = runsIn (spaceIn xs) xs
 
@@ -51,6 +53,7 @@ bytesOf xs = cellAt (runs xs)
 
 -- ---- Lawful maps
 
+-- Every number of the list is 0.
 unfoldable pub allZero : List ℕ → Bool
 allZero [] = true
 allZero (x ∷ xs) = eqb x 0 && allZero xs
@@ -63,6 +66,7 @@ follows end c start length number mark =
     && (leb (start + length) OFFSET-MAX
     && (leb 1 number && (leb number ROWS && (leb mark 1 && not (eqb start end && eqb (cellOf number mark) c)))))
 
+-- The four numbers at the front of a slice may follow a run that ends at `end` with cell c.
 unfoldable pub mayFollow : ℕ → ℕ → List ℕ → Bool
 mayFollow end c xs = follows end c (getD xs 0 0) (getD xs 1 0) (getD xs 2 0) (getD xs 3 0)
 
@@ -82,7 +86,7 @@ unfoldable pub noMarks : List Run → Bool
 noMarks [] = true
 noMarks (r ∷ rs) = not (unpublished (r .cell)) && noMarks rs
 
--- Is it a lawful published map?
+-- Is the slice a lawful published map?
 abbrev pub lawfulPublished : List ℕ → Bool
 lawfulPublished xs = lawful xs && noMarks (runs xs)
 

@@ -13,6 +13,7 @@ pub record Run : Type 0 where
   pub length : ℕ
   pub cell : ℕ
 
+-- The run of a start, a length and a cell.
 abbrev pub runOf : ℕ → ℕ → ℕ → Run
 runOf start length cell = record { start = start; length = length; cell = cell }
 
@@ -51,6 +52,7 @@ pub record Next (top end c : ℕ) (r : Run) : Type 0 where
   pub written : 1 ≤ r .cell
   pub longest : r .start ≡ end → r .cell ≡ c → ⊥
 
+-- Each run keeps `Next` behind the run before it; the first behind a run that ends at `end` with cell c.
 abbrev pub Rising : ℕ → ℕ → ℕ → List Run → Type 0
 Rising top end c [] = Unit {0}
 Rising top end c (r ∷ rs) = Next top end c r × Rising top (r .start + r .length) (r .cell) rs

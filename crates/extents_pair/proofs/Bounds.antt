@@ -172,9 +172,11 @@ module _ (space view below : ℕ) (xs : List ℕ) (two : twoMaps space view belo
   pub view-room : {k : ℕ} → k ≡ length (runs (lentMap space view xs)) → k ≤ space
   view-room e = omega (arith, e, lent-count view (told .view-in) (told .view-law) .1)
 
+  -- The count of the lent published map's runs is at most the space.
   pub below-room : {k : ℕ} → k ≡ length (runs (lentMap space below xs)) → k ≤ space
   below-room e = omega (arith, e, lent-count below (told .below-in) (told .below-law) .1)
 
+  -- The count of the view's unpublished runs is at most the space.
   pub marked-room : {k : ℕ} → k ≡ length (marked (runs (mapAt space view xs))) → k ≤ space
   marked-room e =
       omega (arith, e, marked-fewer (runs (mapAt space view xs)), ap (λ (l : List ℕ). length (runs l)) (map-lent space view xs), view-room refl)
@@ -198,6 +200,7 @@ module _ (space view below : ℕ) (xs : List ℕ) (two : twoMaps space view belo
       count : k ≡ length (runsOf base)
       count = e ∙ lent-count below (told .below-in) (told .below-law) .0
 
+      -- A mode that makes a map and does not mark the view published makes at most that many runs.
       pub most-other : (mode : Mode) → isMarkPublished mode ≡ false → makesMap mode ≡ true →
           length (runsOf (mix mode start n c own base)) ≤ k + 2 * u + 2
       most-other Publish q h = omega (arith, d, count, publish-most (runs (mapAt space view xs)) law base start n c)
@@ -244,6 +247,7 @@ module _ (xs : List ℕ) where
     mark-here : getD xs (i * 4 + 3) 0 ≡ markIn (one .cell)
     mark-here = let e : i * 4 + 3 ≡ 4 * i + 3 = omega arith in ap (λ (p : ℕ). getD xs p 0) e ∙ here-at xs law i h .mark
 
+    -- Counting run i: its mark adds to the count.
     pub tally-next : Tally xs (n + getD xs (i * 4 + 3) 0) (i + 1)
     tally-next =
         let z : suc i ≡ i + 1 = omega arith in

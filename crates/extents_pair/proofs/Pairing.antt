@@ -65,6 +65,7 @@ pub record Told (space view below : ℕ) (xs : List ℕ) : Type 0 where
   pub below-law : lawful (mapAt space below xs) ≡ true
 
 module _ (space view below : ℕ) (xs : List ℕ) where
+  -- The test of two maps tells that both stand inside the slice and are lawful.
   pub two-told : twoMaps space view below xs ≡ true → Told space view below xs
   two-told e =
       let e1 = and-out (not (eqb view below)) _ e in
@@ -128,6 +129,7 @@ module _ (space k : ℕ) (xs : List ℕ) where
     pub map-length : length (mapAt space k xs) ≡ 4 * space
     map-length = part-length (k * (4 * space)) (4 * space) xs (omega (arith, fit))
 
+    -- A map inside a slice has the space.
     pub map-space : spaceIn (mapAt space k xs) ≡ space
     map-space = omega (arith, map-length)
 
@@ -169,6 +171,7 @@ pub record Copied (from to n : ℕ) (xs ys : List ℕ) : Type 0 where
   pub other : (t : ℕ) → (t < to) ⊎ (to + n ≤ t) → getD ys t 0 ≡ getD xs t 0
   pub there : (t : ℕ) → t < n → getD ys (to + t) 0 ≡ getD xs (from + t) 0
 
+-- At first no number is copied.
 pub copied-none : (from to : ℕ) (xs : List ℕ) → Copied from to 0 xs xs
 copied-none from to xs = record { same = refl; other = λ t d. refl; there = λ t h. absurd (omega (arith, h)) }
 

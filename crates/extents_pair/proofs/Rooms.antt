@@ -93,6 +93,7 @@ module _ (s n : ℕ) where
   unfolding mixed piecesOf
   map-counted v w e = e
 
+  -- The walk counts the pieces of a view after a refresh.
   pub fresh-counted : (v w : Bytes) {r : ℕ} → r ≡ length (runsFrom n s (mix ReadFresh 0 0 0 v w)) → r ≡ length (piecesOf (refreshed v w) s n)
   unfolding mixed piecesOf
   fresh-counted v w e = e
