@@ -22,7 +22,7 @@ module _ (s : List ℕ) (i : ℕ) where
   unfolding textLength
   run-on h e = rw (drop-cons s i 0 h, e, add-one)
 
-  -- any other byte ends the count
+  -- a byte that is no TEXTDATA ends the count
   pub run-off : i < length s → isText (getD s i 0) ≡ false → textLength (drop i s) ≡ 0
   unfolding textLength
   run-off h e = rw (drop-cons s i 0 h, e)
@@ -74,7 +74,7 @@ module _ (s : List ℕ) (i : ℕ) (cut : Bool) where
   unfolding afterCR
   cr-lf h e = rw (drop-cons s i 0 h, eq-eqb (getD s i 0) LF e)
 
-  -- any other byte after a CR is malformed
+  -- a byte after a CR that is no LF is malformed
   pub cr-bad : i < length s → (getD s i 0 ≡ LF → ⊥) → afterCR cut (drop i s) ≡ Bad
   unfolding afterCR
   cr-bad h e = rw (drop-cons s i 0 h, ne-eqb (getD s i 0) LF e)
@@ -94,7 +94,7 @@ module _ (s : List ℕ) (i : ℕ) (cut : Bool) where
   unfolding stopOf
   stop-cr h e = rw (add-one, drop-cons s i 0 h, e)
 
-  -- any other byte after a field is malformed
+  -- a byte after a field that is neither a comma nor a CR is malformed
   pub stop-bad : i < length s → (getD s i 0 ≡ COMMA → ⊥) → (getD s i 0 ≡ CR → ⊥) → stopOf cut (drop i s) ≡ Bad
   unfolding stopOf
   stop-bad h e f = rw (drop-cons s i 0 h, ne-eqb (getD s i 0) COMMA e, ne-eqb (getD s i 0) CR f)

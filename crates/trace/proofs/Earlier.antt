@@ -69,7 +69,7 @@ module _ (earlier : List Row) (r : Row) where
     unfolding messageInOrder
     recv-order q f = rw k (rw (sym e ∙ q) (ap not (f ∙ whoever RECV (r .message) (r .process) earlier)))
 
-  -- any other row is in order
+  -- a row that is neither a send nor a recv is in order
   pub other-order : (r .kind ≡ SEND → ⊥) → (r .kind ≡ RECV → ⊥) → true ≡ messageInOrder earlier r
   unfolding messageInOrder
   other-order s v = rw (ne-eqb (r .kind) SEND s, ne-eqb (r .kind) RECV v)

@@ -137,7 +137,7 @@ module _ {o : Outcome} (xs us : List ℕ) where
         counts-left = sym (ap (λ (b : Bool). cond b us (replicate (length us) 0)) (le-leb k 3 h));
       })
 
-  -- any other refusal clears both slices
+  -- a refusal of 4 or more clears both slices
   pub leaves-none : {k p : ℕ} {ys vs : List ℕ} → o ≡ refused k p → 4 ≤ k → ys ≡ replicate (length xs) 0 → vs ≡ replicate (length us) 0 →
       Leaves o (Refused k p) xs ys us vs
   leaves-none {k} e h r c =

@@ -67,7 +67,7 @@ module _ (k : ℕ) where
   unfolding usedBy
   used-message l h = stretch (take 6 usedTable) 2 usesMessage [] k l h
 
-  -- any other number uses nothing
+  -- a number that is no kind's uses nothing
   pub used-nothing : 8 ≤ k → usesNothing ≡ usedBy k
   unfolding usedBy
   used-nothing l = sym (List·getD-eq-default usedTable usesNothing l)
@@ -77,6 +77,6 @@ module _ {used r : Bool} (content : List ℕ) where
   pub filled-used : used ≡ true → r ≡ isNil content → not r ≡ asUsed used content
   filled-used e f = rw e (ap not f)
 
-  -- any other field has to be empty
+  -- a field that is not used has to be empty
   pub empty-unused : used ≡ false → r ≡ isNil content → r ≡ asUsed used content
   empty-unused e f = rw e f

@@ -43,7 +43,7 @@ headerNames =
     ∷ (109 ∷ 101 ∷ 115 ∷ 115 ∷ 97 ∷ 103 ∷ 101 ∷ [])  -- message
     ∷ []
 
--- the same contents in the same order
+-- two lists have equal contents, place by place
 unfoldable pub sameFields : List (List ℕ) → List (List ℕ) → Bool
 sameFields [] [] = true
 sameFields [] (w ∷ ws) = false
