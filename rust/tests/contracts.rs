@@ -140,7 +140,10 @@ fn the_list_of_contracts_is_that_of_the_sources() {
     assert_eq!(want.lines().count(), have.lines().count(), "docs/CONTRACTS.md is as long as the list of the sources");
 }
 
-/// Every public function has a comment and an `ensures`, and none of the library for C has a `requires`.
+/// What may ask something of its callers: the code of maps below `extents`, and its entries for callers that know their maps to be lawful.
+const MAY_ASK: [&str; 6] = ["extents_map", "extents_lay", "extents_pair", "extents_publish", "extents_refresh", "extents::lawful"];
+
+/// Every public function has a comment and an `ensures`, and none but those of `MAY_ASK` has a `requires`.
 #[test]
 fn every_public_function_promises_something() {
     let mut seen = 0;
@@ -148,7 +151,8 @@ fn every_public_function_promises_something() {
         for f in public_files(&krate).iter().flat_map(|(path, text)| functions(path, text)) {
             assert!(!f.about.is_empty(), "{} has no comment", f.name);
             assert!(f.clauses.iter().any(|c| c.starts_with("ensures")), "{} promises nothing", f.name);
-            assert!(krate != "kiqsaryn" || f.clauses.iter().all(|c| c.starts_with("ensures")), "{} asks something", f.name);
+            let may_ask = MAY_ASK.iter().any(|m| f.name.strip_prefix(m).is_some_and(|rest| rest.starts_with("::")));
+            assert!(may_ask || f.clauses.iter().all(|c| c.starts_with("ensures")), "{} asks something", f.name);
             seen += 1;
         }
     }

@@ -8,7 +8,7 @@ use lib.ListN.{length, getD, take, drop, replicate, getD-replicate, length-repli
 use lib.Seq.{getD-append-add}
 use Rattle.csv_content.specs.Content.{sameBytes, isNil}
 use Rattle.trace_numbers.specs.declared.Used.{Used}
-use Rattle.trace_fields.specs.Rows.{kindWords, wordOf, kindOf, usedBy, usedTable, usesRange, usesFile, usesMessage, usesNothing}
+use Rattle.trace_fields.specs.Rows.{kindWords, wordOf, kindOf, usedBy, usedTable, rangeUsed, fileUsed, messageUsed, noneUsed}
 use Rattle.trace_fields.specs.Questions.{asUsed}
 
 -- a content that is none of the first n words, and the words after those
@@ -42,35 +42,35 @@ none p = omega (arith, p .passed)
 
 -- a table has one value at n places side by side
 stretch : (front : List Used) (n : ℕ) (u : Used) (back : List Used) (k : ℕ) → length front ≤ k → k < length front + n →
-    u ≡ getD (front ++ (replicate n u ++ back)) k usesNothing
+    u ≡ getD (front ++ (replicate n u ++ back)) k noneUsed
 stretch front n u back k l h =
     let j = k - length front in
     let e : length front + j ≡ k = omega arith in
     let i : j < n = omega arith in
     let b : j < length (replicate n u) = omega (arith, length-replicate n u) in
-    sym (ap (λ (m : ℕ). getD (front ++ (replicate n u ++ back)) m usesNothing) (sym e) ∙ getD-append-add front (replicate n u ++ back) j usesNothing
-    ∙ List·getD-append (replicate n u) back usesNothing j b ∙ getD-replicate n j u usesNothing i)
+    sym (ap (λ (m : ℕ). getD (front ++ (replicate n u ++ back)) m noneUsed) (sym e) ∙ getD-append-add front (replicate n u ++ back) j noneUsed
+    ∙ List·getD-append (replicate n u) back noneUsed j b ∙ getD-replicate n j u noneUsed i)
 
 module _ (k : ℕ) where
   -- read and write use the file and the range
-  pub used-range : k < 2 → usesRange ≡ usedBy k
+  pub used-range : k < 2 → rangeUsed ≡ usedBy k
   unfolding usedBy
-  used-range h = stretch [] 2 usesRange (drop 2 usedTable) k (omega arith) h
+  used-range h = stretch [] 2 rangeUsed (drop 2 usedTable) k (omega arith) h
 
   -- commit, open, close and sync use the file alone
-  pub used-file : 2 ≤ k → k < 6 → usesFile ≡ usedBy k
+  pub used-file : 2 ≤ k → k < 6 → fileUsed ≡ usedBy k
   unfolding usedBy
-  used-file l h = stretch (take 2 usedTable) 4 usesFile (drop 6 usedTable) k l h
+  used-file l h = stretch (take 2 usedTable) 4 fileUsed (drop 6 usedTable) k l h
 
   -- send and recv use the message
-  pub used-message : 6 ≤ k → k < 8 → usesMessage ≡ usedBy k
+  pub used-message : 6 ≤ k → k < 8 → messageUsed ≡ usedBy k
   unfolding usedBy
-  used-message l h = stretch (take 6 usedTable) 2 usesMessage [] k l h
+  used-message l h = stretch (take 6 usedTable) 2 messageUsed [] k l h
 
   -- a number that is no kind's uses nothing
-  pub used-nothing : 8 ≤ k → usesNothing ≡ usedBy k
+  pub used-nothing : 8 ≤ k → noneUsed ≡ usedBy k
   unfolding usedBy
-  used-nothing l = sym (List·getD-eq-default usedTable usesNothing l)
+  used-nothing l = sym (List·getD-eq-default usedTable noneUsed l)
 
 module _ {used r : Bool} (content : List ℕ) where
   -- a used field has to be filled

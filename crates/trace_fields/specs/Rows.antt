@@ -53,37 +53,37 @@ sameFields (f ∷ fs) (w ∷ ws) = sameBytes f w && sameFields fs ws
 -- ---- The fields that a kind uses besides process and kind
 
 -- the file and its range
-abbrev pub usesRange : Used
-usesRange = record { file = true; range = true; message = false }
+abbrev pub rangeUsed : Used
+rangeUsed = record { file = true; range = true; message = false }
 
 -- the file alone
-abbrev pub usesFile : Used
-usesFile = record { file = true; range = false; message = false }
+abbrev pub fileUsed : Used
+fileUsed = record { file = true; range = false; message = false }
 
 -- the message
-abbrev pub usesMessage : Used
-usesMessage = record { file = false; range = false; message = true }
+abbrev pub messageUsed : Used
+messageUsed = record { file = false; range = false; message = true }
 
 -- no field
-abbrev pub usesNothing : Used
-usesNothing = record { file = false; range = false; message = false }
+abbrev pub noneUsed : Used
+noneUsed = record { file = false; range = false; message = false }
 
 -- the used fields by the kind's number
 abbrev pub usedTable : List Used
 usedTable =
-    usesRange  -- read
-    ∷ usesRange  -- write
-    ∷ usesFile  -- commit
-    ∷ usesFile  -- open
-    ∷ usesFile  -- close
-    ∷ usesFile  -- sync
-    ∷ usesMessage  -- send
-    ∷ usesMessage  -- recv
+    rangeUsed  -- read
+    ∷ rangeUsed  -- write
+    ∷ fileUsed  -- commit
+    ∷ fileUsed  -- open
+    ∷ fileUsed  -- close
+    ∷ fileUsed  -- sync
+    ∷ messageUsed  -- send
+    ∷ messageUsed  -- recv
     ∷ []
 
 -- the fields that a kind uses; a number that is no kind's uses none
 unfoldable pub usedBy : ℕ → Used
-usedBy kind = getD usedTable kind usesNothing
+usedBy kind = getD usedTable kind noneUsed
 
 -- ---- Rows
 
