@@ -30,8 +30,8 @@ use Rattle.machine_state.specs.Answers.{headerOf, answerOf as answeredOf, Steps
 use Rattle.machine_state.specs.Makes.{madeOf}
 use Rattle.machine_state.specs.Replays.{Replay, Replays}
 use Rattle.kiqsaryn.specs.Packing.{Gives, JudgeGives, Fills, Judges, Makes, packedStep, StepGives, ReplayGives}
-use Rattle.kiqsaryn_packing.specs.Packing.{UPPER, packed, FitsWords, packedJudged, packedFound}
-use Rattle.kiqsaryn_packing.proofs.Packs.{small-fits}
+use Rattle.kiqsaryn_packing.specs.Packing.{UPPER, packed, FitsWords, packedWords, packedJudged, packedFound}
+use Rattle.kiqsaryn_packing.proofs.Packs.{small-fits, words-packed}
 
 -- A packed answer of a check, with what the check leaves.
 pub packs : {o : Outcome} {a : Checked} {r : ℕ} {rows rows′ counts counts′ : List ℕ} → Leaves o a rows rows′ counts counts′ → r ≡ packed a →
@@ -40,13 +40,13 @@ packs l e = record { answered = e ∙ ap packed (l .answered); rows-left = l .ro
 
 -- A packed answer of the whole call, with what the call leaves.
 pub packs-judged : (text : List ℕ) (header model R P limit : ℕ) (xs us : List ℕ) {a : Judged} {r : ℕ} {ys vs : List ℕ} →
-    Decides model P (checkTrace text header model R P limit (length xs) (length us)) a xs ys us vs → (FitsWords a → r ≡ packedJudged a) →
+    Decides model P (checkTrace text header model R P limit (length xs) (length us)) a xs ys us vs → r ≡ packedWords a →
     JudgeGives model P (checkTrace text header model R P limit (length xs) (length us)) r xs ys us vs
 packs-judged text header model R P limit xs us {a} l e =
     let o = checkTrace text header model R P limit (length xs) (length us) in
     let fits = small-fits (judgedOf model o) (judged-small text header model R P limit (length xs) (length us)) in
     record {
-      answered = e (subst FitsWords (sym (l .answered)) fits) ∙ ap packedJudged (l .answered);
+      answered = e ∙ words-packed a (subst FitsWords (sym (l .answered)) fits) ∙ ap packedJudged (l .answered);
       rows-left = l .rows-left;
       counts-left = l .counts-left;
     }

@@ -22,7 +22,7 @@ use Rattle.checker.specs.declared.Judged.{Judged}
 use Rattle.checker.specs.declared.Judged.the-variants as judged
 use Rattle.checker.specs.Judging.{judgedOf}
 use Rattle.checker.proofs.Sizes.{Small, judged-small}
-use Rattle.kiqsaryn_packing.specs.Packing.{UPPER, WORD, WORD-3, WORD-4, packedJudged, FitsWords, unpackedJudged, packedFound, unpackedFound}
+use Rattle.kiqsaryn_packing.specs.Packing.{UPPER, WORD, WORD-3, WORD-4, packedJudged, packedWords, FitsWords, unpackedJudged, packedFound, unpackedFound}
 
 -- ---- The whole call
 
@@ -32,28 +32,29 @@ small-fits (judged.Free n) s = omega arith
 small-fits (judged.Race n earlier later) s = (omega arith, omega arith, omega arith)
 small-fits (judged.Refused number place) s = (omega arith, omega arith)
 
--- The code's number for a free trace is the definition's.
-pub packs-free : {j : Judged} {n a : ℕ} → j ≡ judged.Free n → a ≡ n % WORD → FitsWords j → a ≡ packedJudged j
-packs-free {j} {n} {a} q d f =
-    let g : n < WORD = subst FitsWords q f in
-    let s : a ≡ n = omega arith in
-    s ∙ sym (ap packedJudged q)
+-- The words of an answer whose numbers have 16 bits are its number.
+pub words-packed : (j : Judged) → FitsWords j → packedWords j ≡ packedJudged j
+words-packed (judged.Free n) f = omega arith
+words-packed (judged.Race n earlier later) f = omega arith
+words-packed (judged.Refused number place) f = omega arith
 
--- The code's number for a race is the definition's.
+-- The words of a free trace's answer.
+pub packs-free : {j : Judged} {n a : ℕ} → j ≡ judged.Free n → a ≡ n % WORD → a ≡ packedWords j
+packs-free q d = d ∙ sym (ap packedWords q)
+
+-- The words of a race's answer.
 pub packs-race : {j : Judged} {n earlier later a b c : ℕ} → j ≡ judged.Race n earlier later → a ≡ n % WORD → b ≡ later % WORD →
-    c ≡ earlier % WORD → FitsWords j → a + b * WORD + c * WORD-3 ≡ packedJudged j
-packs-race {j} {n} {earlier} {later} {a} {b} {c} q d e h f =
-    let g : (n < WORD) × (earlier < WORD) × (later < WORD) = subst FitsWords q f in
-    let s : a + b * WORD + c * WORD-3 ≡ n + later * WORD + earlier * WORD-3 = omega arith in
-    s ∙ sym (ap packedJudged q)
+    c ≡ earlier % WORD → a + b * WORD + c * WORD-3 ≡ packedWords j
+packs-race {j} {n} {earlier} {later} {a} {b} {c} q d e h =
+    let s : a + b * WORD + c * WORD-3 ≡ n % WORD + (later % WORD) * WORD + (earlier % WORD) * WORD-3 = omega arith in
+    s ∙ sym (ap packedWords q)
 
--- The code's number for a refusal of the whole call is the definition's.
+-- The words of a refusal's answer.
 pub packs-refused : {j : Judged} {number place a b : ℕ} → j ≡ judged.Refused number place → a ≡ number % WORD → b ≡ place % WORD →
-    FitsWords j → a * WORD-4 + b ≡ packedJudged j
-packs-refused {j} {number} {place} {a} {b} q d e f =
-    let g : (number < WORD) × (place < WORD) = subst FitsWords q f in
-    let s : a * WORD-4 + b ≡ number * WORD-4 + place = omega arith in
-    s ∙ sym (ap packedJudged q)
+    a * WORD-4 + b ≡ packedWords j
+packs-refused {j} {number} {place} {a} {b} q d e =
+    let s : a * WORD-4 + b ≡ (number % WORD) * WORD-4 + place % WORD = omega arith in
+    s ∙ sym (ap packedWords q)
 
 -- Four words of 16 bits in one number are read back.
 words : (low later earlier number answer : ℕ) → answer ≡ low + later * WORD + earlier * WORD-3 + number * WORD-4 → low < WORD → later < WORD →

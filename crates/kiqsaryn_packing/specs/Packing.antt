@@ -37,6 +37,12 @@ packedJudged (judged.Free n) = n
 packedJudged (judged.Race n earlier later) = n + later * WORD + earlier * WORD-3
 packedJudged (judged.Refused number place) = number * WORD-4 + place
 
+-- The number of any answer: the words hold the lowest 16 bits of each of its numbers. The answers of the whole call have no more bits.
+abbrev pub packedWords : Judged → ℕ
+packedWords (judged.Free n) = n % WORD
+packedWords (judged.Race n earlier later) = n % WORD + (later % WORD) * WORD + (earlier % WORD) * WORD-3
+packedWords (judged.Refused number place) = (number % WORD) * WORD-4 + place % WORD
+
 -- Every number of the whole call's answer has 16 bits.
 abbrev pub FitsWords : Judged → Type 0
 FitsWords (judged.Free n) = n < WORD

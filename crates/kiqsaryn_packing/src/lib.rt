@@ -1,7 +1,7 @@
 // Packs the answers of a check, of a whole call and of a verdict into one number each, for C.
 ghost use mathlib.Core.Path.{_≡_};
 ghost use Prim.Native.Nat.{_%_};
-ghost use Rattle.kiqsaryn_packing.specs.Packing.{WORD, packed, FitsWords, packedJudged, packedFound};
+ghost use Rattle.kiqsaryn_packing.specs.Packing.{WORD, packed, packedWords, packedFound};
 use checker::Judged;
 use races::Found;
 use trace::Checked;
@@ -34,9 +34,10 @@ fn word(n: u32) -> u64
 }
 
 // Packs what the whole call answers into four words of 16 bits. Of an accepted trace, from the lowest: the row count, the later and the earlier
-// row of the first race, both 0 for free, and 0. Of a refusal: its place in the lowest, its number in the highest, and 0 between.
+// row of the first race, both 0 for free, and 0. Of a refusal: its place in the lowest, its number in the highest, and 0 between. A word holds the lowest 16 bits of
+// its number; the numbers of the whole call have no more.
 pub fn pack_judged(answer: Judged) -> u64
-    ensures { λ r. ⌜ (FitsWords answer → r ≡ packedJudged answer) ⌝ }
+    ensures { λ r. ⌜ r ≡ packedWords answer ⌝ }
 {
     match answer {
         Judged::Free(n) => word(n),
