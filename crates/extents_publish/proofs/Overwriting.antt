@@ -45,12 +45,12 @@ published-good v f g k = record { fine = λ b. go b (unpublished (v b)); ends = 
 
 -- ---- The bytes of a range are published
 
--- in the range
+-- A byte in the range gets the cell that publishing gives it.
 taken-in : (lo hi : ℕ) (v f : Bytes) (b : ℕ) → lo ≤ b → b < hi → taken lo hi v f b ≡ published v f b
 unfolding taken
 taken-in lo hi v f b h k = rw (range-in lo (hi - lo) b h (omega arith))
 
--- but not before it
+-- A byte before the range keeps its cell.
 taken-before : (lo hi : ℕ) (v f : Bytes) (b : ℕ) → b < lo → taken lo hi v f b ≡ f b
 unfolding taken
 taken-before lo hi v f b h = rw (range-before lo (hi - lo) b h)
