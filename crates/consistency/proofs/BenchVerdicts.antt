@@ -6,7 +6,7 @@ use Rattle.csv_field.specs.FieldReading.{fieldAt, quotedTo, quotes, afterQuote,
 use Rattle.csv_content.specs.Content.{contentOf, undouble, sameBytes}
 use Rattle.csv.specs.Reading.{records, recordsFrom, onFound, readAt, fieldsFrom, onStop, prepend}
 use Rattle.trace.specs.Rows.{wordOf, sameFields, usedBy, allDigits, startsPlain, valueFrom, rowOf}
-use Rattle.trace.specs.Questions.{callQuestions, filledAsUsed, numbersInRange, any, messageInOrder, fieldQuestions, rowQuestions, judgeRows, judgeHeader, readTrace, checkTrace, Outcome, refused, accepted}
+use Rattle.trace.specs.Questions.{callQuestions, filledAsUsed, numbersInRange, any, messageInOrder, fieldQuestions, recordQuestions, rowQuestions, messageQuestions, judgeRows, judgeHeader, readTrace, checkTrace, Outcome, refused, accepted}
 use Rattle.rows.specs.Questions.{firstNo}
 use Rattle.rows.specs.Counting.{anyBelow, leastFrom}
 use Rattle.happens_before.specs.Order.{edge, hbWithin}
@@ -161,5 +161,5 @@ expected =
     ∷ []
 
 pub bench-verdicts : map judged traces ≡ expected
-unfolding records recordsFrom onFound readAt fieldsFrom onStop prepend fieldAt quotedTo quotes afterQuote afterCR stopOf textLength isText isQuoted contentOf undouble sameBytes wordOf sameFields usedBy allDigits startsPlain valueFrom rowOf firstNo callQuestions filledAsUsed numbersInRange any messageInOrder fieldQuestions rowQuestions judgeRows judgeHeader readTrace checkTrace anyBelow edge hbWithin shareByte conflict chainPosix chainCommit chainSession chainMpiIo chain synchronized race leastFrom verdictOf verdicts judged traces inText l-head l-write-ten l-commit l-send l-recv l-read-ten l-read-behind l-close l-open l-read-first l-write-there l-own-read l-write-one l-other-write l-write-none a b c d e f g h i j l
+unfolding records recordsFrom onFound readAt fieldsFrom onStop prepend fieldAt quotedTo quotes afterQuote afterCR stopOf textLength isText isQuoted contentOf undouble sameBytes wordOf sameFields usedBy allDigits startsPlain valueFrom rowOf firstNo callQuestions filledAsUsed numbersInRange any messageInOrder fieldQuestions recordQuestions rowQuestions messageQuestions judgeRows judgeHeader readTrace checkTrace anyBelow edge hbWithin shareByte conflict chainPosix chainCommit chainSession chainMpiIo chain synchronized race leastFrom verdictOf verdicts judged traces inText l-head l-write-ten l-commit l-send l-recv l-read-ten l-read-behind l-close l-open l-read-first l-write-there l-own-read l-write-one l-other-write l-write-none a b c d e f g h i j l
 bench-verdicts = refl

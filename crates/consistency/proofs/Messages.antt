@@ -13,6 +13,7 @@ use borrow.Author.Tests.{lt-ltb, ltb-true, eq-eqb, ne-eqb, eqb-true, eqb-false, 
 use Rattle.rows.specs.declared.Row.{Row}
 use Rattle.rows.specs.Kinds.{SEND, RECV}
 use Rattle.trace.specs.Questions.{any, carries, sentByOther, messageInOrder, accepted, checkTrace}
+use Rattle.messages.proofs.Asks.{message-yes}
 use Rattle.trace.proofs.Laws.{Sound, none, next, accepted-passed, accepted-sound}
 use Rattle.happens_before.specs.Order.{sameProcess, delivers, edge}
 use Rattle.rows.specs.Rows.{rowAt, noRow}
@@ -142,7 +143,7 @@ sound-in-order (next {rows} {r} s w m) j h = go (decLt j (length rows)) (λ l. s
         subst (InOrder (rows ++ (r ∷ [])) j) (sym (List·getD-append rows (r ∷ []) noRow j l)) (more-rows rows (r ∷ []) (omega arith) (ih l))
     go (no l) ih =
         let e : length rows ≡ j = omega (arith, length-append rows (r ∷ [])) in
-        let last = more-rows rows (r ∷ []) (omega arith) (message-iff rows r .0 m) in
+        let last = more-rows rows (r ∷ []) (omega arith) (message-iff rows r .0 (message-yes rows r .0 m)) in
         subst (λ (i : ℕ). InOrder (rows ++ (r ∷ [])) i (rowAt (rows ++ (r ∷ [])) i)) e
         (subst (InOrder (rows ++ (r ∷ [])) (length rows)) (sym (getD-append-seam rows r [] noRow)) last)
 

@@ -15,7 +15,7 @@ use Rattle.csv_field.specs.FieldReading.{fieldAt, afterCR, stopOf, textLength, 
 use Rattle.csv_content.specs.Content.{contentOf, sameBytes}
 use Rattle.rows.specs.declared.Row.{Row}
 use Rattle.trace.specs.Rows.{wordOf, usedBy, allDigits, startsPlain, valueFrom, rowOf}
-use Rattle.trace.specs.Questions.{callQuestions, filledAsUsed, numbersInRange, any, messageInOrder, fieldQuestions, rowQuestions, judgeRows, readTrace, checkTrace, accepted}
+use Rattle.trace.specs.Questions.{callQuestions, filledAsUsed, numbersInRange, any, messageInOrder, fieldQuestions, recordQuestions, rowQuestions, messageQuestions, judgeRows, readTrace, checkTrace, accepted}
 use Rattle.rows.specs.Questions.{firstNo}
 use Rattle.rows.specs.Counting.{anyBelow, leastFrom}
 use Rattle.happens_before.specs.Order.{edge, hbWithin}
@@ -66,7 +66,7 @@ pub record SessionRace : Type 0 where
 -- The text is read as these rows.
 s-taken : checkTrace sText 0 SESSION 6 2 8192 36 12 ≡ accepted sRows
 unfolding records recordsFrom onFound readAt fieldsFrom onStop prepend fieldAt afterCR stopOf textLength isText contentOf sameBytes wordOf usedBy
-    allDigits startsPlain valueFrom rowOf firstNo callQuestions filledAsUsed numbersInRange any messageInOrder fieldQuestions rowQuestions judgeRows
+    allDigits startsPlain valueFrom rowOf firstNo callQuestions filledAsUsed numbersInRange any messageInOrder fieldQuestions recordQuestions rowQuestions messageQuestions judgeRows
     readTrace checkTrace
 s-taken = refl
 

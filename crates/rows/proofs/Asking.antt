@@ -3,7 +3,7 @@ use Prim.Native.Nat.{ℕ, _≤_}
 use native.Mathlib.Omega.{arith}
 use mathlib.Core.Path.{_≡_, refl}
 use mathlib.Core.Bool.{Bool, true, false, cond}
-use mathlib.Core.List.{List, [], _∷_}
+use mathlib.Core.List.{List, [], _∷_, _++_}
 use Rattle.rows.specs.Questions.{Question, firstNo}
 
 -- No question has a number below k.
@@ -35,3 +35,14 @@ all-yes (q ∷ qs) f e = go (all-yes qs (f .1)) (q .yes) refl e
     go : (firstNo qs ≡ 0 → AllYes qs) → (b : Bool) → q .yes ≡ b → cond b (firstNo qs) (q .number) ≡ 0 → AllYes (q ∷ qs)
     go rest true y n = (y, rest n)
     go rest false y n = let low : 1 ≤ q .number = f .0 in absurd (omega arith)
+
+-- Without a No among two lists of questions, every answer of the first is Yes, and there is no No in the second.
+pub none-appended : (qs rest : List Question) → From 1 qs → firstNo (qs ++ rest) ≡ 0 → AllYes qs × (firstNo rest ≡ 0)
+unfolding firstNo
+none-appended [] rest f e = (tt, e)
+none-appended (q ∷ qs) rest f e = go (none-appended qs rest (f .1)) (q .yes) refl e
+  where
+    go : (firstNo (qs ++ rest) ≡ 0 → AllYes qs × (firstNo rest ≡ 0)) → (b : Bool) → q .yes ≡ b →
+        cond b (firstNo (qs ++ rest)) (q .number) ≡ 0 → AllYes (q ∷ qs) × (firstNo rest ≡ 0)
+    go ih true y n = let s = ih n in ((y, s .0), s .1)
+    go ih false y n = let low : 1 ≤ q .number = f .0 in absurd (omega arith)

@@ -16,7 +16,7 @@ use Rattle.csv_content.proofs.Contents.{same-iff}
 use Rattle.csv.proofs.Grammar.{all-read-iff}
 use Rattle.rows.specs.declared.Row.{Row}
 use Rattle.trace.specs.Rows.{headerNames, sameFields, rowOf}
-use Rattle.trace.specs.Questions.{inRowLimit, sixFields, kindKnown, filledAsUsed, numbersInRange, endInRange, messageInOrder, fieldQuestions, rowQuestions, isHeader, Outcome, refused, accepted, judgeRows, judgeHeader, readTrace, checkTrace}
+use Rattle.trace.specs.Questions.{inRowLimit, sixFields, kindKnown, filledAsUsed, numbersInRange, endInRange, messageQuestions, fieldQuestions, recordQuestions, rowQuestions, isHeader, Outcome, refused, accepted, judgeRows, judgeHeader, readTrace, checkTrace}
 use Rattle.rows.specs.Questions.{firstNo}
 use Rattle.trace.proofs.Laws.{Legal, accepted-passed}
 use Rattle.trace.proofs.Asking.{all-asked}
@@ -31,7 +31,7 @@ pub record Passes (rowLimit processLimit : ℕ) (earlier : List Row) (fields : L
   pub filled-as-used : filledAsUsed fields ≡ true
   pub numbers-in-range : numbersInRange processLimit fields ≡ true
   pub end-in-range : endInRange (rowOf fields) ≡ true
-  pub message-in-order : messageInOrder earlier (rowOf fields) ≡ true
+  pub message-in-order : firstNo (messageQuestions earlier (rowOf fields)) ≡ 0
 
 -- Every record passes behind the rows of the records before it; other rows may stand before them all.
 abbrev pub AllPass : ℕ → ℕ → List Row → List (List (List ℕ)) → Type 0
@@ -66,7 +66,7 @@ module _ (rowLimit processLimit : ℕ) where
   -- a record passes exactly where no question from 6 to 12 is answered No
   pub passes-iff : (earlier : List Row) (fields : List (List ℕ)) →
       (firstNo (rowQuestions rowLimit processLimit earlier fields) ≡ 0) ↔ Passes rowLimit processLimit earlier fields
-  unfolding firstNo rowQuestions fieldQuestions
+  unfolding firstNo recordQuestions rowQuestions fieldQuestions
   passes-iff earlier fields = (to, from)
     where
       to : firstNo (rowQuestions rowLimit processLimit earlier fields) ≡ 0 → Passes rowLimit processLimit earlier fields
@@ -77,7 +77,6 @@ module _ (rowLimit processLimit : ℕ) where
           let q9 = first-yes (filledAsUsed fields) (omega arith) (q8 .1) in
           let q10 = first-yes (numbersInRange processLimit fields) (omega arith) (q9 .1) in
           let q11 = first-yes (endInRange (rowOf fields)) (omega arith) (q10 .1) in
-          let q12 = first-yes (messageInOrder earlier (rowOf fields)) (omega arith) (q11 .1) in
           record {
             in-row-limit = ltb-true _ _ (q6 .0);
             six-fields = eqb-true _ _ (q7 .0);
@@ -85,7 +84,7 @@ module _ (rowLimit processLimit : ℕ) where
             filled-as-used = q9 .0;
             numbers-in-range = q10 .0;
             end-in-range = q11 .0;
-            message-in-order = q12 .0;
+            message-in-order = q11 .1;
           }
 
       from : Passes rowLimit processLimit earlier fields → firstNo (rowQuestions rowLimit processLimit earlier fields) ≡ 0

@@ -17,7 +17,7 @@ use Rattle.rows.specs.declared.Row.{Row}
 use Rattle.trace_numbers.specs.declared.ReadRow.{ReadRow}
 use Rattle.trace_numbers.specs.declared.ReadRow.the-variants.{Kept, No}
 use Rattle.trace.specs.Rows.{headerNames, sameFields, rowOf}
-use Rattle.trace.specs.Questions.{inLimits, callQuestions, fieldQuestions, messageInOrder}
+use Rattle.trace.specs.Questions.{inLimits, callQuestions, fieldQuestions, recordQuestions, messageQuestions, messageInOrder}
 use Rattle.rows.specs.Questions.{Question, firstNo}
 use Rattle.trace.specs.Reads.{fieldsOf, judgedBy, judgedFields, judgedRow, headed}
 
@@ -163,9 +163,9 @@ numbered : (processLimit : ℕ) (fields : List (List ℕ)) → Numbered (fieldQu
 unfolding fieldQuestions
 numbered processLimit fields = (omega arith, (omega arith, (omega arith, (omega arith, tt))))
 
--- question 12
+-- the questions from 12 on
 abbrev last : List Row → List (List ℕ) → List Question
-last earlier fields = record { number = 12; yes = messageInOrder earlier (rowOf fields) } ∷ []
+last earlier fields = messageQuestions earlier (rowOf fields)
 
 -- What an answer tells of the first No.
 module _ (first : ℕ) (fields : List (List ℕ)) where
@@ -192,19 +192,19 @@ module _ (rowLimit processLimit n : ℕ) (earlier : List Row) (count : ℕ) (fie
 
   -- 6 has No
   pub row-over : rowLimit ≤ n → No 6 ≡ whole
-  unfolding judgedRow firstNo
+  unfolding judgedRow recordQuestions firstNo
   row-over h = rw (le-ltb n rowLimit h)
 
   module _ (h : n < rowLimit) where
     -- 7 has No
     pub other-count : (count ≡ 6 → ⊥) → No 7 ≡ whole
-    unfolding judgedRow firstNo
+    unfolding judgedRow recordQuestions firstNo
     other-count s = rw (lt-ltb n rowLimit h, ne-eqb count 6 s)
 
     module _ (s : count ≡ 6) {j : ReadRow} (e : j ≡ judgedFields processLimit fields) where
       -- 6 and 7 have Yes, and the others decide
       inner : whole ≡ judgedBy (firstNo (fieldQuestions processLimit fields ++ last earlier fields)) fields
-      unfolding judgedRow firstNo
+      unfolding judgedRow recordQuestions firstNo
       inner = rw (lt-ltb n rowLimit h, eq-eqb count 6 s)
 
       -- one of 8 to 11 has No
@@ -219,7 +219,7 @@ module _ (rowLimit processLimit n : ℕ) (earlier : List Row) (count : ℕ) (fie
       module _ {row : Row} (q : j ≡ Kept row) {b : Bool} (m : b ≡ messageInOrder earlier row) where
         -- 12 decides
         final : whole ≡ judgedBy (cond b 0 12) fields
-        unfolding judgedFields firstNo
+        unfolding judgedFields messageQuestions firstNo
         final =
             let p = kept-of (firstNo (fieldQuestions processLimit fields)) fields (sym e ∙ q) in
             inner ∙ ap (λ (x : ℕ). judgedBy x fields) (all-yes (fieldQuestions processLimit fields) (last earlier fields) (numbered processLimit fields) (p .0))

@@ -22,7 +22,7 @@ use Rattle.trace_numbers.specs.declared.ReadRow.{ReadRow}
 use Rattle.trace_numbers.specs.declared.ReadRow.the-variants.{Kept, No}
 use Rattle.trace.specs.Rows.{rowOf}
 use Rattle.rows.specs.Rows.{six, numbers, rowsIn}
-use Rattle.trace.specs.Questions.{fieldQuestions, rowQuestions, messageInOrder, Outcome, refused, accepted, judgeRows, checkedOf, Holds}
+use Rattle.trace.specs.Questions.{fieldQuestions, recordQuestions, rowQuestions, messageQuestions, Outcome, refused, accepted, judgeRows, checkedOf, Holds}
 use Rattle.rows.specs.Questions.{Question, firstNo}
 use Rattle.trace.specs.Reads.{fieldsOf, judgedBy, judgedRow, judgeFrom}
 use Rattle.rows.proofs.Slices.{length-numbers, numbers-append, rows-back}
@@ -89,8 +89,7 @@ judged P done x y fields =
     judgedBy
     (firstNo
     (record { number = 6; yes = x }
-    ∷ (record { number = 7; yes = y }
-    ∷ (fieldQuestions P fields ++ (record { number = 12; yes = messageInOrder done (rowOf fields) } ∷ [])))))
+    ∷ (record { number = 7; yes = y } ∷ (fieldQuestions P fields ++ messageQuestions done (rowOf fields)))))
     fields
 
 -- where there are not six fields, the answer does not depend on the fields
@@ -103,7 +102,7 @@ other-fields P done false false a b h = refl
 -- the answer of a record is that of its first six fields and their count
 pub judged-same : (R P n : ℕ) (done : List Row) (text : List ℕ) (spans : List Span) (count : ℕ) → n ≡ length done → count ≡ length spans →
     judgedRow R P n done count (fieldsOf text (firstSix spans)) ≡ judgedBy (firstNo (rowQuestions R P done (fieldsOf text spans))) (fieldsOf text spans)
-unfolding judgedRow rowQuestions judged
+unfolding judgedRow recordQuestions rowQuestions judged
 judged-same R P n done text spans count m c =
     let size = c ∙ sym (length-map spans (contentOf text)) in
     (λ i. judged P done (ltb (m i) R) (eqb (size i) 6) (fieldsOf text (firstSix spans)))
@@ -112,11 +111,11 @@ judged-same R P n done text spans count m c =
 
 -- a record without a No is within the row limit
 pub in-limit : (R P : ℕ) (done : List Row) (fields : List (List ℕ)) → eqb (firstNo (rowQuestions R P done fields)) 0 ≡ true → length done < R
-unfolding rowQuestions firstNo
+unfolding recordQuestions rowQuestions firstNo
 in-limit R P done fields e = go (ltb (length done) R) refl e
   where
     rest : ℕ
-    rest = cond (eqb (length fields) 6) (firstNo (fieldQuestions P fields ++ (record { number = 12; yes = messageInOrder done (rowOf fields) } ∷ []))) 7
+    rest = cond (eqb (length fields) 6) (firstNo (fieldQuestions P fields ++ messageQuestions done (rowOf fields))) 7
 
     go : (x : Bool) → ltb (length done) R ≡ x → eqb (cond x rest 6) 0 ≡ true → length done < R
     go true q f = ltb-true (length done) R q

@@ -14,10 +14,10 @@ use Rattle.rows.specs.declared.Row.{Row}
 use Rattle.trace.specs.Rows.{kindOf, usedBy, isPlain, value, valueFrom, isNumber, field, rowOf}
 use Rattle.rows.specs.Kinds.{KINDS}
 use Rattle.rows.specs.Rows.{numbers, six, rowHere, rowsIn}
-use Rattle.trace.specs.Questions.{callQuestions, isHeader, kindKnown, asUsed, filledAsUsed, numberIf, OFFSETS, numbersInRange, endInRange, messageInOrder, fieldQuestions, rowQuestions, Outcome, refused, accepted, judgeRows, judgeHeader, readTrace, checkTrace, rowsLeft}
+use Rattle.trace.specs.Questions.{callQuestions, isHeader, kindKnown, asUsed, filledAsUsed, numberIf, OFFSETS, numbersInRange, endInRange, messageQuestions, fieldQuestions, recordQuestions, rowQuestions, Outcome, refused, accepted, judgeRows, judgeHeader, readTrace, checkTrace, rowsLeft}
 use Rattle.rows.specs.Questions.{Question, firstNo}
 use Rattle.rows.proofs.Bools.{and-out}
-use Rattle.rows.proofs.Asking.{no-from, all-yes}
+use Rattle.rows.proofs.Asking.{no-from, all-yes, none-appended}
 use Rattle.rows.proofs.Slices.{rows-back}
 
 -- the number of a field that is not used is 0
@@ -40,7 +40,7 @@ pub record WellFormed (processLimit : ℕ) (r : Row) : Type 0 where
 -- Rows of a trace: each is well formed, and its message is in order behind the rows before.
 pub data Sound (processLimit : ℕ) : List Row → Type 0 where
   none : Sound processLimit []
-  next : {rows : List Row} {r : Row} → Sound processLimit rows → WellFormed processLimit r → messageInOrder rows r ≡ true →
+  next : {rows : List Row} {r : Row} → Sound processLimit rows → WellFormed processLimit r → firstNo (messageQuestions rows r) ≡ 0 →
       Sound processLimit (rows ++ (r ∷ []))
 
 -- ---- A row that passes its questions is well formed
@@ -125,23 +125,24 @@ module _ (rowLimit processLimit : ℕ) where
   came-next : (before : List Row) (fields : List (List ℕ)) (rest : List (List (List ℕ))) (ending : Ending) →
       firstNo (rowQuestions rowLimit processLimit before fields) ≡ 0 → (rows : List Row) →
       Came (before ++ (rowOf fields ∷ [])) rest ending rows → Came before (fields ∷ rest) ending rows
-  unfolding rowQuestions fieldQuestions
+  unfolding recordQuestions rowQuestions fieldQuestions
   came-next before fields rest ending e rows c =
-      let yes = all-yes (rowQuestions rowLimit processLimit before fields) (omega arith) e in
-      let room = ltb-true (length before) rowLimit (yes .0) in
-      let q = yes .1 .1 in
+      let asked =
+      none-appended (recordQuestions rowLimit processLimit (length before) (length fields) fields) (messageQuestions before (rowOf fields)) (omega arith) e in
+      let room = ltb-true (length before) rowLimit (asked .0 .0) in
+      let q = asked .0 .1 .1 in
       record {
         all = c .all ∙ append-snoc before (rowOf fields) (map rowOf rest);
         end = c .end;
         few = λ h. c .few (simp length-append (omega arith));
         sound =
-            λ s. c .sound (next s (well-formed processLimit fields (q .0) (q .1 .0) (q .1 .1 .0) (q .1 .1 .1 .0)) (q .1 .1 .1 .1 .0));
+            λ s. c .sound (next s (well-formed processLimit fields (q .0) (q .1 .0) (q .1 .1 .0) (q .1 .1 .1 .0)) (asked .1));
       }
 
   -- records behind rows that are accepted give rows as Came says
   judged-rows : (before : List Row) (recs : List (List (List ℕ))) (ending : Ending) →
       Where (Came before recs ending) (judgeRows rowLimit processLimit before recs ending)
-  unfolding judgeRows rowQuestions fieldQuestions
+  unfolding judgeRows recordQuestions rowQuestions messageQuestions fieldQuestions
   judged-rows before [] all-read = record { all = sym (append-nil before); end = refl; few = λ h. h; sound = λ s. s }
   judged-rows before [] at-malformed = omega arith
   judged-rows before [] at-limit = omega arith

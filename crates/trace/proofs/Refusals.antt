@@ -11,7 +11,7 @@ use Rattle.csv.specs.Reading.{Records, records, Ending, all-read, at-malformed,
 use Rattle.rows.specs.Limits.{ROWS}
 use Rattle.rows.specs.declared.Row.{Row}
 use Rattle.trace.specs.Rows.{rowOf}
-use Rattle.trace.specs.Questions.{callQuestions, isHeader, fieldQuestions, rowQuestions, Outcome, refused, accepted, judgeRows, judgeHeader, readTrace, checkTrace}
+use Rattle.trace.specs.Questions.{callQuestions, isHeader, fieldQuestions, recordQuestions, rowQuestions, messageQuestions, Outcome, refused, accepted, judgeRows, judgeHeader, readTrace, checkTrace}
 use Rattle.rows.specs.Questions.{Question, firstNo}
 use Rattle.trace.proofs.Laws.{legal}
 use Rattle.rows.proofs.Asking.{all-yes, no-from}
@@ -40,7 +40,7 @@ module _ (rowLimit processLimit : ℕ) where
   -- the outcome of records behind rows is Low
   low-rows : (before : List Row) (recs : List (List (List ℕ))) (ending : Ending) → length before ≤ rowLimit →
       Low rowLimit (judgeRows rowLimit processLimit before recs ending)
-  unfolding judgeRows rowQuestions fieldQuestions
+  unfolding judgeRows recordQuestions rowQuestions messageQuestions fieldQuestions
   low-rows before [] all-read h = tt
   low-rows before [] at-malformed h = omega arith
   low-rows before [] at-limit h = omega arith

@@ -1,7 +1,8 @@
 -- The questions put to an input, each one definition, in document 01's order; the first No decides. The crate `trace_fields` defines the
--- questions 8 to 11, which are put to the fields of one record.
+-- questions 8 to 11, which are put to the fields of one record, and the crate `messages` those from 12 on, which are put to a row behind the
+-- rows before it.
 use Prim.Native.Nat.{ℕ, _+_, _*_, _-_}
-use mathlib.Core.Bool.{Bool, true, false, cond, not, _&&_, _||_}
+use mathlib.Core.Bool.{Bool, cond, _&&_}
 use mathlib.Core.List.{List, [], _∷_, _++_}
 use mathlib.Core.Path.{_≡_}
 use lib.ListN.{length, drop, replicate}
@@ -12,8 +13,9 @@ use Rattle.rows.specs.declared.Row.{Row}
 use Rattle.trace.specs.declared.Checked.{Checked}
 use Rattle.trace.specs.declared.Checked.the-variants.{Accepted, Refused}
 use Rattle.trace.specs.Rows.{headerNames, sameFields, rowOf}
-use Rattle.rows.specs.Kinds.{SEND, RECV}
 use Rattle.rows.specs.Rows.{numbers}
+pub use Rattle.messages.specs.Questions.{carries, sent, sentByOther, received}
+unfoldable pub use Rattle.messages.specs.Questions.{any, messageInOrder, messageQuestions}
 pub use Rattle.trace_numbers.specs.Numbers.{numberIf, OFFSETS}
 pub use Rattle.trace_fields.specs.Questions.{kindKnown, asUsed, endInRange}
 unfoldable pub use Rattle.trace_fields.specs.Questions.{filledAsUsed, numbersInRange, fieldQuestions}
@@ -51,39 +53,15 @@ inRowLimit rowLimit before = ltb before rowLimit
 abbrev pub sixFields : List (List ℕ) → Bool
 sixFields fields = eqb (length fields) 6
 
--- some row passes a test
-unfoldable pub any : (Row → Bool) → List Row → Bool
-any test [] = false
-any test (r ∷ rs) = test r || any test rs
+-- The questions 6 to 11 of a record of `count` fields behind n rows.
+unfoldable pub recordQuestions : ℕ → ℕ → ℕ → ℕ → List (List ℕ) → List Question
+recordQuestions rowLimit processLimit n count fields =
+    record { number = 6; yes = inRowLimit rowLimit n } ∷ (record { number = 7; yes = eqb count 6 } ∷ fieldQuestions processLimit fields)
 
--- a row of this kind with this message
-abbrev pub carries : ℕ → ℕ → Row → Bool
-carries kind message r = eqb (r .kind) kind && eqb (r .message) message
-
--- some row sends the message
-abbrev pub sent : ℕ → List Row → Bool
-sent message rows = any (carries SEND message) rows
-
--- some row of another process sends the message
-abbrev pub sentByOther : ℕ → ℕ → List Row → Bool
-sentByOther process message rows = any (λ r. carries SEND message r && not (eqb (r .process) process)) rows
-
--- some row receives the message
-abbrev pub received : ℕ → List Row → Bool
-received message rows = any (carries RECV message) rows
-
--- 12. Is a send's message unsent so far; was a recv's sent earlier by another process and not yet received?
-unfoldable pub messageInOrder : List Row → Row → Bool
-messageInOrder earlier r =
-    cond (eqb (r .kind) SEND) (not (sent (r .message) earlier))
-    (cond (eqb (r .kind) RECV) (sentByOther (r .process) (r .message) earlier && not (received (r .message) earlier)) true)
-
--- the questions 6 to 12 of a record behind the rows before
+-- All questions of a record behind the rows before: 6 to 11, then those of its row's message.
 unfoldable pub rowQuestions : ℕ → ℕ → List Row → List (List ℕ) → List Question
 rowQuestions rowLimit processLimit earlier fields =
-    record { number = 6; yes = inRowLimit rowLimit (length earlier) }
-    ∷ (record { number = 7; yes = sixFields fields }
-    ∷ (fieldQuestions processLimit fields ++ (record { number = 12; yes = messageInOrder earlier (rowOf fields) } ∷ [])))
+    recordQuestions rowLimit processLimit (length earlier) (length fields) fields ++ messageQuestions earlier (rowOf fields)
 
 -- ---- What an input comes to
 

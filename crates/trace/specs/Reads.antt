@@ -2,7 +2,7 @@
 -- the whole call answers; the crate `trace_fields` defines what the fields of one record answer.
 use Prim.Native.Nat.{ℕ, suc}
 use mathlib.Core.Bool.{Bool, not, _&&_, _||_}
-use mathlib.Core.List.{List, [], _∷_, _++_}
+use mathlib.Core.List.{List, [], _++_}
 use lib.ListN.{length}
 use lib.Dec.{eqb}
 use Rattle.csv.specs.Reading.{recordsFrom, Records}
@@ -12,18 +12,13 @@ pub use Rattle.trace_numbers.specs.Numbers.{fieldsOf, numberWhere}
 pub use Rattle.trace_fields.specs.Reads.{judgedBy}
 unfoldable pub use Rattle.trace_fields.specs.Reads.{fillsAs, judgedFields}
 use Rattle.trace.specs.Rows.{rowOf}
-use Rattle.trace.specs.Questions.{fieldQuestions, inRowLimit, messageInOrder, carries, isHeader, Outcome, judgeRows}
-use Rattle.rows.specs.Questions.{Question, firstNo}
+use Rattle.trace.specs.Questions.{recordQuestions, messageQuestions, carries, isHeader, Outcome, judgeRows}
+use Rattle.rows.specs.Questions.{firstNo}
 
--- the questions 6 to 12 of a record of `count` fields, of which the first six are given, behind n rows
+-- what the questions of a record of `count` fields, of which the first six are given, answer behind n rows
 unfoldable pub judgedRow : ℕ → ℕ → ℕ → List Row → ℕ → List (List ℕ) → ReadRow
 judgedRow rowLimit processLimit n earlier count fields =
-    judgedBy
-    (firstNo
-    (record { number = 6; yes = inRowLimit rowLimit n }
-    ∷ (record { number = 7; yes = eqb count 6 }
-    ∷ (fieldQuestions processLimit fields ++ (record { number = 12; yes = messageInOrder earlier (rowOf fields) } ∷ [])))))
-    fields
+    judgedBy (firstNo (recordQuestions rowLimit processLimit n count fields ++ messageQuestions earlier (rowOf fields))) fields
 
 -- question 5 of a record of `count` fields, of which the first six are given
 abbrev pub headed : ℕ → List (List ℕ) → Bool
