@@ -17,9 +17,10 @@ use Rattle.rows.specs.declared.Row.{Row}
 use Rattle.trace_numbers.specs.declared.ReadRow.{ReadRow}
 use Rattle.trace_numbers.specs.declared.ReadRow.the-variants.{Kept, No}
 use Rattle.trace.specs.Rows.{headerNames, sameFields, rowOf}
-use Rattle.trace.specs.Questions.{inLimits, callQuestions, fieldQuestions, recordQuestions, messageQuestions, messageInOrder}
+use Rattle.trace.specs.Questions.{inLimits, callQuestions, fieldQuestions, recordQuestions}
+use Rattle.messages.specs.Table.{tableQuestions, tableAfter}
 use Rattle.rows.specs.Questions.{Question, firstNo}
-use Rattle.trace.specs.Reads.{fieldsOf, judgedBy, judgedFields, judgedRow, headed}
+use Rattle.trace.specs.Reads.{fieldsOf, judgedBy, judgedFields, judgedRow, tableLeft, headed}
 
 -- ---- The questions 1 to 3
 
@@ -133,7 +134,7 @@ module _ {text : List ℕ} {count : ℕ} {spans : List Span} {k : ℕ} (n : Name
 -- ---- The questions 6 to 12
 
 -- the first No of two lists of questions is that of the first list, where it has one
-first-no : (qs rest : List Question) → (firstNo qs ≡ 0 → ⊥) → firstNo (qs ++ rest) ≡ firstNo qs
+pub first-no : (qs rest : List Question) → (firstNo qs ≡ 0 → ⊥) → firstNo (qs ++ rest) ≡ firstNo qs
 unfolding firstNo
 first-no [] rest h = absurd (h refl)
 first-no (q ∷ qs) rest h = go (q .yes) (first-no qs rest) h
@@ -144,11 +145,12 @@ first-no (q ∷ qs) rest h = go (q .yes) (first-no qs rest) h
     go false ih g = refl
 
 -- no question has the number 0
-abbrev Numbered : List Question → Type 0
+abbrev pub Numbered : List Question → Type 0
 Numbered [] = Unit {0}
 Numbered (q ∷ qs) = (0 < q .number) × Numbered qs
 
-all-yes : (qs rest : List Question) → Numbered qs → firstNo qs ≡ 0 → firstNo (qs ++ rest) ≡ firstNo rest
+-- without a No in the first list of questions, the second decides
+pub all-yes : (qs rest : List Question) → Numbered qs → firstNo qs ≡ 0 → firstNo (qs ++ rest) ≡ firstNo rest
 unfolding firstNo
 all-yes [] rest n h = refl
 all-yes (q ∷ qs) rest n h = go (q .yes) (all-yes qs rest (n .1)) h
@@ -159,13 +161,9 @@ all-yes (q ∷ qs) rest n h = go (q .yes) (all-yes qs rest (n .1)) h
     go false ih g = absurd (omega (arith, n .0))
 
 -- the questions 8 to 11 have numbers
-numbered : (processLimit : ℕ) (fields : List (List ℕ)) → Numbered (fieldQuestions processLimit fields)
+pub numbered : (processLimit : ℕ) (fields : List (List ℕ)) → Numbered (fieldQuestions processLimit fields)
 unfolding fieldQuestions
 numbered processLimit fields = (omega arith, (omega arith, (omega arith, (omega arith, tt))))
-
--- the questions from 12 on
-abbrev last : List Row → List (List ℕ) → List Question
-last earlier fields = messageQuestions earlier (rowOf fields)
 
 -- What an answer tells of the first No.
 module _ (first : ℕ) (fields : List (List ℕ)) where
@@ -185,53 +183,74 @@ module _ (first : ℕ) (fields : List (List ℕ)) where
       go true q e = (eqb-true first 0 q, cc)
       go false q e = let z : _≡_ {A = ℕ} 0 1 = cc in absurd (omega arith)
 
-module _ (rowLimit processLimit n : ℕ) (earlier : List Row) (count : ℕ) (fields : List (List ℕ)) where
+module _ (rowLimit processLimit n : ℕ) (table : List ℕ) (count : ℕ) (fields : List (List ℕ)) where
   -- the answer to a row's record
   abbrev whole : ReadRow
-  whole = judgedRow rowLimit processLimit n earlier count fields
+  whole = judgedRow rowLimit processLimit n table count fields
+
+  -- the table that is left
+  abbrev left : List ℕ
+  left = tableLeft rowLimit processLimit n table count fields
 
   -- 6 has No
-  pub row-over : rowLimit ≤ n → No 6 ≡ whole
-  unfolding judgedRow recordQuestions firstNo
-  row-over h = rw (le-ltb n rowLimit h)
+  pub row-over : rowLimit ≤ n → (No 6 ≡ whole) × (table ≡ left)
+  unfolding judgedRow tableLeft recordQuestions firstNo
+  row-over h = (rw (le-ltb n rowLimit h), rw (le-ltb n rowLimit h))
 
   module _ (h : n < rowLimit) where
     -- 7 has No
-    pub other-count : (count ≡ 6 → ⊥) → No 7 ≡ whole
-    unfolding judgedRow recordQuestions firstNo
-    other-count s = rw (lt-ltb n rowLimit h, ne-eqb count 6 s)
+    pub other-count : (count ≡ 6 → ⊥) → (No 7 ≡ whole) × (table ≡ left)
+    unfolding judgedRow tableLeft recordQuestions firstNo
+    other-count s = (rw (lt-ltb n rowLimit h, ne-eqb count 6 s), rw (lt-ltb n rowLimit h, ne-eqb count 6 s))
 
     module _ (s : count ≡ 6) {j : ReadRow} (e : j ≡ judgedFields processLimit fields) where
       -- 6 and 7 have Yes, and the others decide
-      inner : whole ≡ judgedBy (firstNo (fieldQuestions processLimit fields ++ last earlier fields)) fields
+      inner : whole ≡ judgedBy (firstNo (fieldQuestions processLimit fields ++ tableQuestions table (rowOf fields))) fields
       unfolding judgedRow recordQuestions firstNo
       inner = rw (lt-ltb n rowLimit h, eq-eqb count 6 s)
 
+      -- 6 and 7 have Yes, and 8 to 11 decide whether the row is put to the table
+      inner-left : left ≡ cond (eqb (firstNo (fieldQuestions processLimit fields)) 0) (tableAfter table (rowOf fields)) table
+      unfolding tableLeft recordQuestions firstNo
+      inner-left = rw (lt-ltb n rowLimit h, eq-eqb count 6 s)
+
       -- one of 8 to 11 has No
-      pub fields-no : {k : ℕ} → j ≡ No k → No k ≡ whole
+      pub fields-no : {k : ℕ} → j ≡ No k → (No k ≡ whole) × (table ≡ left)
       unfolding judgedFields
       fields-no q =
           let f = firstNo (fieldQuestions processLimit fields) in
-          let g = first-no (fieldQuestions processLimit fields) (last earlier fields) (no-of f fields (sym e ∙ q) .1) in
-          sym (inner ∙ ap (λ (x : ℕ). judgedBy x fields) g ∙ (sym e ∙ q))
+          let o = no-of f fields (sym e ∙ q) .1 in
+          let g = first-no (fieldQuestions processLimit fields) (tableQuestions table (rowOf fields)) o in (
+            sym (inner ∙ ap (λ (x : ℕ). judgedBy x fields) g ∙ (sym e ∙ q)),
+            sym (inner-left ∙ rw (ne-eqb f 0 o)),
+          )
 
       -- 8 to 11 have Yes
-      module _ {row : Row} (q : j ≡ Kept row) {b : Bool} (m : b ≡ messageInOrder earlier row) where
-        -- 12 decides
-        final : whole ≡ judgedBy (cond b 0 12) fields
-        unfolding judgedFields messageQuestions firstNo
-        final =
-            let p = kept-of (firstNo (fieldQuestions processLimit fields)) fields (sym e ∙ q) in
-            inner ∙ ap (λ (x : ℕ). judgedBy x fields) (all-yes (fieldQuestions processLimit fields) (last earlier fields) (numbered processLimit fields) (p .0))
-            ∙ ap (λ (x : Bool). judgedBy (cond x 0 12) fields) (sym (m ∙ ap (messageInOrder earlier) (p .1)))
-
-        -- 12 has No
-        pub order-no : b ≡ false → No 12 ≡ whole
-        order-no x = sym (final ∙ rw x)
-
-        -- 12 has Yes
-        pub order-yes : b ≡ true → Kept row ≡ whole
+      module _ {row : Row} (q : j ≡ Kept row) {no : ℕ} {after : List ℕ}
+          (m : (no ≡ firstNo (tableQuestions table row)) × (after ≡ tableAfter table row)) where
+        -- the record's row
+        told : (firstNo (fieldQuestions processLimit fields) ≡ 0) × (row ≡ rowOf fields)
         unfolding judgedFields
-        order-yes x =
-            let p = kept-of (firstNo (fieldQuestions processLimit fields)) fields (sym e ∙ q) in
-            ap Kept (p .1) ∙ sym (final ∙ rw x)
+        told = kept-of (firstNo (fieldQuestions processLimit fields)) fields (sym e ∙ q)
+
+        -- the questions of its message decide
+        final : whole ≡ judgedBy no fields
+        final =
+            inner
+            ∙ ap (λ (x : ℕ). judgedBy x fields)
+            (all-yes (fieldQuestions processLimit fields) (tableQuestions table (rowOf fields)) (numbered processLimit fields) (told .0)
+            ∙ sym (m .0 ∙ ap (λ (r : Row). firstNo (tableQuestions table r)) (told .1)))
+
+        -- the row was put to the table
+        final-left : after ≡ left
+        final-left =
+            m .1 ∙ ap (tableAfter table) (told .1)
+            ∙ sym (inner-left ∙ rw (eq-eqb (firstNo (fieldQuestions processLimit fields)) 0 (told .0)))
+
+        -- one of them has No
+        pub order-no : (no ≡ 0 → ⊥) → (No no ≡ whole) × (after ≡ left)
+        order-no x = (sym (final ∙ rw (ne-eqb no 0 x)), final-left)
+
+        -- all have Yes
+        pub order-yes : no ≡ 0 → (Kept row ≡ whole) × (after ≡ left)
+        order-yes x = (ap Kept (told .1) ∙ sym (final ∙ rw (eq-eqb no 0 x)), final-left)

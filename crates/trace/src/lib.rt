@@ -11,7 +11,7 @@ ghost use Rattle.trace.specs.Reads.{fieldsOf, headed};
 use csv::Status;
 use csv_field::Span;
 use rows::refusal;
-ghost use Rattle.rows.specs.Limits.{ROWS};
+ghost use Rattle.rows.specs.Limits.{ROWS, PROCESSES};
 
 // The numbers of a call: the header word, the model, and the limits of rows, processes and bytes.
 pub struct Call {
@@ -114,7 +114,7 @@ fn read_trace(
     byte_limit: usize,
     rows: &mut [u32],
 ) -> Checked
-    requires { ⌜ («row_limit» ≤ ROWS) × (6 * «row_limit» ≤ length (now rows)) ⌝ }
+    requires { ⌜ («row_limit» ≤ ROWS) × (6 * «row_limit» ≤ length (now rows)) × («process_limit» ≤ PROCESSES) ⌝ }
     ensures answer { λ r. ⌜ r ≡ checkedOf (readTrace header «row_limit» «process_limit» (records (now (text .entry)) «byte_limit»)) ⌝ }
     ensures held { λ r. ⌜ Holds (readTrace header «row_limit» «process_limit» (records (now (text .entry)) «byte_limit»)) (now (rows .entry)) (now (rows .exit)) ⌝ }
 {

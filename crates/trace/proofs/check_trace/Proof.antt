@@ -31,7 +31,7 @@ read-trace-requires c κs =
     let a = c .before .before .before .before .before .before .before .before .before .before .args in
     let l = legal (a .call .header) (a .call .model) (a .call .«row_limit») (a .call .«process_limit») (length (now (a .rows))) (length (now (a .counts)))
     (sym (c .before .before .before .before .before .before .ask-call .ensures) ∙ c .before .before .before .before .before .if1 .left) in
-    (l .few-rows, l .rows-fit)
+    (l .few-rows, l .rows-fit, l .few-processes)
 
 enum-known-n : tie.Need-enum-known-n
 enum-known-n c = search needs
