@@ -1,10 +1,11 @@
 -- The loop of read_rows: what holds after some rows, and what each record adds.
 use Prim.Native.Nat.{ℕ, zero, suc, _+_, _*_, _≤_, _<_}
+use native.Mathlib.Decide.{decEq}
 use native.Mathlib.Omega.{arith}
 use mathlib.Core.Path.{_≡_, refl, sym, ap, ap₂, _∙_}
 use mathlib.Core.Bool.{Bool, true, false, cond, false≢true}
 use mathlib.Core.List.{List, [], _∷_, _++_, map, append-assoc, append-nil}
-use lib.ListN.{length, take, drop, length-append, length-map}
+use lib.ListN.{length, take, drop, replicate, length-append, length-map}
 use lib.Seq.{take-at, drop-at, drop-drop, drop-append-add}
 use lib.Dec.{ltb, eqb}
 use borrow.Author.Tests.{eq-eqb, ne-eqb, eqb-true, eqb-false, ltb-true}
@@ -21,12 +22,17 @@ use Rattle.trace.specs.declared.Checked.the-variants.{Accepted, Refused}
 use Rattle.trace_numbers.specs.declared.ReadRow.{ReadRow}
 use Rattle.trace_numbers.specs.declared.ReadRow.the-variants.{Kept, No}
 use Rattle.trace.specs.Rows.{rowOf}
-use Rattle.rows.specs.Rows.{six, numbers, rowsIn}
+use Rattle.rows.specs.Rows.{six, numbers}
+use Rattle.rows.specs.Limits.{PROCESSES, MESSAGES}
 use Rattle.trace.specs.Questions.{fieldQuestions, recordQuestions, rowQuestions, messageQuestions, Outcome, refused, accepted, judgeRows, checkedOf, Holds}
 use Rattle.rows.specs.Questions.{Question, firstNo}
-use Rattle.trace.specs.Reads.{fieldsOf, judgedBy, judgedRow, judgeFrom}
-use Rattle.rows.proofs.Slices.{length-numbers, numbers-append, rows-back}
-use Rattle.trace.proofs.Asking.{no-of, kept-of}
+use Rattle.trace.specs.Reads.{fieldsOf, judgedBy, judgedRow, tableLeft, judgeFrom}
+use Rattle.messages.specs.Table.{tableQuestions, tableAfter}
+use Rattle.messages.proofs.Tables.{Tells, tells-none, tells-asks, tells-next}
+use Rattle.rows.proofs.Slices.{length-numbers, numbers-append}
+use Rattle.trace.proofs.Asking.{no-of, kept-of, first-no, all-yes, Numbered, numbered}
+use Rattle.trace.proofs.Laws.{well-formed}
+use Rattle.rows.proofs.Asking.{all-yes as every-yes}
 
 -- the records from a place on
 abbrev recordsAt : List ℕ → ℕ → ℕ → Records
@@ -37,20 +43,21 @@ abbrev judge : ℕ → ℕ → List Row → Records → Outcome
 judge R P done r = judgeRows R P done (r .rows) (r .ending)
 
 -- The code has read the rows `done` up to place `at`: the outcome is that of the rest behind them. The slice, xs₀ at first, holds their
--- numbers.
-pub record Going (R P : ℕ) (text : List ℕ) (limit start : ℕ) (xs₀ : List ℕ) (at n : ℕ) (xs : List ℕ) : Type 0 where
+-- numbers, and the table tells what they did with each message.
+pub record Going (R P : ℕ) (text : List ℕ) (limit start : ℕ) (xs₀ : List ℕ) (at n : ℕ) (xs table : List ℕ) : Type 0 where
   pub done : List Row
   pub whole : judgeFrom R P text limit start ≡ judge R P done (recordsAt text limit at)
   pub many : n ≡ length done
   pub few : n ≤ R
   pub held : xs ≡ numbers done ++ drop (6 * n) xs₀
+  pub told : Tells table done
 
 -- before the first row
-pub begin : (R P : ℕ) (text : List ℕ) (limit start : ℕ) (xs₀ : List ℕ) → Going R P text limit start xs₀ start 0 xs₀
+pub begin : (R P : ℕ) (text : List ℕ) (limit start : ℕ) (xs₀ : List ℕ) → Going R P text limit start xs₀ start 0 xs₀ (replicate MESSAGES 0)
 unfolding judgeFrom numbers
-begin R P text limit start xs₀ = record { done = []; whole = refl; many = refl; few = omega arith; held = refl }
+begin R P text limit start xs₀ = record { done = []; whole = refl; many = refl; few = omega arith; held = refl; told = tells-none }
 
-module _ {R P : ℕ} {text : List ℕ} {limit start : ℕ} {xs₀ : List ℕ} {at n : ℕ} {xs : List ℕ} (g : Going R P text limit start xs₀ at n xs) where
+module _ {R P : ℕ} {text : List ℕ} {limit start : ℕ} {xs₀ : List ℕ} {at n : ℕ} {xs table : List ℕ} (g : Going R P text limit start xs₀ at n xs table) where
   -- the outcome, by what the reader finds next
   step : (f : Finding) → readAt text at limit ≡ f → judgeFrom R P text limit start ≡ judge R P (g .done) (onFound text f (λ p. recordsAt text limit p))
   step f e =
@@ -101,13 +108,73 @@ other-fields P done false false a b h = refl
 
 -- the answer of a record is that of its first six fields and their count
 pub judged-same : (R P n : ℕ) (done : List Row) (text : List ℕ) (spans : List Span) (count : ℕ) → n ≡ length done → count ≡ length spans →
-    judgedRow R P n done count (fieldsOf text (firstSix spans)) ≡ judgedBy (firstNo (rowQuestions R P done (fieldsOf text spans))) (fieldsOf text spans)
-unfolding judgedRow recordQuestions rowQuestions judged
+    judgedBy (firstNo (recordQuestions R P n count (fieldsOf text (firstSix spans)) ++ messageQuestions done (rowOf (fieldsOf text (firstSix spans)))))
+    (fieldsOf text (firstSix spans))
+    ≡ judgedBy (firstNo (rowQuestions R P done (fieldsOf text spans))) (fieldsOf text spans)
+unfolding recordQuestions rowQuestions judged
 judged-same R P n done text spans count m c =
     let size = c ∙ sym (length-map spans (contentOf text)) in
     (λ i. judged P done (ltb (m i) R) (eqb (size i) 6) (fieldsOf text (firstSix spans)))
     ∙ other-fields P done (ltb (length done) R) (eqb (length (fieldsOf text spans)) 6) (fieldsOf text (firstSix spans)) (fieldsOf text spans)
     (λ y. ap (fieldsOf text) (all-six spans (sym c ∙ size ∙ eqb-true (length (fieldsOf text spans)) 6 y)))
+
+-- ---- One record, by the table
+
+module _ {table : List ℕ} {done : List Row} (t : Tells table done) {P : ℕ} (few : P ≤ PROCESSES) (R n count : ℕ) (fields : List (List ℕ)) where
+  -- the questions 6 to 11
+  abbrev asked : List Question
+  asked = recordQuestions R P n count fields
+
+  -- the questions of the row's message, by the table
+  abbrev by-table : List Question
+  by-table = tableQuestions table (rowOf fields)
+
+  -- the same questions, by the rows before
+  abbrev by-rows : List Question
+  by-rows = messageQuestions done (rowOf fields)
+
+  -- every question has a number
+  asked-numbered : Numbered asked
+  unfolding recordQuestions
+  asked-numbered = (omega arith, (omega arith, numbered P fields))
+
+  -- a row that passes 6 to 11 has its process and its message within the table's bounds
+  row-fits : firstNo asked ≡ 0 → (rowOf fields .process < PROCESSES) × (rowOf fields .message < MESSAGES)
+  unfolding recordQuestions fieldQuestions
+  row-fits e =
+      let q = every-yes asked (omega arith) e .1 .1 in
+      let w = well-formed P fields (q .0) (q .1 .0) (q .1 .1 .0) (q .1 .1 .1 .0) in
+      (omega (arith, w .process), w .message)
+
+  -- the first No is the same by the table and by the rows
+  first-same : firstNo (asked ++ by-table) ≡ firstNo (asked ++ by-rows)
+  first-same = go (decEq (firstNo asked) 0)
+    where
+      go : Dec (firstNo asked ≡ 0) → firstNo (asked ++ by-table) ≡ firstNo (asked ++ by-rows)
+      go (yes e) =
+          let f = row-fits e in
+          all-yes asked by-table asked-numbered e ∙ tells-asks t (rowOf fields) (f .0) (f .1) ∙ sym (all-yes asked by-rows asked-numbered e)
+      go (no f) = first-no asked by-table f ∙ sym (first-no asked by-rows f)
+
+  -- the record is the next row
+  module _ {row : Row} (k : judgedBy (firstNo (asked ++ by-table)) fields ≡ Kept row) where
+    -- 6 to 11 have Yes
+    passed : firstNo asked ≡ 0
+    passed = go (decEq (firstNo asked) 0)
+      where
+        go : Dec (firstNo asked ≡ 0) → firstNo asked ≡ 0
+        go (yes e) = e
+        go (no f) = absurd (f (sym (first-no asked by-table f) ∙ kept-of (firstNo (asked ++ by-table)) fields k .0))
+
+    -- the table tells what the rows did, the next one with them
+    tells-after : {after : List ℕ} → after ≡ tableLeft R P n table count fields → Tells after (done ++ (row ∷ []))
+    unfolding tableLeft
+    tells-after {after} e =
+        let o = kept-of (firstNo (asked ++ by-table)) fields k in
+        let f = row-fits passed in
+        let m : firstNo by-rows ≡ 0 = sym (all-yes asked by-rows asked-numbered passed) ∙ sym first-same ∙ o .0 in
+        let l : after ≡ tableAfter table (rowOf fields) = e ∙ rw (eq-eqb (firstNo asked) 0 passed) in
+        rw (l, o .1) (tells-next t (rowOf fields) (f .0) (f .1) m)
 
 -- a record without a No is within the row limit
 pub in-limit : (R P : ℕ) (done : List Row) (fields : List (List ℕ)) → eqb (firstNo (rowQuestions R P done fields)) 0 ≡ true → length done < R
@@ -121,11 +188,7 @@ in-limit R P done fields e = go (ltb (length done) R) refl e
     go true q f = ltb-true (length done) R q
     go false q f = absurd (false≢true f)
 
-module _ {R P : ℕ} {text : List ℕ} {limit start : ℕ} {xs₀ : List ℕ} {at n : ℕ} {xs : List ℕ} (g : Going R P text limit start xs₀ at n xs) where
-  -- the rows so far, read back from the slice
-  pub back : rowsIn n xs ≡ g .done
-  back = ap (λ (k : ℕ). rowsIn k xs) (g .many) ∙ ap (rowsIn (length (g .done))) (g .held) ∙ rows-back (g .done) (drop (6 * n) xs₀)
-
+module _ {R P : ℕ} {text : List ℕ} {limit start : ℕ} {xs₀ : List ℕ} {at n : ℕ} {xs table : List ℕ} (g : Going R P text limit start xs₀ at n xs table) where
   -- a record stands at `at`
   module _ {spans : List Span} {end next : ℕ} (f : readAt text at limit ≡ found spans end next) where
     -- the first No of the record
@@ -169,8 +232,9 @@ module _ {R P : ℕ} {text : List ℕ} {limit start : ℕ} {xs₀ : List ℕ} {a
           ∙ ap (λ (l : List ℕ). l ++ drop (6 * (n + 1)) xs₀) (sym (numbers-append (g .done) (row ∷ [])))
 
       -- the loop goes on behind the row
-      pub goes-on : (ys : List ℕ) → ys ≡ take (n * 6) xs ++ (six row ++ drop (n * 6 + 6) xs) → Going R P text limit start xs₀ next (n + 1) ys
-      goes-on ys e =
+      pub goes-on : (ys : List ℕ) → ys ≡ take (n * 6) xs ++ (six row ++ drop (n * 6 + 6) xs) → {after : List ℕ} → Tells after (g .done ++ (row ∷ [])) →
+          Going R P text limit start xs₀ next (n + 1) ys after
+      goes-on ys e told =
           let t = kept-of first (fieldsOf text spans) j in
           record {
             done = g .done ++ (row ∷ []);
@@ -178,10 +242,11 @@ module _ {R P : ℕ} {text : List ℕ} {limit start : ℕ} {xs₀ : List ℕ} {a
             many = omega (arith, g .many, length-append (g .done) (row ∷ []));
             few = omega (arith, room);
             held = laid ys e;
+            told = told;
           }
 
 -- The laws above, by what the calls answered: r is the reading at the place, j the answer of its first six fields.
-module _ {R P : ℕ} {text : List ℕ} {limit start : ℕ} {xs₀ : List ℕ} {at n : ℕ} {xs : List ℕ} (g : Going R P text limit start xs₀ at n xs)
+module _ {R P : ℕ} {text : List ℕ} {limit start : ℕ} {xs₀ : List ℕ} {at n : ℕ} {xs table : List ℕ} (g : Going R P text limit start xs₀ at n xs table)
     {r : Reading} (e : r ≡ readingOf (readAt text at limit)) (a : r .status ≡ Record) where
   told : Told (readAt text at limit) r
   told = tells (readAt text at limit) r e a
@@ -193,10 +258,19 @@ module _ {R P : ℕ} {text : List ℕ} {limit start : ℕ} {xs₀ : List ℕ} {a
       let p = found-places text at limit (t .spans) (t .end) (t .next) (t .is-found) in
       (omega (arith, p .2, t .place), omega (arith, p .3, t .place))
 
-  module _ {j : ReadRow} (je : j ≡ judgedRow R P n (rowsIn n xs) (r .count) (fieldsOf text (r .spans))) where
+  module _ (few : P ≤ PROCESSES) {j : ReadRow} {after : List ℕ}
+      (je : (j ≡ judgedRow R P n table (r .count) (fieldsOf text (r .spans))) × (after ≡ tableLeft R P n table (r .count) (fieldsOf text (r .spans)))) where
+    -- the answer of the first six fields by the table
+    six-fields : j ≡ judgedBy (firstNo (asked (g .told) few R n (r .count) (fieldsOf text (r .spans)) ++ tableQuestions table (rowOf (fieldsOf text (r .spans))))) (fieldsOf text (r .spans))
+    unfolding judgedRow
+    six-fields = je .0
+
+    -- the answer is that of the whole record behind the rows before
     whole-record : j ≡ judgedBy (firstNo (rowQuestions R P (g .done) (fieldsOf text (told .spans)))) (fieldsOf text (told .spans))
     whole-record =
-        je ∙ (λ i. judgedRow R P n (back g i) (r .count) (fieldsOf text (told .kept i)))
+        six-fields
+        ∙ ap (λ (x : ℕ). judgedBy x (fieldsOf text (r .spans))) (first-same (g .told) few R n (r .count) (fieldsOf text (r .spans)))
+        ∙ (λ i. judgedBy (firstNo (recordQuestions R P n (r .count) (fieldsOf text (told .kept i)) ++ messageQuestions (g .done) (rowOf (fieldsOf text (told .kept i))))) (fieldsOf text (told .kept i)))
         ∙ judged-same R P n (g .done) text (told .spans) (r .count) (g .many) (told .count)
 
     -- a record with a No is refused
@@ -213,10 +287,12 @@ module _ {R P : ℕ} {text : List ℕ} {limit start : ℕ} {xs₀ : List ℕ} {a
           room g (t .is-found) row (sym whole-record ∙ q)
 
       -- the loop goes on behind the row
-      pub next-row : {ys : List ℕ} → ys ≡ take (n * 6) xs ++ (six row ++ drop (n * 6 + 6) xs) → Going R P text limit start xs₀ (r .next) (n + 1) ys
+      pub next-row : {ys : List ℕ} → ys ≡ take (n * 6) xs ++ (six row ++ drop (n * 6 + 6) xs) → Going R P text limit start xs₀ (r .next) (n + 1) ys after
       next-row {ys} l =
           let t = told in
-          rw (t .place) (goes-on g (t .is-found) row (sym whole-record ∙ q) ys l)
+          rw (t .place)
+          (goes-on g (t .is-found) row (sym whole-record ∙ q) ys l
+          (tells-after (g .told) few R n (r .count) (fieldsOf text (r .spans)) (sym six-fields ∙ q) (je .1)))
 
 -- what read_rows answers and holds where the outcome is a refusal
 pub refusal : {o : Outcome} {k p : ℕ} (xs ys : List ℕ) → o ≡ refused k p → (Refused k p ≡ checkedOf o) × Holds o xs ys

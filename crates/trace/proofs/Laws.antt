@@ -58,7 +58,7 @@ field-in false below [] h f n = (h, refl)
 field-in false below (b ∷ t) h f n = absurd (false≢true f)
 
 -- the row of a record that passes the questions 8 to 11 is well formed
-well-formed : (processLimit : ℕ) (fields : List (List ℕ)) → kindKnown fields ≡ true → filledAsUsed fields ≡ true →
+pub well-formed : (processLimit : ℕ) (fields : List (List ℕ)) → kindKnown fields ≡ true → filledAsUsed fields ≡ true →
     numbersInRange processLimit fields ≡ true → endInRange (rowOf fields) ≡ true → WellFormed processLimit (rowOf fields)
 unfolding rowOf filledAsUsed numbersInRange
 well-formed processLimit fields k f n e =

@@ -1,6 +1,4 @@
 pub mod Laws
-pub mod Slices
-pub mod Earlier
 pub mod Asking
 pub mod Going
 pub mod Whole
