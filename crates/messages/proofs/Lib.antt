@@ -1,1 +1,4 @@
 pub mod Putting
+pub mod Asks
+pub mod Entries
+pub mod Tables
