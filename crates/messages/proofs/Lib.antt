@@ -1,2 +1,5 @@
 pub mod Asks
 pub mod Putting
+pub mod Asks
+pub mod Entries
+pub mod Tables

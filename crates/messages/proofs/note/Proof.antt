@@ -25,16 +25,20 @@ same-length c = search needs
 
 returns : tie.Need-returns
 returns c =
-    let a = c .before .before .before .before .before .before .before .before .before .args in
-    note-send (now (a .table)) (a .row) (c .before .before .before .before .before .match .keys1) (c .before .before .before .before .before .before .entry-for .ensures) (c .before .before .before .with-send .ensures) (c .before .before .store .ensures)
+    let m = c .before .before .before .before .before in
+    let e = m .before in
+    let a = e .before .before .before .args in
+    note-send (now (a .table)) (a .row) (m .match .keys1) (e .entry-for .ensures) (c .before .before .before .with-send .ensures) (c .before .before .store .ensures)
 
 same-length-2 : tie.Need-same-length-2
 same-length-2 c = search needs
 
 returns-2 : tie.Need-returns-2
 returns-2 c =
-    let a = c .before .before .before .before .before .before .before .before .before .args in
-    note-recv (now (a .table)) (a .row) (c .before .before .before .before .before .match .keys2) (c .before .before .before .before .before .before .entry-for .ensures) (c .before .before .before .with-recv .ensures) (c .before .before .store2 .ensures)
+    let m = c .before .before .before .before .before in
+    let e = m .before in
+    let a = e .before .before .before .args in
+    note-recv (now (a .table)) (a .row) (m .match .keys2) (e .entry-for .ensures) (c .before .before .before .with-recv .ensures) (c .before .before .store2 .ensures)
 
 same-length-3 : tie.Need-same-length-3
 same-length-3 c = search needs
