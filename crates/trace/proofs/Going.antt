@@ -1,6 +1,6 @@
 -- The loop of read_rows: what holds after some rows, and what each record adds.
 use Prim.Native.Nat.{ℕ, zero, suc, _+_, _*_, _≤_, _<_}
-use native.Mathlib.Decide.{decEq}
+use native.Mathlib.Decide.{decLt}
 use native.Mathlib.Omega.{arith}
 use mathlib.Core.Path.{_≡_, refl, sym, ap, ap₂, _∙_}
 use mathlib.Core.Bool.{Bool, true, false, cond, false≢true}
@@ -148,23 +148,26 @@ module _ {table : List ℕ} {done : List Row} (t : Tells table done) {P : ℕ} (
 
   -- the first No is the same by the table and by the rows
   first-same : firstNo (asked ++ by-table) ≡ firstNo (asked ++ by-rows)
-  first-same = go (decEq (firstNo asked) 0)
+  first-same = go (decLt 0 (firstNo asked))
     where
-      go : Dec (firstNo asked ≡ 0) → firstNo (asked ++ by-table) ≡ firstNo (asked ++ by-rows)
-      go (yes e) =
+      go : Dec (0 < firstNo asked) → firstNo (asked ++ by-table) ≡ firstNo (asked ++ by-rows)
+      go (yes l) = let some : firstNo asked ≡ 0 → ⊥ = λ e. omega arith in first-no asked by-table some ∙ sym (first-no asked by-rows some)
+      go (no l) =
+          let e : firstNo asked ≡ 0 = omega arith in
           let f = row-fits e in
           all-yes asked by-table asked-numbered e ∙ tells-asks t (rowOf fields) (f .0) (f .1) ∙ sym (all-yes asked by-rows asked-numbered e)
-      go (no f) = first-no asked by-table f ∙ sym (first-no asked by-rows f)
 
   -- the record is the next row
   module _ {row : Row} (k : judgedBy (firstNo (asked ++ by-table)) fields ≡ Kept row) where
     -- 6 to 11 have Yes
     passed : firstNo asked ≡ 0
-    passed = go (decEq (firstNo asked) 0)
+    passed = go (decLt 0 (firstNo asked))
       where
-        go : Dec (firstNo asked ≡ 0) → firstNo asked ≡ 0
-        go (yes e) = e
-        go (no f) = absurd (f (sym (first-no asked by-table f) ∙ kept-of (firstNo (asked ++ by-table)) fields k .0))
+        go : Dec (0 < firstNo asked) → firstNo asked ≡ 0
+        go (yes l) =
+            let some : firstNo asked ≡ 0 → ⊥ = λ e. omega arith in
+            absurd (some (sym (first-no asked by-table some) ∙ kept-of (firstNo (asked ++ by-table)) fields k .0))
+        go (no l) = omega arith
 
     -- the table tells what the rows did, the next one with them
     tells-after : {after : List ℕ} → after ≡ tableLeft R P n table count fields → Tells after (done ++ (row ∷ []))

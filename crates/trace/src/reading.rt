@@ -74,7 +74,15 @@ pub(crate) fn read_rows(
             }
             Status::Record => {
                 let spans = r.spans;
-                match judge_row(text, r.count, spans, &mut table, n, row_limit, process_limit) {
+                match judge_row(
+                    text,
+                    r.count,
+                    spans,
+                    &mut table,
+                    n,
+                    row_limit,
+                    process_limit,
+                ) {
                     ReadRow::No(k) => {
                         return Checked::Refused(k, place);
                     }

@@ -12,12 +12,13 @@ use mathlib.Core.Path.{_≡_, refl, _∙_}
 use Rattle.trace.proofs.reading.read_rows.Statement.{statement}
 use Rattle.trace.proofs.reading.read_rows.Tie as tie
 
--- The outcome is that of the records from `at` on behind the n rows read so far, and the slice holds those rows.
+-- The outcome is that of the records from `at` on behind the n rows read so far, the slice holds those rows, and the table tells of them.
 abbrev Inv-loop : tie.InvT-loop
-Inv-loop text start row-limit process-limit byte-limit rows₀ at₀ n₀ rows at n = Going row-limit process-limit text byte-limit start rows₀ at n rows × (length rows ≡ length rows₀)
+Inv-loop text start row-limit process-limit byte-limit rows₀ table₀ at₀ n₀ rows table at n =
+    Going row-limit process-limit text byte-limit start rows₀ at n rows table × (length rows ≡ length rows₀)
 
 abbrev μ-loop : tie.MeasureT-loop
-μ-loop text start row-limit process-limit byte-limit rows₀ at₀ n₀ rows at n = length text - at
+μ-loop text start row-limit process-limit byte-limit rows₀ table₀ at₀ n₀ rows table at n = length text - at
 
 loop-holds : tie.Need-loop-holds Inv-loop μ-loop
 loop-holds c =
@@ -36,8 +37,8 @@ add-place c = omega (arith, c .before .loop .inv .0 .few, c .before .before .bef
 enum-told : tie.Need-enum-told Inv-loop μ-loop
 enum-told c = search needs
 
-cast-t16 : tie.Need-cast-t16 Inv-loop μ-loop
-cast-t16 c = omega (arith, c .before .before .before .loop .inv .0 .few, c .before .before .before .before .before .before .pre .0)
+cast-t17 : tie.Need-cast-t17 Inv-loop μ-loop
+cast-t17 c = omega (arith, c .before .before .before .loop .inv .0 .few, c .before .before .before .before .before .before .pre .0)
 
 same-length : tie.Need-same-length Inv-loop μ-loop
 same-length c = c .before .before .before .loop .inv .1
@@ -46,13 +47,8 @@ returns : tie.Need-returns Inv-loop μ-loop
 returns c =
     let a = c .before .before .before .before .before .before .args in
     let l = c .before .before .before .loop in
-    let text = now (a .text) in (
-      at-end (l .inv .0) (tells (readAt text (l .at) (a .byte-limit)) (c .before .before .read-record .result)
-          (c .before .before .read-record .ensures) (c .enum-told .given .1)),
-      end-held (l .inv .0)
-          (tells (readAt text (l .at) (a .byte-limit)) (c .before .before .read-record .result) (c .before .before .read-record .ensures)
-          (c .enum-told .given .1)),
-    )
+    let found = tells (readAt (now (a .text)) (l .at) (a .byte-limit)) (c .before .before .read-record .result) (c .before .before .read-record .ensures) (c .enum-told .given .1) in
+    (at-end (l .inv .0) found, end-held (l .inv .0) found)
 
 enum-told-2 : tie.Need-enum-told-2 Inv-loop μ-loop
 enum-told-2 c = search needs
@@ -64,10 +60,8 @@ returns-2 : tie.Need-returns-2 Inv-loop μ-loop
 returns-2 c =
     let a = c .before .before .before .before .before .before .args in
     let l = c .before .before .before .loop in
-    let rows = now (a .rows) in
-    let text = now (a .text) in
-    refusal rows (l .rows) (at-malformed (l .inv .0) (tells (readAt text (l .at) (a .byte-limit)) (c .before .before .read-record .result)
-    (c .before .before .read-record .ensures) (c .enum-told2 .given .1)))
+    let found = tells (readAt (now (a .text)) (l .at) (a .byte-limit)) (c .before .before .read-record .result) (c .before .before .read-record .ensures) (c .enum-told2 .given .1) in
+    refusal (now (a .rows)) (l .rows) (at-malformed (l .inv .0) found)
 
 enum-told-3 : tie.Need-enum-told-3 Inv-loop μ-loop
 enum-told-3 c = search needs
@@ -79,18 +73,14 @@ returns-3 : tie.Need-returns-3 Inv-loop μ-loop
 returns-3 c =
     let a = c .before .before .before .before .before .before .args in
     let l = c .before .before .before .loop in
-    let rows = now (a .rows) in
-    let text = now (a .text) in
-    refusal rows (l .rows) (at-limit (l .inv .0) (tells (readAt text (l .at) (a .byte-limit)) (c .before .before .read-record .result)
-    (c .before .before .read-record .ensures) (c .enum-told3 .given .1)))
+    let found = tells (readAt (now (a .text)) (l .at) (a .byte-limit)) (c .before .before .read-record .result) (c .before .before .read-record .ensures) (c .enum-told3 .given .1) in
+    refusal (now (a .rows)) (l .rows) (at-limit (l .inv .0) found)
 
 enum-told-4 : tie.Need-enum-told-4 Inv-loop μ-loop
 enum-told-4 c = search needs
 
 judge-row-requires : tie.Need-judge-row-requires Inv-loop μ-loop
-judge-row-requires c κs =
-    let l = c .before .before .before .before .before .loop in
-    omega (arith, l .inv .0 .few, l .inv .1, c .before .before .before .before .before .before .before .before .pre .1)
+judge-row-requires c κs = search needs
 
 enum-known-k : tie.Need-enum-known-k Inv-loop μ-loop
 enum-known-k c = search needs
@@ -102,10 +92,8 @@ returns-4 : tie.Need-returns-4 Inv-loop μ-loop
 returns-4 c =
     let a = c .before .before .before .before .before .before .before .before .before .before .before .before .args in
     let l = c .before .before .before .before .before .before .before .before .before .loop in
-    let rows = now (a .rows) in
-    refusal rows (l .rows) (no-row (l .inv .0) (c .before .before .before .before .before .before .before .before .read-record .ensures)
-    (c .before .before .before .before .before .before .enum-told4 .given .1) (c .before .before .before .judge-row .ensures)
-    (c .before .k .given .1))
+    refusal (now (a .rows)) (l .rows)
+    (no-row (l .inv .0) (c .before .before .before .before .before .before .before .before .read-record .ensures) (c .before .before .before .before .before .before .enum-told4 .given .1) (c .before .before .before .before .before .before .before .before .before .before .before .before .pre .2) (c .before .before .before .judge-row .ensures) (c .before .k .given .1))
 
 enum-known-row : tie.Need-enum-known-row Inv-loop μ-loop
 enum-known-row c = search needs
@@ -117,22 +105,19 @@ add-n : tie.Need-add-n Inv-loop μ-loop
 add-n c = omega (arith, c .before .before .before .before .before .before .before .before .before .before .before .before .before .loop .inv .0 .few, c .before .before .before .before .before .before .before .before .before .before .before .before .before .before .before .before .pre .0)
 
 loop-less : tie.Need-loop-less Inv-loop μ-loop
-loop-less c =
-    let l = c .before .before .before .before .before .before .before .before .before .before .before .before .before .loop in
-    omega (arith, onward (l .inv .0) (c .before .before .before .before .before .before .before .before .before .before .before .before .read-record .ensures) (c .before .before .before .before .before .before .before .before .before .before .enum-told4 .given .1))
+loop-less c = omega (arith, onward (c .before .before .before .before .before .before .before .before .before .before .before .before .before .loop .inv .0) (c .before .before .before .before .before .before .before .before .before .before .before .before .read-record .ensures) (c .before .before .before .before .before .before .before .before .before .before .enum-told4 .given .1))
 
 loop-again : tie.Need-loop-again Inv-loop μ-loop
 loop-again c =
-    let b = c .before .before .before in
-    let l = b .before .before .before .before .before .before .before .before .before .before .loop in
-    let read = b .before .before .before .before .before .before .before .before .before .read-record .ensures in
-    let told = b .before .before .before .before .before .before .before .enum-told4 .given .1 in
-    let judged = b .before .before .before .before .judge-row .ensures in
-    let kept = b .before .before .row .given .1 in
-    let limits = b .before .before .before .before .before .before .before .before .before .before .before .before .before .pre in
-    let room : l .n * 6 + 6 ≤ length (l .rows) = omega (arith, row-room (l .inv .0) read told judged kept, l .inv .1, limits .1) in
-    let put = c .before .before .put-row .ensures ∙ with-room (l .n) (b .before .before .row .given .0 .0) (l .rows) room in
-    (next-row (l .inv .0) read told judged kept put, c .before .before .put-row .kept .0 ∙ l .inv .1)
+    let l = c .before .before .before .before .before .before .before .before .before .before .before .before .before .loop in
+    let read = c .before .before .before .before .before .before .before .before .before .before .before .before .read-record .ensures in
+    let told = c .before .before .before .before .before .before .before .before .before .before .enum-told4 .given .1 in
+    let few = c .before .before .before .before .before .before .before .before .before .before .before .before .before .before .before .before .pre .2 in
+    let judged = c .before .before .before .before .before .before .before .judge-row .ensures in
+    let kept = c .before .before .before .before .before .row .given .1 in
+    let room : l .n * 6 + 6 ≤ length (l .rows) = omega (arith, row-room (l .inv .0) read told few judged kept, l .inv .1, c .before .before .before .before .before .before .before .before .before .before .before .before .before .before .before .before .pre .1) in
+    let put = c .before .before .put-row .ensures ∙ with-room (l .n) (c .before .before .before .before .before .row .given .0 .0) (l .rows) room in
+    (next-row (l .inv .0) read told few judged kept put, c .before .before .put-row .kept .0 ∙ l .inv .1)
 
 pub read-rows-spec : {M : Type 1} → statement M
 read-rows-spec =
@@ -145,7 +130,7 @@ read-rows-spec =
     cast-place
     add-place
     enum-told
-    cast-t16
+    cast-t17
     same-length
     returns
     enum-told-2
