@@ -1,6 +1,6 @@
 -- `messages::entry_for` meets its contract.
 use borrow.Author.Needs.{needs}
-use mathlib.Core.Path.{sym}
+use mathlib.Core.Path.{refl, sym}
 use denote.Ref.{now}
 use lib.ListN.{List·getD-eq-default}
 use Rattle.messages.proofs.entry_for.Statement.{statement}
@@ -16,7 +16,7 @@ shared-slice-read-result : tie.Need-shared-slice-read-result
 shared-slice-read-result c = search needs
 
 returns : tie.Need-returns
-returns c = search needs
+returns c = refl
 
 returns-2 : tie.Need-returns-2
 returns-2 c = sym (List·getD-eq-default (now (c .before .before .args .table)) 0 (c .if1 .left))
