@@ -7,13 +7,14 @@ use mathlib.Core.Path.{_≡_, refl, sym, ap, _∙_}
 use mathlib.Core.Bool.{cond}
 use mathlib.Core.List.{List, _++_, append-assoc}
 use lib.ListN.{length, getD, take, drop, replicate, length-append, length-replicate, replicate-append-replicate, List·getD-append}
-use lib.Seq.{take-at, drop-at, getD-append-add, drop-drop, drop-append-add}
+use lib.Seq.{take-at, drop-at, getD-append-add, drop-append-add}
 use lib.Dec.{eqb}
 use Rattle.rows.specs.declared.Row.{Row}
-use Rattle.rows.specs.Rows.{rowsIn, rowHere, rowAt, rowIn}
+use Rattle.rows.specs.Rows.{rowsIn, rowAt, rowIn}
 use Rattle.rows.specs.Counting.{values, blocks, lastBelow}
 use Rattle.happens_before.specs.Order.{delivers, count, countsOf}
 use Rattle.happens_before.specs.Clock.{lastOf, fromLast, joinedTo, clock, cellIn, withCounts, filledRow}
+use Rattle.happens_before.specs.Tables.{Tables}
 use Rattle.happens_before.proofs.Cells.{values-length, values-at, values-same}
 use Rattle.happens_before.proofs.Joins.{last-low, joined-same}
 use Rattle.happens_before.proofs.Clocks.{count-most, vector-clock}
@@ -82,6 +83,13 @@ module _ (n P L : ℕ) (xs : List ℕ) where
   -- The slice with the counts of the first j rows, then 0.
   abbrev pub filledTo : ℕ → List ℕ
   filledTo j = rowsOf P counted j ++ replicate (L - j * P) 0
+
+  -- After j rows: their counts are filled, the rest of the slice is 0, and the tables tell of those rows.
+  pub record Passed (counts lasts heads earlier : List ℕ) (j : ℕ) : Type 0 where
+    pub low : j ≤ n
+    pub size : length counts ≡ L
+    pub filled : counts ≡ filledTo j
+    pub tables : Tables xs j lasts heads earlier
 
   module _ (j : ℕ) (h : j < n) where
     abbrev rows : List Row

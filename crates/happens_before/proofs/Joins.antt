@@ -1,16 +1,15 @@
 -- The last row of a process, the sends that a row receives, and a row's counts joined from those of other rows.
 use Prim.Native.Nat.{ℕ, zero, suc, _+_, _*_, _-_, _≤_, _<_, max}
-use native.Mathlib.Nat.{max-zero, zero-max, max-le, add-zero}
-use native.Mathlib.Numerals.{add-one}
+use native.Mathlib.Nat.{max-zero, zero-max, max-le, add-zero, sub-add-eq-max}
 use native.Mathlib.Decide.{ℕ-discrete}
 use native.Mathlib.Omega.{arith}
 use mathlib.Core.Path.{_≡_, refl, sym, ap, ap₂, _∙_}
-use mathlib.Core.Bool.{Bool, true, false, cond, and-false}
+use mathlib.Core.Bool.{Bool, true, false, cond, and-false, false≢true}
 use mathlib.Core.List.{List, _++_}
 use lib.ListN.{length, getD, take, drop, set, length-set}
 use lib.Seq.{getD-drop, getD-set-same, getD-set-other, take-set-le, drop-set-lt}
 use lib.Dec.{eqb}
-use borrow.Author.Tests.{eq-eqb, ne-eqb}
+use borrow.Author.Tests.{eq-eqb, ne-eqb, eqb-true}
 use Rattle.rows.specs.Kinds.{SEND, RECV}
 use Rattle.rows.specs.Rows.{rowHere, rowIn}
 use Rattle.rows.specs.Counting.{values, lastBelow}
@@ -18,7 +17,10 @@ use Rattle.happens_before.specs.Order.{delivers}
 use Rattle.happens_before.specs.Clock.{lastOf, fromLast, joinedTo, cellIn, withCounts, joinedRow, joinedLast, joinedSends, withOwn, filledRow}
 use Rattle.happens_before.proofs.Cells.{put, values-same, put-same, put-at, put-before, put-behind, put-next, put-over, put-length}
 use Rattle.rows.specs.Limits.{ROWS}
+use Rattle.rows.proofs.Bools.{and-out}
+use Rattle.rows.proofs.Below.{last-most, last-again, last-passes}
 use Rattle.rows.proofs.Products.{block-before}
+use Rattle.happens_before.specs.Tables.{chainOf, inChain, lastSend}
 
 -- ---- Rows of a slice
 
@@ -29,46 +31,19 @@ module _ (xs : List ℕ) (k : ℕ) where
   process-in = getD-drop (k * 6) xs 0 0 ∙ ap (λ (i : ℕ). getD xs i 0) (add-zero (k * 6))
 
   -- The kind of row k is its second number.
-  kind-in : rowIn xs k .kind ≡ getD xs (k * 6 + 1) 0
+  pub kind-in : rowIn xs k .kind ≡ getD xs (k * 6 + 1) 0
   unfolding rowHere
   kind-in = getD-drop (k * 6) xs 1 0
 
   -- The message of row k is its last number.
-  message-in : rowIn xs k .message ≡ getD xs (k * 6 + 5) 0
+  pub message-in : rowIn xs k .message ≡ getD xs (k * 6 + 5) 0
   unfolding rowHere
   message-in = getD-drop (k * 6) xs 5 0
 
 -- The last row of a process lies below the bound.
 pub last-low : (f : ℕ → ℕ) (q n : ℕ) → lastOf f q n ≤ n
-unfolding lastOf lastBelow
-last-low f q zero = omega arith
-last-low f q (suc n) = go (eqb (f n) q) (last-low f q n)
-  where
-    go : (b : Bool) → lastOf f q n ≤ n → cond b (suc n) (lastOf f q n) ≤ suc n
-    go true h = omega arith
-    go false h = omega arith
-
--- Of no rows, none is the last of a process.
-pub last-empty : (f : ℕ → ℕ) (q : ℕ) {n : ℕ} → n ≤ 0 → lastOf f q n ≡ 0
-unfolding lastOf lastBelow
-last-empty f q {n} h = let e : n ≡ 0 = omega arith in ap (λ (i : ℕ). lastOf f q i) e
-
-module _ (xs : List ℕ) (q n : ℕ) (h : 0 < n) where
-  abbrev last : ℕ → ℕ
-  last i = lastOf (λ k. rowIn xs k .process) q i
-
-  split : n ≡ suc (n - 1)
-  split = omega arith
-
-  -- Where row n - 1 is of the process, that row is the last.
-  pub last-here : getD xs ((n - 1) * 6) 0 ≡ q → last n ≡ n
-  unfolding lastOf lastBelow
-  last-here e = ap last split ∙ rw (process-in xs (n - 1), eq-eqb (getD xs ((n - 1) * 6) 0) q e) (sym split)
-
-  -- Where row n - 1 is of another process, the rows before decide.
-  pub last-before : (getD xs ((n - 1) * 6) 0 ≡ q → ⊥) → last n ≡ last (n - 1)
-  unfolding lastOf lastBelow
-  last-before e = ap last split ∙ rw (process-in xs (n - 1), ne-eqb (getD xs ((n - 1) * 6) 0) q e)
+unfolding lastOf
+last-low f q n = last-most n (λ i. eqb (f i) q)
 
 module _ (xs : List ℕ) (k j : ℕ) where
   -- A row that is no send delivers nothing.
@@ -172,33 +147,144 @@ module _ (P : ℕ) (l : List ℕ) (j : ℕ) (fits : j * P + P ≤ length l) wher
 
 -- ---- The sends joined
 
--- Row j's counts joined with those of the sends below k that row j receives.
-abbrev pub sent : ℕ → List ℕ → List ℕ → ℕ → ℕ → ℕ → ℕ
-sent P xs l j k p = joinedTo (λ i. delivers (rowIn xs i) (rowIn xs j)) (λ i. cellIn P l i p) (cellIn P l j p) k
+-- Of three numbers the larger two join in either order.
+max-swap : (a b c : ℕ) → max (max a b) c ≡ max (max a c) b
+max-swap a b c =
+    let swap : a - b + b - c + c ≡ a - c + c - b + b = omega arith in
+    sym (λ i. sub-add-eq-max (sub-add-eq-max a b i) c i) ∙ swap ∙ (λ i. sub-add-eq-max (sub-add-eq-max a c i) b i)
+
+module _ (sends : ℕ → Bool) (f : ℕ → ℕ) where
+  -- What is joined with the start is joined with the whole.
+  joined-start : (a b n : ℕ) → joinedTo sends f (max a b) n ≡ max (joinedTo sends f a n) b
+  unfolding joinedTo
+  joined-start a b zero = refl
+  joined-start a b (suc n) = go (sends n) (joined-start a b n)
+    where
+      go : (t : Bool) → joinedTo sends f (max a b) n ≡ max (joinedTo sends f a n) b →
+          cond t (max (joinedTo sends f (max a b) n) (f n)) (joinedTo sends f (max a b) n)
+          ≡ max (cond t (max (joinedTo sends f a n) (f n)) (joinedTo sends f a n)) b
+      go true rest = ap (λ (x : ℕ). max x (f n)) rest ∙ max-swap (joinedTo sends f a n) b (f n)
+      go false rest = rest
+
+  -- The sends below n are those up to the last that passes a test that every send passes.
+  joined-skip : (test : ℕ → Bool) → ((k : ℕ) → sends k ≡ true → test k ≡ true) → (a n : ℕ) →
+      joinedTo sends f a n ≡ joinedTo sends f a (lastBelow n test)
+  unfolding joinedTo lastBelow
+  joined-skip test h a zero = refl
+  joined-skip test h a (suc n) = go (test n) refl (sends n) refl (joined-skip test h a n)
+    where
+      go : (t : Bool) → test n ≡ t → (s : Bool) → sends n ≡ s → joinedTo sends f a n ≡ joinedTo sends f a (lastBelow n test) →
+          joinedTo sends f a (suc n) ≡ joinedTo sends f a (cond t (suc n) (lastBelow n test))
+      go true e s d rest = refl
+      go false e true d rest = absurd (false≢true (sym e ∙ h n d))
+      go false e false d rest = rw d rest
+
+-- Every send that row j receives is in the chain of row j's message.
+received-chain : (xs : List ℕ) (j k : ℕ) → delivers (rowIn xs k) (rowIn xs j) ≡ true → inChain xs (chainOf (rowIn xs j .message)) k ≡ true
+received-chain xs j k d =
+    let a = and-out (eqb (rowIn xs k .kind) SEND) _ d in
+    let b = and-out (eqb (rowIn xs j .kind) RECV) _ (a .1) in
+    let m = eqb-true (rowIn xs k .message) (rowIn xs j .message) (b .1) in
+    rw (a .0) (eq-eqb (chainOf (rowIn xs k .message)) (chainOf (rowIn xs j .message)) (ap chainOf m))
+
+-- The sends of row j's message are joined from the last to the first: `next` is 0 or names a send of the chain, row j's counts joined with those
+-- of the sends below `next` are those of all sends, and nothing but row j's counts has changed.
+pub record Joining (P : ℕ) (xs l : List ℕ) (j : ℕ) (x : List ℕ) (next : ℕ) : Type 0 where
+  pub low : next ≤ j
+  pub linked : lastSend xs (chainOf (rowIn xs j .message)) next ≡ next
+  pub size : length x ≡ length l
+  pub others : x ≡ withCounts P l j (cellIn P x j)
+  pub left : (p : ℕ) → p < P →
+      joinedTo (λ i. delivers (rowIn xs i) (rowIn xs j)) (λ i. cellIn P l i p) (cellIn P x j p) next ≡ joinedSends P xs l j p
 
 module _ (P : ℕ) (xs l : List ℕ) (j : ℕ) (fits : j * P + P ≤ length l) where
-  -- Before any row is looked at, the slice is as it was.
-  pub sends-first : l ≡ withCounts P l j (sent P xs l j 0)
-  unfolding joinedTo
-  sends-first = put-same (j * P) P l fits (λ p h. refl)
+  -- Row j receives what row i sends.
+  abbrev sends : ℕ → Bool
+  sends i = delivers (rowIn xs i) (rowIn xs j)
+
+  -- The last send of row j's chain below a row.
+  abbrev previous : ℕ → ℕ
+  previous = lastSend xs (chainOf (rowIn xs j .message))
+
+  -- Row j's counts joined with those of the sends below n are those joined with the sends up to the chain's last send below n.
+  skipped : (p a n : ℕ) → joinedTo sends (λ i. cellIn P l i p) a n ≡ joinedTo sends (λ i. cellIn P l i p) a (previous n)
+  skipped p a n = joined-skip sends (λ i. cellIn P l i p) (inChain xs (chainOf (rowIn xs j .message))) (received-chain xs j) a n
 
   -- A row that is no recv joins nothing.
   pub sends-none : (getD xs (j * 6 + 1) 0 ≡ RECV → ⊥) → l ≡ withCounts P l j (joinedSends P xs l j)
   sends-none e = put-same (j * P) P l fits (λ p h. sym (joined-none _ _ _ j (λ k. sym (no-recv xs k j e))))
 
-  module _ {x : List ℕ} {b : Bool} (k : ℕ) (e : x ≡ withCounts P l j (sent P xs l j k)) (d : b ≡ delivers (rowIn xs k) (rowIn xs j)) where
-    -- Where row j does not receive from row k, the counts stay.
-    pub sends-skip : b ≡ false → x ≡ withCounts P l j (sent P xs l j (k + 1))
-    unfolding joinedTo
-    sends-skip q = e ∙ with-same P l j (λ p m. sym (rw (add-one, sym d ∙ q)))
+  -- The chain's last send below row j comes first.
+  pub sends-first : {next : ℕ} → next ≡ previous j → Joining P xs l j l next
+  sends-first e =
+      record {
+        low = rw e (last-most j _);
+        linked = rw e (last-again j _);
+        size = refl;
+        others = put-same (j * P) P l fits (λ p h. refl);
+        left = λ p h. rw e (sym (skipped p (cellIn P l j p) j));
+      }
 
-    -- Where row j receives from row k, the counts of row k are joined.
-    pub sends-join : {y : List ℕ} → k < j → b ≡ true → y ≡ withCounts P x j (joinedRow P x j k) → y ≡ withCounts P l j (sent P xs l j (k + 1))
+  -- Where no send is left, all are joined.
+  pub sends-done : {x : List ℕ} {next : ℕ} → Joining P xs l j x next → next ≤ 0 → x ≡ withCounts P l j (joinedSends P xs l j)
+  unfolding joinedTo
+  sends-done {x} {next} g h =
+      let z : next ≡ 0 = omega arith in
+      g .others ∙ with-same P l j (λ p m. ap (joinedTo sends (λ i. cellIn P l i p) (cellIn P x j p)) (sym z) ∙ g .left p m)
+
+  module _ {x : List ℕ} {next k : ℕ} (g : Joining P xs l j x next) (here : next ≡ suc k) where
+    -- The send that comes next is in the chain.
+    pub next-chained : inChain xs (chainOf (rowIn xs j .message)) k ≡ true
+    next-chained = last-passes k _ (rw here at (g .linked))
+
+    -- The send that comes next stands before row j.
+    before : k < j
+    before = omega (arith, g .low)
+
+    -- The counts that are left to join are those of the send that comes next, if row j receives it, and of those before it.
+    split : (p : ℕ) → p < P →
+        cond (sends k) (joinedTo sends (λ i. cellIn P l i p) (max (cellIn P x j p) (cellIn P l k p)) k) (joinedTo sends (λ i. cellIn P l i p) (cellIn P x j p) k)
+        ≡ joinedSends P xs l j p
     unfolding joinedTo
-    sends-join h q f =
-        let g = sent P xs l j k in
-        f ∙ (λ i. withCounts P (e i) j (joinedRow P (e i) j k)) ∙ put-over (j * P) P l g fits (joinedRow P (withCounts P l j g) j k)
-        ∙ with-same P l j (λ p m. ap₂ max (put-at (j * P) P l g fits p m) (row-kept P l j fits g h m) ∙ sym (rw (add-one, sym d ∙ q)))
+    split p h =
+        ap (λ (v : ℕ). cond (sends k) v (joinedTo sends (λ i. cellIn P l i p) (cellIn P x j p) k)) (joined-start sends (λ i. cellIn P l i p) (cellIn P x j p) (cellIn P l k p) k)
+        ∙ ap (joinedTo sends (λ i. cellIn P l i p) (cellIn P x j p)) (sym here) ∙ g .left p h
+
+    module _ {b : Bool} {after : ℕ} (d : b ≡ sends k) (link : after ≡ previous k) where
+      -- Where row j does not receive it, the chain goes on with the send before.
+      pub sends-skip : b ≡ false → Joining P xs l j x after
+      sends-skip q =
+          record {
+            low = rw link (omega (arith, last-most k (inChain xs (chainOf (rowIn xs j .message))), before));
+            linked = rw link (last-again k _);
+            size = g .size;
+            others = g .others;
+            left = λ p h. rw link (sym (skipped p (cellIn P x j p) k) ∙ rw (sym d ∙ q) at (split p h));
+          }
+
+      -- Where row j receives it, its counts are joined, and the chain goes on with the send before.
+      pub sends-join : {y : List ℕ} → b ≡ true → length y ≡ length x → y ≡ withCounts P x j (joinedRow P x j k) → Joining P xs l j y after
+      sends-join {y} q s f =
+          record {
+            low = rw link (omega (arith, last-most k (inChain xs (chainOf (rowIn xs j .message))), before));
+            linked = rw link (last-again k _);
+            size = s ∙ g .size;
+            others =
+                f ∙ (λ i. withCounts P (g .others i) j (joinedRow P x j k)) ∙ put-over (j * P) P l (cellIn P x j) fits (joinedRow P x j k)
+                ∙ with-same P l j (λ p h. sym (cell p h));
+            left = λ p h. rw (link, cell p h, kept p h) (sym (skipped p _ k) ∙ rw (sym d ∙ q) at (split p h));
+          }
+        where
+          room : j * P + P ≤ length x
+          room = omega (arith, g .size)
+
+          -- Row j's counts after the join.
+          cell : (p : ℕ) → p < P → cellIn P y j p ≡ joinedRow P x j k p
+          cell p h = ap (λ (w : List ℕ). cellIn P w j p) f ∙ put-at (j * P) P x (joinedRow P x j k) room p h
+
+          -- The counts of the send are as they were.
+          kept : (p : ℕ) → p < P → cellIn P x k p ≡ cellIn P l k p
+          kept p h = ap (λ (w : List ℕ). cellIn P w k p) (g .others) ∙ row-kept P l j fits (cellIn P x j) before h
 
 -- ---- A row filled
 

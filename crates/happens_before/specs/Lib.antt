@@ -1,3 +1,4 @@
 pub mod Order
 pub mod Clock
+pub mod Tables
 pub mod Filling

@@ -1,14 +1,19 @@
-// Fills the happens-before counts of every row of a trace: how many rows of each process happen before the row or are the row.
+// Fills the happens-before counts of every row of a trace: how many rows of each process happen before the row or are the row. One pass over
+// the rows keeps three tables of the rows before (specs/Tables.antt), so no row is looked for by a scan.
 ghost use mathlib.Core.Path.{_≡_};
 ghost use Prim.Native.Nat.{ℕ, max, _+_, _*_, _-_, _<_, _≤_};
 ghost use lib.ListN.{length};
 ghost use Rattle.rows.specs.Questions.{longEnough, firstNo};
 ghost use Rattle.happens_before.specs.Order.{delivers};
-ghost use Rattle.happens_before.specs.Clock.{lastOf, cellIn, withCounts, joinedRow, joinedLast, joinedSends, withOwn, filledRow};
+ghost use Rattle.happens_before.specs.Clock.{cellIn, withCounts, joinedRow, joinedLast, joinedSends, withOwn, filledRow};
 ghost use Rattle.rows.specs.Rows.{rowIn};
 ghost use Rattle.happens_before.specs.Filling.{processesIn, fillQuestions, filledOf, filledLeft};
+ghost use Rattle.happens_before.specs.Tables.{chainOf, Chains, Tables};
 use rows::refusal;
 ghost use Rattle.rows.specs.Limits.{ROWS, PROCESSES, FIELDS};
+
+// How many chains of sends there are. A message's chain is its remainder by this number, so any message has one.
+const CHAINS: usize = 4096;
 
 // The counts were filled, or the number of the question that was answered No.
 pub enum Filled {
@@ -29,9 +34,13 @@ pub fn fill_counts(rows: &[u32], n: u32, process_limit: u32, counts: &mut [u16])
     rows::clear_counts(counts);
     let total = n as usize;
     let processes = process_limit as usize;
+    let mut lasts = [0u16; rows::PROCESSES as usize];
+    let mut heads = [0u16; CHAINS];
+    let mut earlier = [0u16; rows::ROWS as usize];
     let mut j = 0;
     while j < total {
-        fill_row(rows, j, processes, counts);
+        fill_row(rows, j, processes, counts, &lasts, &heads, &earlier);
+        note_row(rows, j, &mut lasts, &mut heads, &mut earlier);
         j += 1;
     }
     Filled::Done
@@ -85,35 +94,51 @@ fn processes_in(rows: &[u32], n: usize, process_limit: u32) -> bool
     true
 }
 
-// Fills the counts of row j, which are 0, from the counts of the rows before row j.
-fn fill_row(rows: &[u32], j: usize, processes: usize, counts: &mut [u16])
+// Fills the counts of row j, which are 0, from the counts of the rows before row j, of which the tables tell.
+fn fill_row(
+    rows: &[u32],
+    j: usize,
+    processes: usize,
+    counts: &mut [u16],
+    lasts: &[u16],
+    heads: &[u16],
+    earlier: &[u16],
+)
     requires { ⌜ (j * FIELDS + FIELDS ≤ length (now rows)) × (processes ≤ PROCESSES) × (j * processes + processes ≤ length (now counts)) × (rowIn (now rows) j .process < processes) ⌝ }
     requires { ⌜ ((p : ℕ) → p < processes → cellIn processes (now counts) j p ≡ 0) ⌝ }
     requires { ⌜ ((k : ℕ) → (p : ℕ) → k < j → p < processes → cellIn processes (now counts) k p ≤ ROWS) ⌝ }
+    requires { ⌜ Tables (now rows) j (now lasts) (now heads) (now earlier) ⌝ }
     ensures { λ r. ⌜ now (counts .exit) ≡ withCounts processes (now (counts .entry)) j (filledRow processes (now (rows .entry)) (now (counts .entry)) j) ⌝ }
 {
     let at = j * rows::FIELDS;
     let process = rows[at];
-    let last = last_of(rows, j, process);
+    let last = lasts[process as usize] as usize;
     join_last(counts, last, j, processes);
-    join_sends(rows, j, processes, counts);
+    join_sends(rows, j, processes, counts, heads, earlier);
     add_own(counts, j, processes, process);
 }
 
-// Answers the index of the last row of the process below row j, plus one; 0 where there is none.
-fn last_of(rows: &[u32], j: usize, process: u32) -> usize
-    requires { ⌜ j * FIELDS ≤ length (now rows) ⌝ }
-    ensures { λ r. ⌜ r ≡ lastOf (λ k. rowIn (now (rows .entry)) k .process) process j ⌝ }
+// Notes row j in the tables: as the last row of its process and, if it is a send, as the head of its message's chain.
+fn note_row(rows: &[u32], j: usize, lasts: &mut [u16], heads: &mut [u16], earlier: &mut [u16])
+    requires { ⌜ (j * FIELDS + FIELDS ≤ length (now rows)) × (j < ROWS) × (rowIn (now rows) j .process < PROCESSES) ⌝ }
+    requires { ⌜ Tables (now rows) j (now lasts) (now heads) (now earlier) ⌝ }
+    ensures { λ r. ⌜ Tables (now (rows .entry)) (j + 1) (now (lasts .exit)) (now (heads .exit)) (now (earlier .exit)) ⌝ }
 {
-    let mut i = j;
-    while 0 < i {
-        let at = (i - 1) * rows::FIELDS;
-        if rows[at] == process {
-            return i;
-        }
-        i -= 1;
+    let at = j * rows::FIELDS;
+    let next = j as u16 + 1;
+    lasts[rows[at] as usize] = next;
+    if rows[at + rows::KIND_AT] == rows::SEND {
+        let chain = chain_of(rows[at + rows::MESSAGE_AT]);
+        earlier[j] = heads[chain];
+        heads[chain] = next;
     }
-    0
+}
+
+// Answers the chain of a message.
+fn chain_of(message: u32) -> usize
+    ensures { λ r. ⌜ r ≡ chainOf message ⌝ }
+{
+    message as usize % CHAINS
 }
 
 // Row j receives what row k sends.
@@ -163,21 +188,31 @@ fn join_last(counts: &mut [u16], last: usize, j: usize, processes: usize)
     }
 }
 
-// Joins the counts of every send that row j receives into those of row j.
-fn join_sends(rows: &[u32], j: usize, processes: usize, counts: &mut [u16])
+// Joins the counts of every send that row j receives into those of row j: the chain of the message leads from send to earlier send.
+fn join_sends(
+    rows: &[u32],
+    j: usize,
+    processes: usize,
+    counts: &mut [u16],
+    heads: &[u16],
+    earlier: &[u16],
+)
     requires { ⌜ (j * FIELDS + FIELDS ≤ length (now rows)) × (processes ≤ PROCESSES) × (j * processes + processes ≤ length (now counts)) ⌝ }
+    requires { ⌜ Chains (now rows) j (now heads) (now earlier) ⌝ }
     ensures { λ r. ⌜ now (counts .exit) ≡ withCounts processes (now (counts .entry)) j (joinedSends processes (now (rows .entry)) (now (counts .entry)) j) ⌝ }
 {
     let at = j * rows::FIELDS;
     if rows[at + rows::KIND_AT] != rows::RECV {
         return;
     }
-    let mut k = 0;
-    while k < j {
+    let chain = chain_of(rows[at + rows::MESSAGE_AT]);
+    let mut next = heads[chain] as usize;
+    while 0 < next {
+        let k = next - 1;
         if receives(rows, k, j) {
             join(counts, k, j, processes);
         }
-        k += 1;
+        next = earlier[k] as usize;
     }
 }
 

@@ -1,14 +1,14 @@
 -- The two passes that look for a row that races with y: what they read, and what they know after each turn.
 use Prim.Native.Nat.{ℕ, zero, suc, _+_, _*_, _-_, _≤_, _<_}
 use native.Mathlib.Nat.{add-zero}
-use native.Mathlib.Decide.{ℕ-discrete}
+use native.Mathlib.Numerals.{add-one}
 use native.Mathlib.Omega.{arith}
 use mathlib.Core.Path.{_≡_, refl, sym, ap, ap₂, _∙_}
 use mathlib.Core.Logic.{_⊎_, inl, inr}
-use mathlib.Core.Bool.{Bool, true, false, cond, not, _&&_, and-false}
+use mathlib.Core.Bool.{Bool, true, false, cond, not, _&&_, and-true, and-false}
 use mathlib.Core.List.{List}
 use lib.ListN.{length, getD, set, replicate, length-set, length-append, length-replicate}
-use lib.Seq.{getD-drop, getD-set-same, getD-set-other}
+use lib.Seq.{getD-drop}
 use lib.Dec.{leb, ltb, eqb}
 use borrow.Author.Tests.{eq-eqb, ne-eqb, lt-ltb, le-ltb}
 use Rattle.rows.specs.Kinds.{READ, WRITE}
@@ -22,11 +22,12 @@ use Rattle.rows.proofs.Products.{block-before}
 use Rattle.happens_before.proofs.Filling.{rowsOf, length-rowsOf, cell-done}
 use Rattle.rows.proofs.Slices.{length-rows, row-in}
 use Rattle.races_meaning.specs.Races.{isData, conflict}
-use Rattle.rows.specs.Counting.{leastFrom, lastBelow}
+use Rattle.rows.specs.Counting.{leastFrom, lastBelow, LastBy}
 use Rattle.races_meaning.specs.Search.{isRefresh, refreshAt}
 use Rattle.races_meaning.specs.Scan.{noted, lastNoted, inOrder, raceAt}
 use Rattle.races.specs.Given.{Given}
-use Rattle.rows.proofs.Zeros.{zeros}
+use Rattle.rows.proofs.Below.{last-most}
+use Rattle.rows.proofs.Lasts.{lasts-none, lasts-kept, lasts-noted}
 
 -- ---- What is read
 
@@ -137,20 +138,10 @@ module _ {n P model : ℕ} {xs counts : List ℕ} (g : Given n P model xs counts
 
 -- ---- The refresh
 
--- The last number below a bound that passes, plus one, is at most the bound.
-last-most : (test : ℕ → Bool) (k : ℕ) → lastBelow k test ≤ k
-unfolding lastBelow
-last-most test zero = omega arith
-last-most test (suc k) = go (test k) (last-most test k)
-  where
-    go : (b : Bool) → lastBelow k test ≤ k → cond b (suc k) (lastBelow k test) ≤ suc k
-    go true h = omega arith
-    go false h = omega arith
-
 -- The refresh is y or stands before y.
 pub refresh-most : (rows : List Row) (model y : ℕ) → refreshAt rows model y ≤ suc y
 unfolding refreshAt
-refresh-most rows model y = go (refreshes model READ) (last-most (isRefresh rows model (rowAt rows y)) y)
+refresh-most rows model y = go (refreshes model READ) (last-most y (isRefresh rows model (rowAt rows y)))
   where
     go : (b : Bool) → lastBelow y (isRefresh rows model (rowAt rows y)) ≤ y →
         cond b (suc y) (lastBelow y (isRefresh rows model (rowAt rows y))) ≤ suc y
@@ -159,27 +150,23 @@ refresh-most rows model y = go (refreshes model READ) (last-most (isRefresh rows
 
 -- ---- The pass that notes
 
+-- Row c is of process p, and noted for row y with its refresh at row o.
+abbrev notedOf : List Row → ℕ → ℕ → ℕ → ℕ → ℕ → Bool
+notedOf rows model y o p c = eqb (rowAt rows c .process) p && noted rows model y o c
+
 -- The slice `last` holds, for each process, its last noted row below c.
 pub record Noting (rows : List Row) (model y refresh : ℕ) (last : List ℕ) (c : ℕ) : Type 0 where
   pub low : c ≤ y
   pub refreshed : refresh ≡ refreshAt rows model y
   pub many : length last ≡ PROCESSES
-  pub held : 0 < refresh → (p : ℕ) → p < PROCESSES → getD last p 0 ≡ lastNoted rows model y (refresh - 1) p c
-
--- One row more is the last noted row of its process, if it is noted.
-last-next : (rows : List Row) (model y o p c : ℕ) {b d : Bool} → eqb (rowAt rows c .process) p ≡ d → b ≡ noted rows model y o c →
-    lastNoted rows model y o p (c + 1) ≡ cond (d && b) (suc c) (lastNoted rows model y o p c)
-unfolding lastNoted lastBelow
-last-next rows model y o p c f t =
-    let one : c + 1 ≡ suc c = omega arith in
-    ap (lastNoted rows model y o p) one ∙ (λ i. cond (f i && sym t i) (suc c) (lastNoted rows model y o p c))
+  pub held : 0 < refresh → LastBy (notedOf rows model y (refresh - 1)) PROCESSES last c
 
 -- Before the first row, no process has a noted row.
 pub noting-start : (rows : List Row) (model y : ℕ) {refresh : ℕ} → refresh ≡ refreshAt rows model y →
     Noting rows model y refresh (replicate PROCESSES 0) 0
 unfolding lastNoted lastBelow
 noting-start rows model y e =
-    record { low = omega arith; refreshed = e; many = length-replicate {A = ℕ} PROCESSES 0; held = λ l p h. zeros PROCESSES p }
+    record { low = omega arith; refreshed = e; many = length-replicate {A = ℕ} PROCESSES 0; held = λ l. lasts-none (notedOf rows model y (_ - 1)) PROCESSES }
 
 module _ {rows : List Row} {model y refresh : ℕ} {last : List ℕ} {c : ℕ} (k : Noting rows model y refresh last c) where
   -- The refresh lies within the rows.
@@ -195,32 +182,24 @@ module _ {rows : List Row} {model y refresh : ℕ} {last : List ℕ} {c : ℕ} (
         low = omega arith;
         refreshed = k .refreshed;
         many = ap length (w .1) ∙ length-set last q (c + 1) ∙ k .many;
-        held = λ r p m. ap (λ (x : List ℕ). getD x p 0) (w .1) ∙ go r p m (ℕ-discrete p q);
+        held = λ r. rw (w .1, add-one) (lasts-noted (notedOf rows model y (refresh - 1)) PROCESSES (k .held r) q l
+            (λ p. (λ i. eqb (e i) p && (sym (t r) ∙ w .0) i) ∙ and-true (eqb q p)));
       }
-    where
-      go : 0 < refresh → (p : ℕ) → p < PROCESSES → Dec (p ≡ q) → getD (set last q (c + 1)) p 0 ≡ lastNoted rows model y (refresh - 1) p (c + 1)
-      go r p m (yes d) =
-          let one : c + 1 ≡ suc c = omega arith in
-          rw d (getD-set-same last q (c + 1) 0 (omega (arith, k .many)) ∙ one
-          ∙ sym (last-next rows model y (refresh - 1) q c (eq-eqb (rowAt rows c .process) q e) (sym (w .0) ∙ t r)))
-      go r p m (no d) =
-          getD-set-other last q p (c + 1) 0 d ∙ k .held r p m
-          ∙ sym (last-next rows model y (refresh - 1) p c (ne-eqb (rowAt rows c .process) p (λ u. d (sym u ∙ e))) (t r))
   noting-next {after} {b} {q} h l e t (inr w) =
       record {
         low = omega arith;
         refreshed = k .refreshed;
         many = ap length (w .1) ∙ k .many;
-        held = λ r p m. ap (λ (x : List ℕ). getD x p 0) (w .1) ∙ k .held r p m
-            ∙ sym (last-next rows model y (refresh - 1) p c refl (sym (w .0) ∙ t r)
-            ∙ ap (λ (x : Bool). cond x (suc c) (lastNoted rows model y (refresh - 1) p c)) (and-false (eqb (rowAt rows c .process) p)));
+        held = λ r. rw (w .1, add-one) (lasts-kept (notedOf rows model y (refresh - 1)) PROCESSES (k .held r)
+            (λ p. ap (λ (x : Bool). eqb (rowAt rows c .process) p && x) (sym (t r) ∙ w .0) ∙ and-false (eqb (rowAt rows c .process) p)));
       }
 
   -- After all rows below y, the slice holds the last noted row of each process.
   pub noting-done : {p q : ℕ} → y ≤ c → q < PROCESSES → p ≡ q → 0 < refresh → getD last q 0 ≡ lastNoted rows model y (refresh - 1) p y
+  unfolding lastNoted
   noting-done {p} {q} h l e r =
       let d : c ≡ y = omega (arith, k .low) in
-      k .held r q l ∙ (λ i. lastNoted rows model y (refresh - 1) (sym e i) (d i))
+      k .held r .last-at q l ∙ (λ i. lastNoted rows model y (refresh - 1) (sym e i) (d i))
 
 -- ---- The pass over the earlier rows
 

@@ -1,4 +1,4 @@
--- Tests on the numbers below a bound: whether one of them passes, and how many.
+-- Tests on the numbers below a bound: whether one of them passes, which is the last, and how many.
 use Prim.Native.Nat.{ℕ, zero, suc, _+_, max, _≤_, _<_}
 use native.Mathlib.Omega.{arith}
 use native.Mathlib.Decide.{decLt}
@@ -7,7 +7,7 @@ use mathlib.Core.Logic.{_↔_, _⊎_, inl, inr}
 use mathlib.Core.Bool.{Bool, true, false, cond, _&&_, _||_, false≢true, or-true, or-false, or-assoc, and-true, and-false}
 use lib.Dec.{eqb}
 use borrow.Author.Tests.{eq-eqb, ne-eqb}
-use Rattle.rows.specs.Counting.{anyBelow, countBelow}
+use Rattle.rows.specs.Counting.{anyBelow, lastBelow, countBelow}
 use Rattle.rows.proofs.Bools.{and-out, or-out, or-right, not-passed}
 
 -- ---- Whether one passes
@@ -32,6 +32,38 @@ any-out (suc n) test e = go (or-out (anyBelow n test) (test n) e) (any-out n tes
         (k : ℕ) × (k < suc n) × (test k ≡ true)
     go (inl a) rest = let r = rest a in (r .0, omega arith, r .2)
     go (inr t) rest = (n, omega arith, t)
+
+-- ---- The last that passes
+
+-- The last number that passes, plus one, is at most the bound.
+pub last-most : (n : ℕ) (test : ℕ → Bool) → lastBelow n test ≤ n
+unfolding lastBelow
+last-most zero test = omega arith
+last-most (suc n) test = go (test n) (last-most n test)
+  where
+    go : (b : Bool) → lastBelow n test ≤ n → cond b (suc n) (lastBelow n test) ≤ suc n
+    go true h = omega arith
+    go false h = omega arith
+
+-- The last number that passes is found again below itself, plus one.
+pub last-again : (n : ℕ) (test : ℕ → Bool) → lastBelow (lastBelow n test) test ≡ lastBelow n test
+unfolding lastBelow
+last-again zero test = refl
+last-again (suc n) test = go (test n) refl (last-again n test)
+  where
+    go : (b : Bool) → test n ≡ b → lastBelow (lastBelow n test) test ≡ lastBelow n test →
+        lastBelow (cond b (suc n) (lastBelow n test)) test ≡ cond b (suc n) (lastBelow n test)
+    go true e rest = rw e
+    go false e rest = rest
+
+-- A number that is found below itself, plus one, passes.
+pub last-passes : (k : ℕ) (test : ℕ → Bool) → lastBelow (suc k) test ≡ suc k → test k ≡ true
+unfolding lastBelow
+last-passes k test e = go (test k) e
+  where
+    go : (b : Bool) → cond b (suc k) (lastBelow k test) ≡ suc k → b ≡ true
+    go true h = refl
+    go false h = absurd (omega (arith, last-most k test))
 
 -- ---- How many pass
 

@@ -1,8 +1,10 @@
 -- Numbers below a bound: whether a test passes at one of them or at all, at which first and last, at how many, and the list of a function's
 -- values.
-use Prim.Native.Nat.{ℕ, zero, suc, _+_}
+use Prim.Native.Nat.{ℕ, zero, suc, _+_, _<_}
+use mathlib.Core.Path.{_≡_}
 use mathlib.Core.Bool.{Bool, true, false, cond, _&&_, _||_}
 use mathlib.Core.List.{List, [], _∷_, _++_}
+use lib.ListN.{length, getD}
 
 -- Some number below n passes.
 unfoldable pub anyBelow : ℕ → (ℕ → Bool) → Bool
@@ -23,6 +25,11 @@ leastFrom (suc n) s test = cond (test s) s (leastFrom n (suc s) test)
 unfoldable pub lastBelow : ℕ → (ℕ → Bool) → ℕ
 lastBelow zero test = 0
 lastBelow (suc k) test = cond (test k) (suc k) (lastBelow k test)
+
+-- A table by key: under each key below its size it holds the last number below n that passes the key's test, plus one; 0 where none does.
+pub record LastBy (test : ℕ → ℕ → Bool) (size : ℕ) (table : List ℕ) (n : ℕ) : Type 0 where
+  pub length-is : length table ≡ size
+  pub last-at : (key : ℕ) → key < size → getD table key 0 ≡ lastBelow n (test key)
 
 -- How many numbers below n pass.
 unfoldable pub countBelow : ℕ → (ℕ → Bool) → ℕ

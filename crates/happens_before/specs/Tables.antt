@@ -1,0 +1,44 @@
+-- The tables by which one pass over the rows finds earlier rows: the last row of each process, and the sends of a message. A table names a row
+-- by its index plus one, and 0 stands for none.
+use Prim.Native.Nat.{ℕ, _%_, _≤_, _<_}
+use mathlib.Core.Path.{_≡_}
+use mathlib.Core.Bool.{Bool, true, _&&_}
+use mathlib.Core.List.{List}
+use lib.ListN.{length, getD}
+use lib.Dec.{eqb}
+use Rattle.rows.specs.Kinds.{SEND}
+use Rattle.rows.specs.Limits.{ROWS, PROCESSES}
+use Rattle.rows.specs.Rows.{rowIn}
+use Rattle.rows.specs.Counting.{lastBelow, LastBy}
+
+-- How many chains of sends there are.
+abbrev pub CHAINS : ℕ
+CHAINS = 4096
+
+-- The chain of a message. Messages that differ may share a chain, so a chain's sends are compared with the message.
+abbrev pub chainOf : ℕ → ℕ
+chainOf message = message % CHAINS
+
+-- Row k is a send of a chain.
+abbrev pub inChain : List ℕ → ℕ → ℕ → Bool
+inChain xs chain k = eqb (rowIn xs k .kind) SEND && eqb (chainOf (rowIn xs k .message)) chain
+
+-- The last send of a chain below row j.
+abbrev pub lastSend : List ℕ → ℕ → ℕ → ℕ
+lastSend xs chain j = lastBelow j (inChain xs chain)
+
+-- Row k is of a process.
+abbrev pub ofProcess : List ℕ → ℕ → ℕ → Bool
+ofProcess xs process k = eqb (rowIn xs k .process) process
+
+-- The chains of the sends below row j: each chain's head is its last send, and each send names the one before it in its chain.
+pub record Chains (xs : List ℕ) (j : ℕ) (heads earlier : List ℕ) : Type 0 where
+  pub heads-hold : LastBy (inChain xs) CHAINS heads j
+  pub few : j ≤ ROWS
+  pub earlier-size : length earlier ≡ ROWS
+  pub earlier-at : (k : ℕ) → k < j → (chain : ℕ) → inChain xs chain k ≡ true → getD earlier k 0 ≡ lastSend xs chain k
+
+-- The tables of the rows below row j.
+pub record Tables (xs : List ℕ) (j : ℕ) (lasts heads earlier : List ℕ) : Type 0 where
+  pub lasts-hold : LastBy (ofProcess xs) PROCESSES lasts j
+  pub chains : Chains xs j heads earlier
