@@ -1,12 +1,12 @@
 -- The tests of a byte are the grammar's rules.
 use Prim.Native.Nat.{ℕ, _≤_, _<_}
-use native.Mathlib.Decide.{decLt}
+use native.Mathlib.Decide.{decLt, ℕ-discrete}
 use native.Mathlib.Omega.{arith}
-use mathlib.Core.Path.{_≡_, refl}
+use mathlib.Core.Path.{_≡_, refl, sym, ap, _∙_}
 use mathlib.Core.Logic.{_↔_, _⊎_, inl, inr}
-use mathlib.Core.Bool.{Bool, true, false, _&&_, _||_, or-true, or-false, false≢true}
+use mathlib.Core.Bool.{Bool, true, false, not, _&&_, _||_, or-true, or-false, false≢true}
 use lib.Dec.{leb, eqb}
-use borrow.Author.Tests.{le-leb, leb-true, eq-eqb, ne-eqb}
+use borrow.Author.Tests.{le-leb, lt-leb, leb-true, eq-eqb, ne-eqb}
 use Rattle.csv_field.specs.FieldGrammar.{COMMA, DQUOTE, CR, LF, TextData, x20-21, x23-2B, x2D-7E}
 use Rattle.csv_field.specs.FieldReading.{byteBetween, isText, isQuoted}
 
@@ -73,6 +73,22 @@ pub text-bounds : {b : ℕ} → TextData b → (0x20 ≤ b) × (b ≤ 0x7E) × (
 text-bounds (x20-21 l h) = omega arith
 text-bounds (x23-2B l h) = omega arith
 text-bounds (x2D-7E l h) = omega arith
+
+-- From %x2D on, TEXTDATA is all up to %x7E.
+pub high-text : (b : ℕ) → 0x2D ≤ b → leb b 0x7E ≡ isText b
+high-text b l = go (decLt 0x7E b)
+  where
+    go : Dec (0x7E < b) → leb b 0x7E ≡ isText b
+    go (yes h) = lt-leb b 0x7E h ∙ sym (not-text b (λ t. let r = text-bounds t in omega arith))
+    go (no h) = let m : b ≤ 0x7E = omega arith in le-leb b 0x7E m ∙ sym (text-iff b .1 (x2D-7E l m))
+
+-- From %x20 up to %x2C, TEXTDATA is all but the quote and the comma.
+pub low-text : (b : ℕ) → 0x20 ≤ b → b < 0x2D → (b ≡ DQUOTE → ⊥) → not (eqb b COMMA) ≡ isText b
+low-text b l h q = go (ℕ-discrete b COMMA)
+  where
+    go : Dec (b ≡ COMMA) → not (eqb b COMMA) ≡ isText b
+    go (yes c) = ap not (eq-eqb b COMMA c) ∙ sym (not-text b (λ t. text-bounds t .3 c))
+    go (no c) = ap not (ne-eqb b COMMA c) ∙ sym (text-iff b .1 (bounds-text l (omega arith) q c))
 
 -- what quotes may hold besides TEXTDATA
 abbrev pub Also : ℕ → Type 0

@@ -1,7 +1,7 @@
 // One field of a text, found by its bytes.
 ghost use mathlib.Core.Path.{_≡_};
 ghost use mathlib.Core.Bool.{false};
-ghost use Prim.Native.Nat.{_+_};
+ghost use Prim.Native.Nat.{_+_, _<_};
 ghost use lib.ListN.{getD, drop};
 ghost use lib.Dec.{eqb};
 ghost use Rattle.csv_field.specs.FieldReading.{isText, isQuoted, textLength, quotes, afterCR, stopOf, quotedAt, fieldAt};
@@ -38,23 +38,28 @@ pub struct ScannedField {
     pub stop: Stop,
 }
 
-// TEXTDATA = %x20-21 / %x23-2B / %x2D-7E: all from %x20 to %x7E but the quote and the comma.
+// TEXTDATA = %x20-21 / %x23-2B / %x2D-7E. Letters and digits, most bytes of a trace, need one range test alone.
 fn is_text(b: u8) -> bool
+    ensures { λ r. ⌜ r ≡ isText b ⌝ }
+{
+    if b < 0x2D {
+        return is_low_text(b);
+    }
+    b <= 0x7E
+}
+
+// The TEXTDATA below %x2D: all from %x20 on but the quote and the comma.
+fn is_low_text(b: u8) -> bool
+    requires { ⌜ b < 0x2D ⌝ }
     ensures { λ r. ⌜ r ≡ isText b ⌝ }
 {
     if b < 0x20 {
         return false;
     }
-    if 0x7E < b {
-        return false;
-    }
     if b == b'"' {
         return false;
     }
-    if b == b',' {
-        return false;
-    }
-    true
+    b != b','
 }
 
 // A byte that quotes may hold besides the quote: TEXTDATA / COMMA / CR / LF.

@@ -9,6 +9,8 @@ use std::hint::black_box;
 /// A field's bytes without its outer quotes. Where a quote is among them the field is no name, no kind and no number.
 type Field<'a> = &'a [u8];
 
+pub const PROCESSES: usize = 64;
+
 const NAMES: [&[u8]; 6] = [b"process", b"kind", b"file", b"offset", b"length", b"message"];
 
 const TEXT: [bool; 256] = {
@@ -86,7 +88,7 @@ fn number(field: Field, most: u32) -> Result<u32, u32> {
     }
 }
 
-/// Where messages were sent and received: in a table by message, or found among the rows before as the library does.
+/// Where messages were sent and received: in a table by message, as in the library, or found among the rows before.
 trait Messages {
     fn sender(&self, rows: &[u32], message: u32) -> Option<u32>;
     fn received(&self, rows: &[u32], message: u32) -> bool;
@@ -238,16 +240,58 @@ fn line(process: usize, kind: u32, numbers: [Option<usize>; 4], quoted: bool) ->
     fields.join(",") + "\r\n"
 }
 
-fn text(shape: &str, rows: usize) -> Vec<u8> {
+/// Numbers that look random and are the same in every run (splitmix64).
+struct Random(u64);
+
+impl Random {
+    fn below(&mut self, n: usize) -> usize {
+        self.0 = self.0.wrapping_add(0x9E37_79B9_7F4A_7C15);
+        let mut z = self.0;
+        z = (z ^ (z >> 30)).wrapping_mul(0xBF58_476D_1CE4_E5B9);
+        z = (z ^ (z >> 27)).wrapping_mul(0x94D0_49BB_1331_11EB);
+        ((z ^ (z >> 31)) % n as u64) as usize
+    }
+}
+
+/// Rows of random kinds and processes. A recv takes a message that another process has sent, and where there is none the row sends.
+fn mixed(rows: usize) -> String {
+    let mut random = Random(1);
+    let mut waiting: Vec<(usize, usize)> = Vec::new();
+    let mut messages: Vec<usize> = (0..65_536).collect();
+    let mut text = String::new();
+    for _ in 0..rows {
+        let (p, kind, file) = (random.below(PROCESSES), random.below(8) as u32, Some(random.below(64)));
+        let due = if waiting.is_empty() { 0 } else { random.below(waiting.len()) };
+        text += &match kind {
+            READ | WRITE => line(p, kind, [file, Some(random.below(1 << 31)), Some(random.below(1 << 20)), None], false),
+            RECV if waiting.get(due).is_some_and(|(sender, _)| *sender != p) => {
+                line(p, RECV, [None, None, None, Some(waiting.swap_remove(due).1)], false)
+            }
+            SEND | RECV => {
+                let message = messages.swap_remove(random.below(messages.len()));
+                waiting.push((p, message));
+                line(p, SEND, [None, None, None, Some(message)], false)
+            }
+            _ => line(p, kind, [file, None, None, None], false),
+        };
+    }
+    text
+}
+
+/// A trace of a shape, with its header.
+pub fn text(shape: &str, rows: usize) -> Vec<u8> {
     let mut text = String::from("process,kind,file,offset,length,message\r\n");
+    if shape == "mixed" {
+        return (text + &mixed(rows)).into_bytes();
+    }
     for i in 0..rows {
-        let (p, quoted) = (i / 4 % 64, shape == "quoted fields");
+        let (p, quoted) = (i / 4 % PROCESSES, shape == "quoted fields");
         let data = [Some(p % 8), Some(i * 48_271 % 2_147_483_647), Some(4096), None];
         text += &match (shape, i % 4) {
             ("messages", 0) => line(p, WRITE, data, false),
             ("messages", 1) => line(p, 2, [Some(p % 8), None, None, None], false),
             ("messages", 2) => line(p, SEND, [None, None, None, Some(i / 4)], false),
-            ("messages", _) => line((p + 1) % 64, RECV, [None, None, None, Some(i / 4)], false),
+            ("messages", _) => line((p + 1) % PROCESSES, RECV, [None, None, None, Some(i / 4)], false),
             (_, k) => line(p, [WRITE, READ, WRITE, 2][k], if k == 3 { [data[0], None, None, None] } else { data }, quoted),
         };
     }
@@ -256,8 +300,8 @@ fn text(shape: &str, rows: usize) -> Vec<u8> {
 
 fn case(shape: &'static str, n: usize) -> Timed {
     let text = text(shape, n);
-    let s = Settings { header: 1, model: 1, row_limit: n as u32, process_limit: 64, byte_limit: usize::MAX };
-    let lent = move || (vec![7u32; 6 * n], vec![7u16; 64 * n]);
+    let s = Settings { header: 1, model: 1, row_limit: n as u32, process_limit: PROCESSES as u32, byte_limit: usize::MAX };
+    let lent = move || (vec![7u32; 6 * n], vec![7u16; PROCESSES * n]);
     let [(mut rows, mut counts), (mut table_rows, mut table_counts), (mut scan_rows, mut scan_counts)] = [lent(), lent(), lent()];
     let [ours, table, scan, all] = [text.clone(), text.clone(), text.clone(), text];
     Timed {
@@ -286,7 +330,7 @@ fn case(shape: &'static str, n: usize) -> Timed {
 
 pub fn cases() -> Vec<Case> {
     let mut all = Vec::new();
-    for shape in ["data rows", "quoted fields", "messages"] {
+    for shape in ["data rows", "quoted fields", "messages", "mixed"] {
         all.extend(SIZES.map(|rows| Case { name: shape.to_string(), rows, make: Box::new(move || case(shape, rows)) }));
     }
     all

@@ -1,37 +1,20 @@
 //! The verdict, next to the same steps in plain Rust and to the naive one, pair by pair over a matrix of happens-before.
 
+use crate::counts;
 use crate::naive::order::{first_race, Order};
+use crate::reading::PROCESSES;
 use crate::{timed, Case, Timed, SIZES};
 use kiqsaryn::{verdict, Model, Row, Verdict, CLOSE, COMMIT, OPEN, READ, RECV, SEND, SYNC, WRITE};
 use std::hint::black_box;
 
-const PROCESSES: usize = 64;
-
-/// The same steps over the same slices: counts by joining, then for each later row one pass for the last publishing rows and one for the
+/// The same steps over the same slices: counts, then for each later row one pass for the last publishing rows and one for the
 /// earlier row.
 #[inline(never)]
 fn plain(rows: &[u32], n: usize, processes: usize, model: u32, counts: &mut [u16]) -> Option<(u32, u32)> {
     let publishes = |k: u32| matches!((model, k), (0, 1) | (1, 2) | (2, 4) | (3, 4) | (3, 5));
     let refreshes = |k: u32| matches!((model, k), (0, 0) | (1, 0) | (2, 3) | (3, 3) | (3, 5));
     let row = |i: usize| &rows[i * 6..i * 6 + 6];
-    for j in 0..n {
-        let me = row(j);
-        for p in 0..processes {
-            counts[j * processes + p] = 0;
-        }
-        let mut join = |k: usize| {
-            for p in 0..processes {
-                counts[j * processes + p] = counts[j * processes + p].max(counts[k * processes + p]);
-            }
-        };
-        if let Some(k) = (0..j).rev().find(|k| row(*k)[0] == me[0]) {
-            join(k);
-        }
-        if me[1] == 7 {
-            (0..j).filter(|k| row(*k)[1] == 6 && row(*k)[5] == me[5]).for_each(&mut join);
-        }
-        counts[j * processes + me[0] as usize] += 1;
-    }
+    counts::plain(rows, n, processes, counts);
     let before = |i: usize, j: usize| {
         let p = row(i)[0] as usize;
         counts[i * processes + p] <= counts[j * processes + p]
