@@ -101,6 +101,11 @@ quoted-also b (inl e) = simp (eq-eqb b LF e, or-true)
 quoted-also b (inr (inl e)) = simp (eq-eqb b CR e, or-true)
 quoted-also b (inr (inr e)) = simp (eq-eqb b COMMA e, or-true)
 
+-- TEXTDATA may stand between quotes.
+pub quoted-any : (b : ℕ) → isText b ≡ true → isQuoted b ≡ true
+unfolding isQuoted
+quoted-any b e = rw e
+
 -- of any other byte, the test of quotes is the test of TEXTDATA
 pub quoted-text : (b : ℕ) → (Also b → ⊥) → isQuoted b ≡ isText b
 unfolding isQuoted

@@ -66,9 +66,12 @@ fn is_low_text(b: u8) -> bool
 fn is_quoted(b: u8) -> bool
     ensures { λ r. ⌜ r ≡ isQuoted b ⌝ }
 {
+    if is_text(b) {
+        return true;
+    }
     match b {
         b',' | b'\r' | b'\n' => true,
-        _ => is_text(b),
+        _ => false,
     }
 }
 
