@@ -2,3 +2,4 @@ pub mod Putting
 pub mod Asks
 pub mod Entries
 pub mod Tables
+pub mod InOrder

@@ -5,3 +5,4 @@ pub mod Whole
 pub mod Accepting
 pub mod Refusals
 pub mod Sounds
+pub mod Messages
