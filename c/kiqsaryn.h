@@ -4,8 +4,8 @@
  * and then how many elements it has; the pointer must not be null and must be aligned, also where the length is 0, and a slice lent for
  * writing must not overlap another one of the call. The contracts stand in crates/kiqsaryn/src/lib.rt.
  *
- * Stack: kiqsaryn_check_trace, kiqsaryn_judge and kiqsaryn_report take up to 140 KB of stack, for a table by message; every other call takes
- * less than 4 KB. There is no heap and no state between calls.
+ * Stack: kiqsaryn_check_trace, kiqsaryn_judge and kiqsaryn_report take up to 140 KB of stack, for a table by message; kiqsaryn_fill_counts and
+ * kiqsaryn_verdict up to 18 KB, for tables of earlier rows; every other call less than 4 KB. There is no heap and no state between calls.
  *
  * Models: 0 POSIX, 1 commit, 2 session, 3 MPI-IO. Kinds: 0 read, 1 write, 2 commit, 3 open, 4 close, 5 sync, 6 send, 7 recv. A row is six
  * numbers: process, kind, file, offset, length, message. A piece is three: start, length, row number (0 for unwritten bytes). A run is four:

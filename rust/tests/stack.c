@@ -1,0 +1,90 @@
+/* Prints for each exported call how many bytes of stack it takes: the call runs on a thread whose stack is painted before, and what a thread
+ * without a call takes is left out. Standard input is a trace with a header. */
+#define _GNU_SOURCE
+#include "kiqsaryn.h"
+#include <pthread.h>
+#include <stdio.h>
+#include <stdlib.h>
+#include <string.h>
+
+enum { STACK = 1 << 20, PAINT = 0xA5, ROWS = 4096, PROCESSES = 64, SPACE = 64, MAPS = 4 * SPACE * (PROCESSES + 1), TEXT = 1 << 16 };
+
+static uint8_t text[TEXT], out[TEXT];
+static size_t text_len;
+static uint32_t rows[6 * ROWS], maps[MAPS], pieces[3 * ROWS], of_rows[ROWS];
+static uint16_t counts[ROWS * PROCESSES];
+static uint32_t n;
+
+/* A call that refuses goes less deep than one that does its work. */
+static void expect(int works) {
+    if (!works) exit(2);
+}
+
+static void none(void) {}
+
+static void check_trace(void) {
+    uint64_t answer = kiqsaryn_check_trace(text, text_len, 1, 1, ROWS, PROCESSES, TEXT, rows, 6 * ROWS, counts, ROWS * PROCESSES);
+    expect(0 < answer && answer <= ROWS);
+    n = (uint32_t)answer;
+}
+
+static void judge(void) {
+    uint64_t answer = kiqsaryn_judge(text, text_len, 1, 1, ROWS, PROCESSES, TEXT, rows, 6 * ROWS, counts, ROWS * PROCESSES);
+    expect(kiqsaryn_judged_refusal(answer) == 0);
+}
+
+static void report(void) { expect(kiqsaryn_report(text, text_len, out, sizeof out) > 0); }
+
+static void fill_counts(void) { expect(kiqsaryn_fill_counts(rows, 6 * ROWS, n, PROCESSES, counts, ROWS * PROCESSES) == 0); }
+
+static void verdict(void) { expect(kiqsaryn_verdict(rows, 6 * ROWS, n, PROCESSES, 1, counts, ROWS * PROCESSES) == 0); }
+
+static void make(void) { expect(kiqsaryn_make(1, PROCESSES, 1, SPACE, maps, MAPS) == 0); }
+
+static void replay(void) {
+    expect(kiqsaryn_replay(1, PROCESSES, 1, SPACE, maps, MAPS, rows, 6 * ROWS, 0, n, of_rows, ROWS, pieces, 3 * ROWS) == n);
+}
+
+static void step(void) { expect(kiqsaryn_step(1, PROCESSES, 1, SPACE, maps, MAPS, 0, 0, 1, 5, 7, n + 1, pieces, 3 * ROWS) > 0); }
+
+static void make_plain(void) { expect(kiqsaryn_make_plain(PROCESSES, 1, SPACE, maps, MAPS) == 0); }
+
+static void replay_plain(void) {
+    expect(kiqsaryn_replay_plain(PROCESSES, 1, SPACE, maps, MAPS, rows, 6 * ROWS, 0, n, of_rows, ROWS, pieces, 3 * ROWS) == n);
+}
+
+static void step_plain(void) { expect(kiqsaryn_step_plain(PROCESSES, 1, SPACE, maps, MAPS, 0, 0, 1, 5, 7, n + 1, pieces, 3 * ROWS) > 0); }
+
+static const struct {
+    const char *name;
+    void (*call)(void);
+} calls[] = {{"none", none}, {"check_trace", check_trace}, {"judge", judge}, {"report", report}, {"fill_counts", fill_counts},
+             {"verdict", verdict}, {"make", make}, {"replay", replay}, {"step", step}, {"make_plain", make_plain},
+             {"replay_plain", replay_plain}, {"step_plain", step_plain}};
+
+static void *run(void *call) {
+    (*(void (**)(void))call)();
+    return NULL;
+}
+
+/* The bytes of a painted stack that a thread with this call has changed, from the lowest on. */
+static size_t taken(void (*call)(void)) {
+    uint8_t *stack = aligned_alloc(4096, STACK);
+    pthread_attr_t attributes;
+    pthread_t thread;
+    memset(stack, PAINT, STACK);
+    pthread_attr_init(&attributes);
+    pthread_attr_setstack(&attributes, stack, STACK);
+    if (pthread_create(&thread, &attributes, run, &call) != 0 || pthread_join(thread, NULL) != 0) exit(1);
+    size_t i = 0;
+    while (i < STACK && stack[i] == PAINT) i++;
+    free(stack);
+    return STACK - i;
+}
+
+int main(void) {
+    text_len = fread(text, 1, sizeof text, stdin);
+    size_t own = taken(none);
+    for (size_t k = 1; k < sizeof calls / sizeof *calls; k++) printf("%s %zu\n", calls[k].name, taken(calls[k].call) - own);
+    return 0;
+}

@@ -1,0 +1,58 @@
+//! The stack that the C header names is enough for every exported call.
+
+#[allow(dead_code)]
+mod running;
+
+use running::{feed, out, status};
+use std::path::{Path, PathBuf};
+use std::process::Command;
+
+/// How many functions the library exports.
+const EXPORTS: usize = 11;
+
+/// The bound that c/kiqsaryn.h names for a call, in KB.
+fn bound(call: &str) -> usize {
+    match call {
+        "check_trace" | "judge" | "report" => 140,
+        "fill_counts" | "verdict" => 18,
+        _ => 4,
+    }
+}
+
+/// A trace of all kinds of rows whose replay is accepted.
+fn trace() -> String {
+    let mut text = String::from("process,kind,file,offset,length,message\r\n");
+    for i in 0..40 {
+        let (p, q, at) = (i % 4, (i + 1) % 4, 10 * i);
+        text += &format!("{p},write,1,{at},9,\r\n{p},commit,1,,,\r\n{p},send,,,,{i}\r\n{q},recv,,,,{i}\r\n{q},read,1,{at},9,\r\n");
+    }
+    text
+}
+
+#[test]
+fn every_call_keeps_to_the_stack_that_the_header_names() {
+    let root = Path::new(env!("CARGO_MANIFEST_DIR")).join("..");
+    let header = std::fs::read_to_string(root.join("c/kiqsaryn.h")).expect("the header");
+    assert!(header.contains("take up to 140 KB of stack") && header.contains("up to 18 KB") && header.contains("less than 4 KB"));
+    let program = PathBuf::from(env!("CARGO_TARGET_TMPDIR")).join("stack");
+    let source = concat!(env!("CARGO_MANIFEST_DIR"), "/tests/stack.c");
+    let built = Command::new("cc")
+        .args(["-std=c11", "-Wall", "-Wextra", "-Werror", "-O1", "-I"])
+        .arg(root.join("c"))
+        .arg(source)
+        .arg(root.join("target/staticlib/libkiqsaryn.a"))
+        .args(["-lpthread", "-o"])
+        .arg(&program)
+        .status()
+        .expect("cc runs");
+    assert!(built.success());
+    let run = feed(&mut Command::new(&program), trace().as_bytes());
+    assert_eq!(status(&run), 0);
+    let told = out(&run);
+    assert_eq!(told.lines().count(), EXPORTS);
+    for line in told.lines() {
+        let (call, bytes) = line.split_once(' ').expect("a call and its bytes");
+        let bytes: usize = bytes.parse().expect("a number");
+        assert!(bytes < 1024 * bound(call), "{line}");
+    }
+}
