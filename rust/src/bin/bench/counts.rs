@@ -1,7 +1,7 @@
 //! The counts of every row, next to plain Rust that finds earlier rows by the same tables.
 
+use crate::harness::{timed, Case, Timed, SIZES};
 use crate::reading::{text, PROCESSES};
-use crate::{timed, Case, Timed, SIZES};
 use kiqsaryn::{check_trace, fill_counts, Checked, Settings, RECV, SEND};
 use std::hint::black_box;
 

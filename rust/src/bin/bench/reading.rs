@@ -1,6 +1,6 @@
 //! Reading a trace, next to a parser that goes over the bytes once and copies none.
 
-use crate::{timed, Case, Timed, SIZES};
+use crate::harness::{timed, Case, Timed, SIZES};
 use kiqsaryn::{check_trace, Checked, Settings, KINDS, READ, RECV, SEND, WRITE};
 use std::hint::black_box;
 

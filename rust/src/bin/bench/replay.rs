@@ -1,7 +1,7 @@
 //! Replays, next to the same rules over a vector of runs for each map: ranges found by halving, changes made on a copy and swapped in where
 //! they fit, the state tested once and written back at the end.
 
-use crate::{timed, Case, Timed, SIZES};
+use crate::harness::{timed, Case, Timed, SIZES};
 use kiqsaryn::{make, make_plain, replay, replay_plain, Header, Model, Replayed, CLOSE, COMMIT, OPEN, READ, SYNC, WRITE};
 use std::hint::black_box;
 

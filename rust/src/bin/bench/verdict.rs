@@ -1,9 +1,9 @@
 //! The verdict, next to the same steps in plain Rust and to the naive one, pair by pair over a matrix of happens-before.
 
 use crate::counts;
+use crate::harness::{timed, Case, Timed, SIZES};
 use crate::naive::order::{first_race, Order};
 use crate::reading::PROCESSES;
-use crate::{timed, Case, Timed, SIZES};
 use kiqsaryn::{verdict, Model, Row, Verdict, CLOSE, COMMIT, OPEN, READ, RECV, SEND, SYNC, WRITE};
 use std::hint::black_box;
 
