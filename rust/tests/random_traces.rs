@@ -569,6 +569,9 @@ fn compare(r: &mut Random, case: &mut Case, seen: &mut Seen) {
     assert_eq!(String::from_utf8_lossy(&report(&case.text)), reading::report(&case.text), "report\n{told}");
 }
 
+/// Messages so far apart share a chain of sends when counts are filled.
+const SAME_CHAIN: u32 = 4096;
+
 /// Rows that no text gives: any kinds, processes past the limit, messages sent twice and received early, ranges past the end.
 fn wild_rows(r: &mut Random, n: u32, process_limit: u32) -> Vec<Row> {
     let kinds = r.pick(&[8, 10]);
@@ -587,7 +590,7 @@ fn wild_rows(r: &mut Random, n: u32, process_limit: u32) -> Vec<Row> {
         file: number(2),
         offset: number(9),
         length: number(9),
-        message: number(4),
+        message: number(4).wrapping_add(SAME_CHAIN * number(2).min(1)),
     };
     (0..n).map(row).collect()
 }
