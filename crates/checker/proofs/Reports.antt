@@ -20,7 +20,8 @@ use Rattle.races.specs.declared.Found.the-variants.{Free, Race, Refused}
 use Rattle.races_meaning.specs.Races.{Verdict, free, racing, verdictOf}
 use Rattle.races.specs.Answers.{judgeQuestions, verdictFound, foundOf}
 use Rattle.checker.specs.Report.{lineEnd, heading, posix, commit, session, mpiio, freeWords, raceWord, refusedWord, pair, verdictWords, modelLine, reportOf, readByProgram, reportLength, reportIn}
-use Rattle.checker.proofs.Lines.{pair-most, line-most, Laid, put-laid, laid-length, then}
+use Rattle.print.proofs.Parts.{Laid, put-laid, laid-length, then}
+use Rattle.checker.proofs.Lines.{pair-most, line-most}
 use Rattle.checker.proofs.Verdicts.{passes-other, outcome, told, rows-again}
 
 -- ---- A model's line

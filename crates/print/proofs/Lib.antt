@@ -1,2 +1,3 @@
 pub mod Laying
 pub mod Widths
+pub mod Parts

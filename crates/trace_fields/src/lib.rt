@@ -42,7 +42,7 @@ fn kind_of(text: &[u8], span: Span) -> u32
 }
 
 // The fields that a kind uses.
-fn used_by(kind: u32) -> Used
+pub fn used_by(kind: u32) -> Used
     ensures { λ r. ⌜ r ≡ usedBy kind ⌝ }
 {
     match kind {
