@@ -46,3 +46,25 @@ none-appended (q ∷ qs) rest f e = go (none-appended qs rest (f .1)) (q .yes) r
         cond b (firstNo (qs ++ rest)) (q .number) ≡ 0 → AllYes (q ∷ qs) × (firstNo rest ≡ 0)
     go ih true y n = let s = ih n in ((y, s .0), s .1)
     go ih false y n = let low : 1 ≤ q .number = f .0 in absurd (omega arith)
+
+-- The first No of two lists of questions is that of the first list, where it has one.
+pub first-no : (qs rest : List Question) → (firstNo qs ≡ 0 → ⊥) → firstNo (qs ++ rest) ≡ firstNo qs
+unfolding firstNo
+first-no [] rest h = absurd (h refl)
+first-no (q ∷ qs) rest h = go (q .yes) (first-no qs rest) h
+  where
+    go : (x : Bool) → ((firstNo qs ≡ 0 → ⊥) → firstNo (qs ++ rest) ≡ firstNo qs) → (cond x (firstNo qs) (q .number) ≡ 0 → ⊥) →
+        cond x (firstNo (qs ++ rest)) (q .number) ≡ cond x (firstNo qs) (q .number)
+    go true ih g = ih g
+    go false ih g = refl
+
+-- Without a No in the first list of questions, the second decides.
+pub rest-decides : (qs rest : List Question) → From 1 qs → firstNo qs ≡ 0 → firstNo (qs ++ rest) ≡ firstNo rest
+unfolding firstNo
+rest-decides [] rest n h = refl
+rest-decides (q ∷ qs) rest n h = go (q .yes) (rest-decides qs rest (n .1)) h
+  where
+    go : (x : Bool) → (firstNo qs ≡ 0 → firstNo (qs ++ rest) ≡ firstNo rest) → cond x (firstNo qs) (q .number) ≡ 0 →
+        cond x (firstNo (qs ++ rest)) (q .number) ≡ firstNo rest
+    go true ih g = ih g
+    go false ih g = absurd (omega (arith, n .0))

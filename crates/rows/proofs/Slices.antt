@@ -4,10 +4,11 @@ use native.Mathlib.Numerals.{add-one, add-two, add-three, add-four, add-five}
 use native.Mathlib.Omega.{arith}
 use mathlib.Core.Path.{_≡_, refl, sym, ap, _∙_}
 use mathlib.Core.List.{List, [], _∷_, _++_, append-assoc}
-use lib.ListN.{length, getD, take, drop, set, length-append, length-drop, drop-of-length-le}
+use lib.ListN.{length, getD, take, drop, set, length-drop, drop-of-length-le}
 use lib.Seq.{take-add, drop-drop, sets-eq, getD-drop}
 use borrow.Author.Tests.{le-leb, lt-leb}
 use Rattle.rows.specs.declared.Row.{Row}
+use Rattle.rows.specs.Limits.{FIELDS}
 use Rattle.rows.specs.Rows.{noRow, rowAt, six, numbers, rowHere, rowsIn, rowIn, withRow}
 
 -- Each row has six numbers.
@@ -54,6 +55,23 @@ pub length-rows : (n : ℕ) (xs : List ℕ) → length (rowsIn n xs) ≡ n
 unfolding rowsIn
 length-rows zero xs = refl
 length-rows (suc n) xs = ap suc (length-rows n (drop 6 xs))
+
+-- The first rows of a slice, and those behind them.
+pub rows-add : (i k : ℕ) (xs : List ℕ) → rowsIn (i + k) xs ≡ rowsIn i xs ++ rowsIn k (drop (i * FIELDS) xs)
+unfolding rowsIn
+rows-add zero k xs = let z : 0 + k ≡ k = omega arith in ap (λ (m : ℕ). rowsIn m xs) z
+rows-add (suc i) k xs =
+    let z : suc i + k ≡ suc (i + k) = omega arith in
+    let e : FIELDS + i * FIELDS ≡ suc i * FIELDS = omega arith in
+    ap (λ (m : ℕ). rowsIn m xs) z
+    ∙ ap (λ (l : List Row). rowHere xs ∷ l)
+    (rows-add i k (drop FIELDS xs)
+    ∙ ap (λ (l : List ℕ). rowsIn i (drop FIELDS xs) ++ rowsIn k l) (drop-drop (i * FIELDS) FIELDS xs ∙ ap (λ (m : ℕ). drop m xs) e))
+
+-- One row more.
+pub row-next : (i : ℕ) (xs : List ℕ) → rowsIn (i + 1) xs ≡ rowsIn i xs ++ (rowIn xs i ∷ [])
+unfolding rowsIn
+row-next i xs = rows-add i 1 xs
 
 -- The row at index k of the first n rows is the one that the slice has at k.
 pub row-in : (n k : ℕ) (xs : List ℕ) → k < n → rowAt (rowsIn n xs) k ≡ rowIn xs k

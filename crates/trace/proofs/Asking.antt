@@ -1,10 +1,9 @@
 -- The first No of the questions: of a call, of a header and of a row's record.
-use Prim.Native.Nat.{ℕ, suc, _*_, _^_, _≤_, _<_}
-use native.Mathlib.Nat.{le-of-lt, lt-of-le-of-lt, mul-le-mul-left, mul-lt-mul-of-pos-right}
+use Prim.Native.Nat.{ℕ, suc, _*_, _≤_, _<_}
 use native.Mathlib.Omega.{arith}
 use mathlib.Core.Path.{_≡_, refl, sym, ap, _∙_}
 use mathlib.Core.Bool.{Bool, true, false, cond, _&&_, and-true}
-use mathlib.Core.List.{List, [], _∷_, _++_, map}
+use mathlib.Core.List.{List, [], _++_, map}
 use lib.ListN.{length, getD, drop, drop-of-length-le}
 use lib.Seq.{drop-cons}
 use lib.Dec.{leb, eqb}
@@ -19,7 +18,8 @@ use Rattle.trace_numbers.specs.declared.ReadRow.the-variants.{Kept, No}
 use Rattle.trace.specs.Rows.{headerNames, sameFields, rowOf}
 use Rattle.trace.specs.Questions.{inLimits, callQuestions, fieldQuestions, recordQuestions}
 use Rattle.messages.specs.Table.{tableQuestions, tableAfter}
-use Rattle.rows.specs.Questions.{Question, firstNo}
+use Rattle.rows.specs.Questions.{firstNo}
+use Rattle.rows.proofs.Asking.{From, first-no, rest-decides}
 use Rattle.trace.specs.Reads.{fieldsOf, judgedBy, judgedFields, judgedRow, tableLeft, headed}
 
 -- ---- The questions 1 to 3
@@ -133,35 +133,8 @@ module _ {text : List ℕ} {count : ℕ} {spans : List Span} {k : ℕ} (n : Name
 
 -- ---- The questions 6 to 12
 
--- the first No of two lists of questions is that of the first list, where it has one
-pub first-no : (qs rest : List Question) → (firstNo qs ≡ 0 → ⊥) → firstNo (qs ++ rest) ≡ firstNo qs
-unfolding firstNo
-first-no [] rest h = absurd (h refl)
-first-no (q ∷ qs) rest h = go (q .yes) (first-no qs rest) h
-  where
-    go : (x : Bool) → ((firstNo qs ≡ 0 → ⊥) → firstNo (qs ++ rest) ≡ firstNo qs) → (cond x (firstNo qs) (q .number) ≡ 0 → ⊥) →
-        cond x (firstNo (qs ++ rest)) (q .number) ≡ cond x (firstNo qs) (q .number)
-    go true ih g = ih g
-    go false ih g = refl
-
--- no question has the number 0
-abbrev pub Numbered : List Question → Type 0
-Numbered [] = Unit {0}
-Numbered (q ∷ qs) = (0 < q .number) × Numbered qs
-
--- without a No in the first list of questions, the second decides
-pub all-yes : (qs rest : List Question) → Numbered qs → firstNo qs ≡ 0 → firstNo (qs ++ rest) ≡ firstNo rest
-unfolding firstNo
-all-yes [] rest n h = refl
-all-yes (q ∷ qs) rest n h = go (q .yes) (all-yes qs rest (n .1)) h
-  where
-    go : (x : Bool) → (firstNo qs ≡ 0 → firstNo (qs ++ rest) ≡ firstNo rest) → cond x (firstNo qs) (q .number) ≡ 0 →
-        cond x (firstNo (qs ++ rest)) (q .number) ≡ firstNo rest
-    go true ih g = ih g
-    go false ih g = absurd (omega (arith, n .0))
-
 -- the questions 8 to 11 have numbers
-pub numbered : (processLimit : ℕ) (fields : List (List ℕ)) → Numbered (fieldQuestions processLimit fields)
+pub numbered : (processLimit : ℕ) (fields : List (List ℕ)) → From 1 (fieldQuestions processLimit fields)
 unfolding fieldQuestions
 numbered processLimit fields = (omega arith, (omega arith, (omega arith, (omega arith, tt))))
 
@@ -238,7 +211,7 @@ module _ (rowLimit processLimit n : ℕ) (table : List ℕ) (count : ℕ) (field
         final =
             inner
             ∙ ap (λ (x : ℕ). judgedBy x fields)
-            (all-yes (fieldQuestions processLimit fields) (tableQuestions table (rowOf fields)) (numbered processLimit fields) (told .0)
+            (rest-decides (fieldQuestions processLimit fields) (tableQuestions table (rowOf fields)) (numbered processLimit fields) (told .0)
             ∙ sym (m .0 ∙ ap (λ (r : Row). firstNo (tableQuestions table r)) (told .1)))
 
         -- the row was put to the table

@@ -30,9 +30,9 @@ use Rattle.trace.specs.Reads.{fieldsOf, judgedBy, judgedRow, tableLeft, 
 use Rattle.messages.specs.Table.{tableQuestions, tableAfter}
 use Rattle.messages.proofs.Tables.{Tells, tells-none, tells-asks, tells-next}
 use Rattle.rows.proofs.Slices.{length-numbers, numbers-append}
-use Rattle.trace.proofs.Asking.{no-of, kept-of, first-no, all-yes, Numbered, numbered}
+use Rattle.trace.proofs.Asking.{no-of, kept-of, numbered}
 use Rattle.trace.proofs.Laws.{well-formed}
-use Rattle.rows.proofs.Asking.{all-yes as every-yes}
+use Rattle.rows.proofs.Asking.{From, all-yes, first-no, rest-decides}
 
 -- the records from a place on
 abbrev recordsAt : List ℕ → ℕ → ℕ → Records
@@ -134,7 +134,7 @@ module _ {table : List ℕ} {done : List Row} (t : Tells table done) {P : ℕ} (
   by-rows = messageQuestions done (rowOf fields)
 
   -- every question has a number
-  asked-numbered : Numbered asked
+  asked-numbered : From 1 asked
   unfolding recordQuestions
   asked-numbered = (omega arith, (omega arith, numbered P fields))
 
@@ -142,7 +142,7 @@ module _ {table : List ℕ} {done : List Row} (t : Tells table done) {P : ℕ} (
   row-fits : firstNo asked ≡ 0 → (rowOf fields .process < PROCESSES) × (rowOf fields .message < MESSAGES)
   unfolding recordQuestions fieldQuestions
   row-fits e =
-      let q = every-yes asked (omega arith) e .1 .1 in
+      let q = all-yes asked (omega arith) e .1 .1 in
       let w = well-formed P fields (q .0) (q .1 .0) (q .1 .1 .0) (q .1 .1 .1 .0) in
       (omega (arith, w .process), w .message)
 
@@ -155,7 +155,7 @@ module _ {table : List ℕ} {done : List Row} (t : Tells table done) {P : ℕ} (
       go (no l) =
           let e : firstNo asked ≡ 0 = omega arith in
           let f = row-fits e in
-          all-yes asked by-table asked-numbered e ∙ tells-asks t (rowOf fields) (f .0) (f .1) ∙ sym (all-yes asked by-rows asked-numbered e)
+          rest-decides asked by-table asked-numbered e ∙ tells-asks t (rowOf fields) (f .0) (f .1) ∙ sym (rest-decides asked by-rows asked-numbered e)
 
   -- the record is the next row
   module _ {row : Row} (k : judgedBy (firstNo (asked ++ by-table)) fields ≡ Kept row) where
@@ -175,7 +175,7 @@ module _ {table : List ℕ} {done : List Row} (t : Tells table done) {P : ℕ} (
     tells-after {after} e =
         let o = kept-of (firstNo (asked ++ by-table)) fields k in
         let f = row-fits passed in
-        let m : firstNo by-rows ≡ 0 = sym (all-yes asked by-rows asked-numbered passed) ∙ sym first-same ∙ o .0 in
+        let m : firstNo by-rows ≡ 0 = sym (rest-decides asked by-rows asked-numbered passed) ∙ sym first-same ∙ o .0 in
         let l : after ≡ tableAfter table (rowOf fields) = e ∙ rw (eq-eqb (firstNo asked) 0 passed) in
         rw (l, o .1) (tells-next t (rowOf fields) (f .0) (f .1) m)
 
