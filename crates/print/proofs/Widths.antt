@@ -1,49 +1,32 @@
 -- Laws of how many digits a number has.
-use Prim.Native.Nat.{ℕ, zero, suc, _+_, _-_, _*_, _/_, _≤_, _<_}
+use Prim.Native.Nat.{ℕ, zero, suc, _*_, _/_, _≤_, _<_}
 use native.Mathlib.Omega.{arith}
-use mathlib.Core.Path.{_≡_, refl, subst}
+use mathlib.Core.Path.{_≡_, sym, ap}
 use borrow.Author.Tests.{lt-ltb, le-ltb}
-use Rattle.print.specs.Decimal.{widthWithin, widthOf}
+use Rattle.print.specs.Decimal.{WIDTH, widthWithin, widthOf}
 
--- The power of ten with one more zero than a number says.
-abbrev pub tens : ℕ → ℕ
-tens zero = 10
-tens (suc k) = tens k * 10
+-- The smallest number of k digits more than one; 0 for none more.
+abbrev pub least : ℕ → ℕ
+least zero = 0
+least (suc zero) = 10
+least (suc (suc k)) = least (suc k) * 10
 
--- What a scan by tens keeps: `width` digits are counted, and `rest` has at most `left` digits more than one.
-pub record Going (n width rest left : ℕ) : Type 0 where
-  pub ten : width + left ≡ 10
-  pub small : rest < tens left
-  pub counted : widthOf n + 1 ≡ width + widthWithin (suc left) rest
+-- The least number of more digits than one is 10 or more.
+least-ten : (k : ℕ) → 10 ≤ least (suc k)
+least-ten zero = omega arith
+least-ten (suc k) = omega (arith, least-ten k)
 
-pub start : (n : ℕ) → n < 4294967296 → Going n 1 n 9
-start n h = record { ten = refl; small = omega arith; counted = omega arith }
-
--- A rest of 10 or more has one digit more.
-step : {n width rest k : ℕ} → Going n width rest (suc k) → 10 ≤ rest → Going n (width + 1) (rest / 10) k
+-- A number from the least one of k digits more than one to below the least one of a digit more has these digits.
+width-between : (k m n : ℕ) → k < m → least k ≤ n → n < least (suc k) → widthWithin m n ≡ suc k
 unfolding widthWithin
-step {n} {width} {rest} {k} g l =
-    let power : tens (suc k) ≡ tens k * 10 = refl in
-    let c : widthOf n + 1 ≡ width + widthWithin (suc (suc k)) rest = g .counted in
-    let e : widthWithin (suc (suc k)) rest ≡ suc (widthWithin (suc k) (rest / 10)) = rw (le-ltb rest 10 l) in
-    record {
-      ten = omega (arith, g .ten);
-      small = omega (arith, g .small, power);
-      counted = omega (arith, c, e);
-    }
+width-between k zero n h l u = absurd (omega arith)
+width-between zero (suc m) n h l u = rw (lt-ltb n 10 u)
+width-between (suc zero) (suc m) n h l u =
+    rw (le-ltb n 10 l) (ap suc (width-between zero m (n / 10) (omega arith) (omega arith) (omega arith)))
+width-between (suc (suc k)) (suc m) n h l u =
+    let ten : 10 ≤ n = omega (arith, least-ten k) in
+    rw (le-ltb n 10 ten) (ap suc (width-between (suc k) m (n / 10) (omega arith) (omega arith) (omega arith)))
 
--- A rest below 10 is the last digit.
-pub stop : {n width rest left : ℕ} → Going n width rest left → rest < 10 → (width ≡ widthOf n) × (width ≤ 10)
-unfolding widthWithin
-stop {n} {width} {rest} {left} g h =
-    let c : widthOf n + 1 ≡ width + widthWithin (suc left) rest = g .counted in
-    let e : widthWithin (suc left) rest ≡ 1 = rw (lt-ltb rest 10 h) in
-    (omega (arith, c, e), omega (arith, g .ten))
-
--- A rest of 10 or more has one digit more, with the digits that are left said by the width.
-pub again : {n width rest : ℕ} → Going n width rest (10 - width) → 10 ≤ rest → Going n (width + 1) (rest / 10) (10 - (width + 1))
-again {n} {width} {rest} g l = go (10 - width) refl g
-  where
-    go : (k : ℕ) → 10 - width ≡ k → Going n width rest k → Going n (width + 1) (rest / 10) (10 - (width + 1))
-    go zero e h = let s = h .small in absurd (omega arith)
-    go (suc k) e h = let q : k ≡ 10 - (width + 1) = omega arith in subst (Going n (width + 1) (rest / 10)) q (step h l)
+-- A 32-bit number between two such bounds has so many digits, at most ten.
+pub width-below : (k n : ℕ) → k < WIDTH → least k ≤ n → n < least (suc k) → (suc k ≡ widthOf n) × (suc k ≤ WIDTH)
+width-below k n h l u = (sym (width-between k WIDTH n h l u), h)

@@ -47,16 +47,37 @@ pub fn put_number(out: &mut [u8], at: usize, n: u32) -> usize
 }
 
 // Answers how many digits a number has.
-fn width_of(n: u32) -> usize
+pub fn width_of(n: u32) -> usize
     ensures { λ r. ⌜ (r ≡ widthOf n) × (r ≤ WIDTH) ⌝ }
 {
-    let mut width = 1;
-    let mut rest = n;
-    while BASE <= rest {
-        rest /= BASE;
-        width += 1;
+    if n < 10 {
+        return 1;
     }
-    width
+    if n < 100 {
+        return 2;
+    }
+    if n < 1000 {
+        return 3;
+    }
+    if n < 10000 {
+        return 4;
+    }
+    if n < 100000 {
+        return 5;
+    }
+    if n < 1000000 {
+        return 6;
+    }
+    if n < 10000000 {
+        return 7;
+    }
+    if n < 100000000 {
+        return 8;
+    }
+    if n < 1000000000 {
+        return 9;
+    }
+    10
 }
 
 // Puts the last digits of a number.
