@@ -1,4 +1,4 @@
--- The refusals by their numbers, as src/refusal.rt has them: the questions of document 01.
+-- The refusals by their numbers, as src/refusal.rt has them: the questions of documents 01 and 02.
 use Prim.Native.Nat.{ℕ}
 
 -- Are the lent slices long enough?
@@ -68,3 +68,7 @@ MAP-SPACE = 16
 -- Does a read's list fit the lent answer slice?
 abbrev pub ANSWER-SPACE : ℕ
 ANSWER-SPACE = 17
+
+-- Does the text fit the lent slice behind the place?
+abbrev pub TEXT-SPACE : ℕ
+TEXT-SPACE = 18

@@ -1,4 +1,4 @@
-// The refusals by their numbers: the questions of document 01.
+// The refusals by their numbers: the questions of documents 01 and 02.
 
 // Are the lent slices long enough?
 pub const SHORT_SLICE: u32 = 1;
@@ -34,3 +34,5 @@ pub const OF_FILE: u32 = 15;
 pub const MAP_SPACE: u32 = 16;
 // Does a read's list fit the lent answer slice?
 pub const ANSWER_SPACE: u32 = 17;
+// Does the text fit the lent slice behind the place?
+pub const TEXT_SPACE: u32 = 18;
