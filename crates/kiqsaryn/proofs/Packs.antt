@@ -29,8 +29,10 @@ use Rattle.machine_state.specs.declared.Replayed.{Replayed}
 use Rattle.machine_state.specs.Answers.{headerOf, answerOf as answeredOf, Steps}
 use Rattle.machine_state.specs.Makes.{madeOf}
 use Rattle.machine_state.specs.Replays.{Replay, Replays}
-use Rattle.kiqsaryn.specs.Packing.{Gives, JudgeGives, Fills, Judges, Makes, packedStep, StepGives, ReplayGives}
-use Rattle.kiqsaryn_packing.specs.Packing.{UPPER, packed, FitsWords, packedWords, packedJudged, packedFound}
+use Rattle.writer.specs.declared.Written.{Written}
+use Rattle.writer.specs.Writing.{Writing, Writes}
+use Rattle.kiqsaryn.specs.Packing.{Gives, JudgeGives, Fills, Judges, Makes, packedStep, StepGives, ReplayGives, WriteGives}
+use Rattle.kiqsaryn_packing.specs.Packing.{UPPER, packed, FitsWords, packedWords, packedJudged, packedFound, packedWritten}
 use Rattle.kiqsaryn_packing.proofs.Packs.{small-fits, words-packed}
 
 -- A packed answer of a check, with what the check leaves.
@@ -135,3 +137,10 @@ packs-replay replay {h} {m} e {r} {ys} {cs} {zs} s =
       counts-left = s .counts-left;
       out-left = s .out-left;
     })
+
+-- ---- Writing
+
+-- A packed answer of writing, with what the call leaves of the slice.
+pub packs-written : {w : Writing} {a : Written} {r place : ℕ} {out out′ : List ℕ} → Writes w a place out out′ → r ≡ packedWritten a →
+    WriteGives w r place out out′
+packs-written s e = record { answered = e ∙ ap packedWritten (s .answered); out-left = s .out-left }

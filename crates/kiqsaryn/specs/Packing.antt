@@ -12,7 +12,8 @@ use Rattle.machine_meaning.specs.States.{Header}
 use Rattle.machine_meaning.specs.Steps as steps
 use Rattle.machine_meaning.specs.Steps.{Step, madeTo}
 use Rattle.machine_state.specs.Replays.{Replay}
-use Rattle.kiqsaryn_packing.specs.Packing.{UPPER, packed, packedJudged, packedFound}
+use Rattle.writer.specs.Writing.{Writing, writtenOf, outLeft}
+use Rattle.kiqsaryn_packing.specs.Packing.{UPPER, packed, packedJudged, packedFound, packedWritten}
 
 -- What a check answers and leaves.
 pub record Gives (o : Outcome) (answer : ℕ) (rows rows′ counts counts′ : List ℕ) : Type 0 where
@@ -73,3 +74,10 @@ pub record ReplayGives (s : Replay) (answer : ℕ) (maps′ counts′ out′ : L
   pub maps-left : maps′ ≡ s .maps
   pub counts-left : counts′ ≡ s .counts
   pub out-left : out′ ≡ s .out
+
+-- ---- Writing
+
+-- What writing answers and leaves.
+pub record WriteGives (w : Writing) (answer place : ℕ) (out out′ : List ℕ) : Type 0 where
+  pub answered : answer ≡ packedWritten (writtenOf w)
+  pub out-left : out′ ≡ outLeft w place out

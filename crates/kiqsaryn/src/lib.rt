@@ -8,7 +8,8 @@ ghost use Rattle.races.specs.Answers.{judgeQuestions};
 ghost use Rattle.checker.specs.Report.{reportLength, reportIn};
 ghost use Rattle.machine_meaning.specs.Steps.{makingQuestions, plainMakingQuestions, stepOf, plainStepOf};
 ghost use Rattle.machine_state.specs.Replays.{replayOf, plainReplayOf};
-ghost use Rattle.kiqsaryn.specs.Packing.{Gives, JudgeGives, Fills, Judges, NO-MODEL, headerFrom, rowFrom, Makes, StepGives, ReplayGives};
+ghost use Rattle.writer.specs.Writing.{writeTrace};
+ghost use Rattle.kiqsaryn.specs.Packing.{Gives, JudgeGives, Fills, Judges, NO-MODEL, headerFrom, rowFrom, Makes, StepGives, ReplayGives, WriteGives};
 use extents::Answer;
 use happens_before::Filled;
 use kiqsaryn_packing::UPPER;
@@ -283,4 +284,22 @@ pub extern "C" fn kiqsaryn_replay_plain(
     let header = Machine::fresh(NO_MODEL, process_limit, file, map_space);
     let r = machine::replay_plain(header, map, rows, first, n, counts, out);
     r.refusal as u64 * UPPER + r.rows as u64
+}
+
+// Writes the first n rows as a trace from the place on, as writer::write_trace does. The answer is the text's length, below 2^32, and of a refusal
+// its number times 2^32 plus its place.
+#[no_mangle]
+pub extern "C" fn kiqsaryn_write(
+    rows: &[u32],
+    n: u32,
+    header: u32,
+    process_limit: u32,
+    out: &mut [u8],
+    place: usize,
+) -> u64
+    ensures { λ r. ⌜ WriteGives (writeTrace (now (rows .entry)) n header «process_limit» (length (now (out .entry))) place)
+        r place (now (out .entry)) (now (out .exit)) ⌝ }
+{
+    let answer = writer::write_trace(rows, n, header, process_limit, out, place);
+    kiqsaryn_packing::pack_written(answer)
 }

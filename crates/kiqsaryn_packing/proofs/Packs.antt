@@ -21,13 +21,18 @@ use Rattle.trace.specs.Questions.{checkTrace}
 use Rattle.checker.specs.declared.Judged.{Judged}
 use Rattle.checker.specs.declared.Judged.the-variants as judged
 use Rattle.checker.specs.Judging.{judgedOf}
-use Rattle.checker.proofs.Sizes.{Small, judged-small}
-use Rattle.kiqsaryn_packing.specs.Packing.{UPPER, WORD, WORD-3, WORD-4, packedJudged, packedWords, FitsWords, unpackedJudged, packedFound, unpackedFound}
+use Rattle.checker.proofs.Sizes as judging
+use Rattle.checker.proofs.Sizes.{judged-small}
+use Rattle.writer.specs.declared.Written.{Written}
+use Rattle.writer.specs.declared.Written.the-variants as written
+use Rattle.writer.specs.Writing.{writeTrace, writtenOf}
+use Rattle.writer.proofs.Sizes.{Small, written-small}
+use Rattle.kiqsaryn_packing.specs.Packing.{UPPER, WORD, WORD-3, WORD-4, packedJudged, packedWords, FitsWords, unpackedJudged, packedFound, unpackedFound, packedWritten, unpackedWritten}
 
 -- ---- The whole call
 
 -- A small answer has 16 bits in every number.
-pub small-fits : (j : Judged) → Small j → FitsWords j
+pub small-fits : (j : Judged) → judging.Small j → FitsWords j
 small-fits (judged.Free n) s = omega arith
 small-fits (judged.Race n earlier later) s = (omega arith, omega arith, omega arith)
 small-fits (judged.Refused number place) s = (omega arith, omega arith)
@@ -69,7 +74,7 @@ words low later earlier number answer e h i j =
     λ k. cond (eqb (a k) 0) (cond (eqb (c k) 0) (judged.Free (d k)) (judged.Race (d k) (b k) (c k))) (judged.Refused (a k) (d k))
 
 -- A small answer is read back from its number.
-read-back : (j : Judged) → Small j → unpackedJudged (packedJudged j) ≡ j
+read-back : (j : Judged) → judging.Small j → unpackedJudged (packedJudged j) ≡ j
 read-back (judged.Free n) s = words n 0 0 0 n (omega arith) (omega arith) (omega arith) (omega arith)
 read-back (judged.Race n earlier later) s =
     words n later earlier 0 (n + later * WORD + earlier * WORD-3) (omega arith) (omega arith) (omega arith) (omega arith)
@@ -120,3 +125,22 @@ found-back n P model xs L = go (eqb first 0) refl
     go : (b : Bool) → eqb first 0 ≡ b → unpackedFound (packedFound (answer b)) ≡ answer b
     go true e = verdict-back (rowsIn n xs) model (omega (arith, length-rows n xs, few-judged n P model xs L (eqb-true first 0 e)))
     go false e = halves first 0 (first * UPPER) (omega arith) (omega arith) ∙ rw e
+
+-- ---- Writing
+
+-- A small answer of writing is read back from its number.
+small-back : (w : Written) → Small w → unpackedWritten (packedWritten w) ≡ w
+small-back (written.Length size) s =
+    let a : size / UPPER ≡ 0 = omega arith in
+    let b : size % UPPER ≡ size = omega arith in
+    λ k. cond (eqb (a k) 0) (written.Length (b k)) (written.Refused (a k) (b k))
+small-back (written.Refused number place) s =
+    let answer = number * UPPER + place in
+    let a : answer / UPPER ≡ number = omega arith in
+    let b : answer % UPPER ≡ place = omega arith in
+    (λ k. cond (eqb (a k) 0) (written.Length (b k)) (written.Refused (a k) (b k))) ∙ rw (ne-eqb number 0 (λ z. omega arith))
+
+-- Every answer of writing is read back from its number.
+pub written-back : (xs : List ℕ) (n header P outLength place : ℕ) →
+    unpackedWritten (packedWritten (writtenOf (writeTrace xs n header P outLength place))) ≡ writtenOf (writeTrace xs n header P outLength place)
+written-back xs n header P outLength place = small-back _ (written-small xs n header P outLength place)

@@ -1,4 +1,4 @@
--- How the answers of a check, of a whole call and of a verdict are packed into one number each, and read back.
+-- How the answers of a check, of a whole call, of a verdict and of writing are packed into one number each, and read back.
 use Prim.Native.Nat.{ℕ, _+_, _*_, _/_, _%_, _<_}
 use mathlib.Core.Bool.{cond}
 use lib.Dec.{eqb}
@@ -8,6 +8,8 @@ use Rattle.trace.specs.declared.Checked.{Checked}
 use Rattle.trace.specs.declared.Checked.the-variants as checked
 use Rattle.checker.specs.declared.Judged.{Judged}
 use Rattle.checker.specs.declared.Judged.the-variants as judged
+use Rattle.writer.specs.declared.Written as writer
+use Rattle.writer.specs.declared.Written.the-variants as written
 
 -- The factor of the upper half of a number, which has 32 bits.
 abbrev pub UPPER : ℕ
@@ -71,3 +73,15 @@ unpackedFound answer =
     let high = answer / UPPER in
     let low = answer % UPPER in
     cond (eqb low 0) (cond (eqb high 0) found.Free (found.Refused high)) (found.Race high low)
+
+-- The answer of writing: the text's length, or the refusal's number in the upper half and its place in the lower.
+abbrev pub packedWritten : writer.Written → ℕ
+packedWritten (written.Length length) = length
+packedWritten (written.Refused number place) = number * UPPER + place
+
+-- The answer of writing that such a number tells. The number of a refusal is not 0.
+abbrev pub unpackedWritten : ℕ → writer.Written
+unpackedWritten answer =
+    let high = answer / UPPER in
+    let low = answer % UPPER in
+    cond (eqb high 0) (written.Length low) (written.Refused high low)

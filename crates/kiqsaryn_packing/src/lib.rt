@@ -1,10 +1,11 @@
-// Packs the answers of a check, of a whole call and of a verdict into one number each, for C.
+// Packs the answers of a check, of a whole call, of a verdict and of writing into one number each, for C.
 ghost use mathlib.Core.Path.{_≡_};
 ghost use Prim.Native.Nat.{_%_};
-ghost use Rattle.kiqsaryn_packing.specs.Packing.{WORD, packed, packedWords, packedFound};
+ghost use Rattle.kiqsaryn_packing.specs.Packing.{WORD, packed, packedWords, packedFound, packedWritten};
 use checker::Judged;
 use races::Found;
 use trace::Checked;
+use writer::Written;
 
 // The factor of the upper half of a number, which has 32 bits.
 pub const UPPER: u64 = 4294967296;
@@ -55,5 +56,15 @@ pub fn pack_found(answer: Found) -> u64
         Found::Free => 0,
         Found::Race(earlier, later) => earlier as u64 * UPPER + later as u64,
         Found::Refused(number) => number as u64 * UPPER,
+    }
+}
+
+// Packs what writing answers: the text's length, and of a refusal its number in the upper half and its place in the lower.
+pub fn pack_written(answer: Written) -> u64
+    ensures { λ r. ⌜ r ≡ packedWritten answer ⌝ }
+{
+    match answer {
+        Written::Length(length) => length as u64,
+        Written::Refused(number, row) => number as u64 * UPPER + row as u64,
     }
 }
