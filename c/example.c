@@ -1,10 +1,10 @@
-/* Trace B through the library for C: in one call, then from its text to the verdicts, and its read replayed on a machine for session and on
- * the plain file. */
+/* Trace B through the library for C: in one call, then from its text to the verdicts, its rows written as text again, and its read replayed on a
+ * machine for session and on the plain file. */
 #include "kiqsaryn.h"
 #include <stdio.h>
 #include <string.h>
 
-enum { ROWS = 16, PROCESSES = 2, SPACE = 4 };
+enum { ROWS = 16, PROCESSES = 2, SPACE = 4, TEXT = 256, TOO_SHORT = 100 };
 
 static const char *const names[4] = {"posix", "commit", "session", "mpiio"};
 
@@ -16,6 +16,17 @@ static void print_judged(const char *name, uint64_t judged) {
                (unsigned)kiqsaryn_judged_later(judged));
     else
         printf("%s: %u rows, free\n", name, (unsigned)kiqsaryn_judged_rows(judged));
+}
+
+/* Writes rows as text with a header into a slice of this length, and says whether it is the text that they were read from. */
+static void print_written(const uint32_t *rows, uint32_t n, size_t out_len, const char *text) {
+    uint8_t out[TEXT];
+    uint64_t written = kiqsaryn_write(rows, 6 * ROWS, n, 1, PROCESSES, out, out_len, 0);
+    if (written >> 32)
+        printf("written into a slice of %u: refused %u at %u\n", (unsigned)out_len, (unsigned)(written >> 32), (unsigned)written);
+    else
+        printf("written into a slice of %u: %u bytes, %s\n", (unsigned)out_len, (unsigned)written,
+               written == strlen(text) && memcmp(out, text, strlen(text)) == 0 ? "the text that was read" : "another text");
 }
 
 int main(void) {
@@ -47,6 +58,8 @@ int main(void) {
         else
             printf("%s race %u %u\n", names[model], (unsigned)(found >> 32), (unsigned)found);
     }
+    print_written(rows, n, TEXT, text);
+    print_written(rows, n, TOO_SHORT, text);
     if (kiqsaryn_make(2, PROCESSES, 1, SPACE, maps, 4 * SPACE * (PROCESSES + 1)) || kiqsaryn_make_plain(PROCESSES, 1, SPACE, map, 4 * SPACE))
         return 2;
     if (kiqsaryn_replay(2, PROCESSES, 1, SPACE, maps, 4 * SPACE * (PROCESSES + 1), rows, 6 * ROWS, 0, n, seen, ROWS, pieces, 24) != n)

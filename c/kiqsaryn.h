@@ -4,8 +4,9 @@
  * and then how many elements it has; the pointer must not be null and must be aligned, also where the length is 0, and a slice lent for
  * writing must not overlap another one of the call. The contracts stand in crates/kiqsaryn/src/lib.rt.
  *
- * Stack: kiqsaryn_check_trace, kiqsaryn_judge and kiqsaryn_report take up to 140 KB of stack, for a table by message; kiqsaryn_fill_counts and
- * kiqsaryn_verdict up to 18 KB, for tables of earlier rows; every other call less than 4 KB. There is no heap and no state between calls.
+ * Stack: kiqsaryn_check_trace, kiqsaryn_judge, kiqsaryn_report and kiqsaryn_write take up to 140 KB of stack, for a table by message;
+ * kiqsaryn_fill_counts and kiqsaryn_verdict up to 18 KB, for tables of earlier rows; every other call less than 4 KB. There is no heap and no
+ * state between calls.
  *
  * Models: 0 POSIX, 1 commit, 2 session, 3 MPI-IO. Kinds: 0 read, 1 write, 2 commit, 3 open, 4 close, 5 sync, 6 send, 7 recv. A row is six
  * numbers: process, kind, file, offset, length, message. A piece is three: start, length, row number (0 for unwritten bytes). A run is four:
@@ -17,7 +18,7 @@
  *   3 header word 0 or 1          9 used fields filled, others not  15 a row of this file that is no send or recv
  *   4 record well formed         10 numbers plain and in range      16 every map fits its space
  *   5 the header's six names     11 offset + length                 17 the pieces fit the answer slice
- *   6 row and byte limit         12 messages in order
+ *   6 row and byte limit         12 messages in order               18 the text fits its slice from its place on
  */
 #ifndef KIQSARYN_H
 #define KIQSARYN_H
@@ -74,6 +75,16 @@ uint64_t kiqsaryn_verdict(const uint32_t *rows, size_t rows_len, uint32_t n, uin
 /* What the program verdict prints of a trace with header, put at the front of a slice of 256 bytes or more. The answer is its length, and 0
  * for a shorter slice. */
 size_t kiqsaryn_report(const uint8_t *text, size_t text_len, uint8_t *out, size_t out_len);
+
+/* Writes the first n rows as plain RFC 4180 text into `out` from index `place` on, behind the line process,kind,file,offset,length,message where
+ * `header` is 1. No field is quoted, fields that a kind does not use are empty, and every record ends in CR LF; kiqsaryn_check_trace reads the
+ * same rows again under the same header word and process limit. The answer is the text's length, below 2^32 (at most 41 bytes for the header
+ * and 36 for each row), or a refusal's number times 2^32 plus the row's number (0 for none). The first No decides: 1 where `rows` has fewer
+ * than 6 * n numbers, 2 for more than 4,096 rows or a process limit that is not 1 to 64, 3; then row by row 8, 9 for an unused field that is
+ * not 0, 10, 11 and 12; and 18 where `place` lies past the end of `out` or too few bytes follow it. Bytes before the place and behind the text
+ * keep their values, and a refusal changes nothing. */
+uint64_t kiqsaryn_write(const uint32_t *rows, size_t rows_len, uint32_t n, uint32_t header, uint32_t process_limit, uint8_t *out,
+                        size_t out_len, size_t place);
 
 /* Makes a machine over 4 * map_space * (process_limit + 1) numbers, or a plain file over 4 * map_space: 0 everywhere in its maps; what lies
  * behind them is not touched. The answer is 0, or the number of a refusal (1, 2 or 10), which changes nothing. */

@@ -44,6 +44,17 @@ extern "C" {
 
     pub fn kiqsaryn_report(text: *const u8, text_len: usize, out: *mut u8, out_len: usize) -> usize;
 
+    pub fn kiqsaryn_write(
+        rows: *const u32,
+        rows_len: usize,
+        n: u32,
+        header: u32,
+        process_limit: u32,
+        out: *mut u8,
+        out_len: usize,
+        place: usize,
+    ) -> u64;
+
     pub fn kiqsaryn_make(model: u32, process_limit: u32, file: u32, map_space: u32, maps: *mut u32, maps_len: usize) -> u32;
 
     pub fn kiqsaryn_make_plain(process_limit: u32, file: u32, map_space: u32, map: *mut u32, map_len: usize) -> u32;

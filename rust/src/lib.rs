@@ -101,7 +101,7 @@ pub struct Settings {
 
 /// The refusal of a number that the library answers; it answers no other.
 fn refused(number: u32) -> Refusal {
-    Refusal::from_number(number).expect("the library's refusals have a number from 1 to 17")
+    Refusal::from_number(number).expect("the library's refusals have a number from 1 to 18")
 }
 
 /// Reads a trace into the lent rows, six numbers each. Refusals 1 to 3 keep both slices, 4 to 12 fill them with 0.
@@ -214,6 +214,35 @@ pub fn report(text: &[u8]) -> Vec<u8> {
     let n = unsafe { ffi::kiqsaryn_report(text.as_ptr(), text.len(), out.as_mut_ptr(), out.len()) };
     out.truncate(n);
     out
+}
+
+/// The length of the header's line with its line end, and the most that a row's line can have (63,write,63,2147483647,2147483648,): so many
+/// bytes and so many for each row are enough for every text that `write` writes.
+pub const HEADER_LINE: usize = 41;
+pub const LONGEST_LINE: usize = 36;
+
+/// What the writing of rows comes to.
+#[derive(Clone, Copy, Debug, PartialEq, Eq)]
+pub enum Written {
+    /// The length of the text.
+    Length(usize),
+    /// The question that was answered No, and the row's number: 0 where it is about no row.
+    Refused { refusal: Refusal, place: u32 },
+}
+
+/// Writes the first `n` rows as plain RFC 4180 text into `out` from index `place` on, behind the header's line where `header` is 1. No field
+/// is quoted, fields that a kind does not use are empty, and every record ends in CR LF. `check_trace` reads the same rows again under the
+/// same header word and process limit. Bytes before the place and behind the text keep their values, and a refusal changes nothing: 1 where
+/// `rows` has fewer than six numbers a row, 2 for more than 4,096 rows or a process limit that is not 1 to 64, 3 for a header word past 1, then
+/// row by row 8 to 12 as `check_trace` asks them (9 for an unused field that is not 0), and 18 last, where the place lies past the end of `out`
+/// or too few bytes follow it.
+pub fn write(rows: &[u32], n: u32, header: u32, process_limit: u32, out: &mut [u8], place: usize) -> Written {
+    // Both slices are live for the call, and the one lent for writing is borrowed by it alone.
+    let answer = unsafe { ffi::kiqsaryn_write(rows.as_ptr(), rows.len(), n, header, process_limit, out.as_mut_ptr(), out.len(), place) };
+    match ((answer >> 32) as u32, answer as u32) {
+        (0, length) => Written::Length(length as usize),
+        (number, place) => Written::Refused { refusal: refused(number), place },
+    }
 }
 
 // ---- The machine and the plain file

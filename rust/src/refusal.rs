@@ -20,10 +20,11 @@ pub enum Refusal {
     NotOfFile,
     MapSpace,
     AnswerSpace,
+    TextSpace,
 }
 
 impl Refusal {
-    pub const ALL: [Refusal; 17] = [
+    pub const ALL: [Refusal; 18] = [
         Refusal::ShortSlice,
         Refusal::Limits,
         Refusal::HeaderWord,
@@ -41,6 +42,7 @@ impl Refusal {
         Refusal::NotOfFile,
         Refusal::MapSpace,
         Refusal::AnswerSpace,
+        Refusal::TextSpace,
     ];
 
     /// The number that the documents give it, from 1.
@@ -77,6 +79,7 @@ impl Refusal {
             Refusal::NotOfFile => "Is the row a read, write, commit, open, close or sync of this file?",
             Refusal::MapSpace => "Does every map after the row fit its space?",
             Refusal::AnswerSpace => "Does the read's list of pieces fit the lent answer slice?",
+            Refusal::TextSpace => "Does the text fit the lent slice from its place on?",
         }
     }
 }
