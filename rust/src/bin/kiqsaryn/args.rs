@@ -10,6 +10,7 @@ pub enum Topic {
     Check,
     Replay,
     Diagram,
+    Write,
 }
 
 pub enum Source {
@@ -24,12 +25,14 @@ pub struct Common {
     pub processes: u32,
 }
 
+/// What is to be done. An `output` of none is standard output.
 pub enum Request {
     Help(Topic),
     Version,
     Check { common: Common, models: Vec<Model>, csv: bool },
     Replay { common: Common, file: u32, model: Model },
     Diagram { common: Common, model: Model, output: Option<PathBuf> },
+    Write { common: Common, out_header: bool, output: Option<PathBuf> },
 }
 
 /// The options as they were given, not yet held against the command.
@@ -37,6 +40,7 @@ pub enum Request {
 struct Given {
     trace: Option<OsString>,
     header: Option<OsString>,
+    out_header: Option<OsString>,
     processes: Option<OsString>,
     model: Option<OsString>,
     file: Option<OsString>,
@@ -59,8 +63,7 @@ fn split(arg: &str) -> (&str, Option<OsString>) {
     }
 }
 
-fn gather(args: impl Iterator<Item = OsString>, allowed: &[&str]) -> Result<Given, String> {
-    let mut args = args;
+fn gather(mut args: impl Iterator<Item = OsString>, allowed: &[&str]) -> Result<Given, String> {
     let mut given = Given::default();
     let mut only_paths = false;
     while let Some(arg) = args.next() {
@@ -83,18 +86,12 @@ fn gather(args: impl Iterator<Item = OsString>, allowed: &[&str]) -> Result<Give
                 continue;
             }
             _ if !allowed.contains(&name) => return Err(format!("this command has no option {name:?}")),
+            "--csv" if value.is_some() => return Err("--csv takes no value".to_string()),
             "--csv" => {
-                if value.is_some() {
-                    return Err("--csv takes no value".to_string());
-                }
                 given.csv = true;
                 continue;
             }
-            "--header" => &mut given.header,
-            "--processes" => &mut given.processes,
-            "--model" => &mut given.model,
-            "--file" => &mut given.file,
-            _ => &mut given.output,
+            _ => given.slot(name),
         };
         let Some(value) = value.or_else(|| args.next()) else {
             return Err(format!("{name} has no value"));
@@ -121,18 +118,40 @@ fn one_model(value: &OsString) -> Result<Model, String> {
     model.ok_or_else(|| format!("--model is posix, commit, session or mpiio, not {value:?}"))
 }
 
+/// The answer to a question that is yes or no.
+fn yes_or_no(value: &OsString) -> Option<bool> {
+    match value.to_str() {
+        Some("yes") => Some(true),
+        Some("no") => Some(false),
+        _ => None,
+    }
+}
+
 impl Given {
+    /// Where the value of an option is kept.
+    fn slot(&mut self, name: &str) -> &mut Option<OsString> {
+        match name {
+            "--header" => &mut self.header,
+            "--out-header" => &mut self.out_header,
+            "--processes" => &mut self.processes,
+            "--model" => &mut self.model,
+            "--file" => &mut self.file,
+            _ => &mut self.output,
+        }
+    }
+
+    /// The file of `-o`; none for standard output.
+    fn output(&mut self) -> Option<PathBuf> {
+        self.output.take().filter(|o| o != "-").map(PathBuf::from)
+    }
+
     fn common(&mut self) -> Result<Common, String> {
         let trace = match self.trace.take() {
             None => return Err("no TRACE is given".to_string()),
             Some(t) if t == "-" => Source::Standard,
             Some(t) => Source::Path(PathBuf::from(t)),
         };
-        let header = match self.header.as_ref().map(|h| h.to_str()) {
-            Some(Some("yes")) => true,
-            Some(Some("no")) => false,
-            _ => return Err(WHY_HEADER.to_string()),
-        };
+        let header = self.header.as_ref().and_then(yes_or_no).ok_or_else(|| WHY_HEADER.to_string())?;
         let processes = self.processes.as_ref().map_or(Ok(PROCESSES), |v| number("--processes", v, 1, PROCESSES))?;
         Ok(Common { trace, header, processes })
     }
@@ -150,19 +169,25 @@ pub fn parse(args: impl Iterator<Item = OsString>) -> Result<Request, (String, T
         Some("check") => Topic::Check,
         Some("replay") => Topic::Replay,
         Some("diagram") => Topic::Diagram,
+        Some("write") => Topic::Write,
         _ => return Err((format!("there is no command {command:?}"), Topic::All)),
     };
     request(topic, args).map_err(|e| (e, topic))
 }
 
-fn request(topic: Topic, args: impl Iterator<Item = OsString>) -> Result<Request, String> {
-    let allowed: &[&str] = match topic {
+/// The options that a command has besides `--help`.
+fn allowed(topic: Topic) -> &'static [&'static str] {
+    match topic {
         Topic::All => &[],
         Topic::Check => &["--header", "--processes", "--model", "--csv"],
         Topic::Replay => &["--header", "--processes", "--model", "--file"],
         Topic::Diagram => &["--header", "--processes", "--model", "-o"],
-    };
-    let mut given = gather(args, allowed)?;
+        Topic::Write => &["--header", "--out-header", "--processes", "-o"],
+    }
+}
+
+fn request(topic: Topic, args: impl Iterator<Item = OsString>) -> Result<Request, String> {
+    let mut given = gather(args, allowed(topic))?;
     if given.help {
         return Ok(Request::Help(topic));
     }
@@ -188,7 +213,14 @@ fn request(topic: Topic, args: impl Iterator<Item = OsString>) -> Result<Request
         }
         Topic::Diagram => {
             let model = given.model.as_ref().map_or(Ok(Model::Commit), one_model)?;
-            Ok(Request::Diagram { common, model, output: given.output.map(PathBuf::from) })
+            Ok(Request::Diagram { common, model, output: given.output() })
+        }
+        Topic::Write => {
+            let out_header = match &given.out_header {
+                None => common.header,
+                Some(word) => yes_or_no(word).ok_or_else(|| format!("--out-header is yes or no, not {word:?}"))?,
+            };
+            Ok(Request::Write { common, out_header, output: given.output() })
         }
     }
 }

@@ -2,7 +2,7 @@
 
 use crate::explain::explain;
 use crate::input::Trace;
-use crate::text::{counted, describe, escape, labelled};
+use crate::text::{counted, describe, escape, labelled, size};
 use crate::words::words;
 use kiqsaryn::{verdict, Model, Verdict, RECV, SEND};
 use std::collections::BTreeMap;
@@ -50,12 +50,7 @@ fn shown(trace: &Trace, label: &str, number: u32) -> String {
 pub fn what_was_read(trace: &Trace) -> String {
     let rows = trace.rows();
     let mut s = format!("Trace: {}\n\nRead, to hold against the recorder:\n", trace.name);
-    s.push_str(&format!("  {}\n", counted(trace.text.len() as u64, "byte")));
-    s.push_str(match trace.header {
-        true => "  header: yes (the first record is no row)\n",
-        false => "  header: no (the first record is row 1)\n",
-    });
-    s.push_str(&format!("  {}\n", counted(u64::from(trace.n), "row")));
+    s.push_str(&size(trace.text.len(), trace.header, trace.n));
     if trace.n > 0 {
         s.push_str(&shown(trace, "first row", 1));
     }

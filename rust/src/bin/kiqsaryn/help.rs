@@ -8,6 +8,7 @@ const ALL: &str = "kiqsaryn - finds storage races in the trace of a storage shel
   kiqsaryn replay TRACE --header yes|no --file F --model M
                                             what each read returned
   kiqsaryn diagram TRACE --header yes|no    the trace as a picture (SVG)
+  kiqsaryn write TRACE --header yes|no      the trace as plain text, cleaned
   kiqsaryn COMMAND --help                   the options of a command
   kiqsaryn --version
 
@@ -19,7 +20,7 @@ and lines that end in CR LF; - reads standard input. It has at most 4096 rows,
 (no). It is always asked and never guessed.
 
 Exit status:
-  0  free under every model asked for; replay or diagram done
+  0  free under every model asked for; replay, diagram or write done
   1  a race under at least one of them
   2  the trace is refused
   3  the command line is wrong, or a file cannot be read or written
@@ -97,12 +98,42 @@ Example:
   kiqsaryn diagram shelf.csv --header yes -o shelf.svg
 ";
 
+const WRITE: &str = "kiqsaryn write TRACE --header yes|no [--out-header yes|no] [--processes N]
+               [-o FILE]
+
+Writes the rows of a trace as plain text again: no field in quotes, fields that
+a kind does not use empty, CR LF at the end of every record, also of the last.
+Only a trace that is accepted is written. Its rows, read again, are the same.
+
+  --header yes|no      the first record of TRACE holds the names (yes) or is
+                       row 1 (no)
+  --out-header yes|no  write the names first (yes) or not (no); as --header if
+                       left out
+  --processes N        process numbers are below N; 1 to 64, 64 if left out
+  -o FILE              write to FILE; standard output if left out, or for -
+
+Once all is written it says how many bytes and rows were read and written: on
+standard output, or on standard error where the text went to standard output.
+
+FILE is replaced only once the text is complete: it is written to a new file
+beside it, which then takes its name and keeps its mode. If FILE is a symbolic
+link, the file that it leads to is replaced; a pipe or a device is written to
+as it stands. FILE cannot be the trace, under whatever name.
+
+Exit status: 0 written, 2 refused, 3 wrong command line or file error.
+
+Examples:
+  kiqsaryn write shelf.csv --header yes -o clean.csv
+  kiqsaryn write old-shelf.csv --header no --out-header yes > shelf.csv
+";
+
 pub fn help(topic: Topic) -> &'static str {
     match topic {
         Topic::All => ALL,
         Topic::Check => CHECK,
         Topic::Replay => REPLAY,
         Topic::Diagram => DIAGRAM,
+        Topic::Write => WRITE,
     }
 }
 
@@ -113,5 +144,6 @@ pub fn hint(topic: Topic) -> &'static str {
         Topic::Check => "kiqsaryn check --help shows the options.",
         Topic::Replay => "kiqsaryn replay --help shows the options.",
         Topic::Diagram => "kiqsaryn diagram --help shows the options.",
+        Topic::Write => "kiqsaryn write --help shows the options.",
     }
 }

@@ -12,11 +12,13 @@ mod replay;
 mod standard;
 mod text;
 mod words;
+mod write;
 
 use args::{Common, Request};
 use input::{Loaded, Trace};
+use output::Place;
 use std::io::{self, Write};
-use std::path::{Path, PathBuf};
+use std::path::PathBuf;
 use std::process::ExitCode;
 
 const FREE: u8 = 0;
@@ -29,16 +31,18 @@ struct Outcome {
     out: String,
     err: String,
     file: Option<PathBuf>,
+    /// What is said once `out` is written.
+    after: String,
     status: u8,
 }
 
 impl Outcome {
     fn out(out: String, status: u8) -> Outcome {
-        Outcome { out, err: String::new(), file: None, status }
+        Outcome { out, err: String::new(), file: None, after: String::new(), status }
     }
 
     fn err(err: String, status: u8) -> Outcome {
-        Outcome { out: String::new(), err, file: None, status }
+        Outcome { err, ..Outcome::out(String::new(), status) }
     }
 
     fn failed(sentence: &str) -> Outcome {
@@ -46,16 +50,19 @@ impl Outcome {
     }
 }
 
-/// Loads a trace and does the rest with it if it is accepted. Output that would overwrite the trace is not begun.
+/// Loads a trace and does the rest with it if it is accepted. Output to places of which one would overwrite the trace is not begun.
 fn with_trace(
     common: &Common,
-    output: Option<&Path>,
+    places: &[Place],
     refused: impl Fn(&input::Refused) -> Outcome,
     accepted: impl Fn(&Trace) -> Result<Outcome, String>,
 ) -> Outcome {
-    if output::overwrites(&common.trace, output) {
-        let place = if output.is_some() { "-o names" } else { "standard output is" };
-        return Outcome::failed(&format!("{place} the trace itself; nothing is written"));
+    match places.iter().find(|place| output::overwrites(&common.trace, place)) {
+        Some(Place::File(_)) => return Outcome::failed("-o names the trace itself; nothing is written"),
+        Some(Place::Output) => return Outcome::failed("standard output is the trace itself; nothing is written"),
+        // A sentence on standard error would be written over the trace too.
+        Some(Place::Error) => return Outcome::err(String::new(), WRONG),
+        None => {}
     }
     let done = match input::load(common) {
         Ok(Loaded::Accepted(trace)) => accepted(&trace),
@@ -71,7 +78,7 @@ fn run(request: Request) -> Outcome {
         Request::Version => Outcome::out(format!("kiqsaryn {}\n", env!("CARGO_PKG_VERSION")), FREE),
         Request::Check { common, models, csv } => with_trace(
             &common,
-            None,
+            &[Place::Output],
             |r| Outcome::out(if csv { refused::csv(r) } else { refused::report(r) }, REFUSED),
             |trace| {
                 let verdicts = check::judge(trace, &models)?;
@@ -81,38 +88,77 @@ fn run(request: Request) -> Outcome {
         ),
         Request::Replay { common, file, model } => with_trace(
             &common,
-            None,
+            &[Place::Output],
             |r| Outcome::out(refused::report(r), REFUSED),
             |trace| Ok(Outcome::out(replay::report(trace, file, model)?, FREE)),
         ),
-        Request::Diagram { common, model, output } => {
-            let output = output.filter(|o| o.as_os_str() != "-");
-            with_trace(
-                &common,
-                output.as_deref(),
-                |r| Outcome::err(refused::report(r), REFUSED),
-                |trace| Ok(Outcome { file: output.clone(), ..Outcome::out(diagram::svg(trace, model)?, FREE) }),
-            )
-        }
+        Request::Diagram { common, model, output } => with_trace(
+            &common,
+            &[output.as_deref().map_or(Place::Output, Place::File)],
+            |r| Outcome::err(refused::report(r), REFUSED),
+            |trace| Ok(Outcome { file: output.clone(), ..Outcome::out(diagram::svg(trace, model)?, FREE) }),
+        ),
+        Request::Write { common, out_header, output } => run_write(&common, out_header, output),
     }
+}
+
+/// Writes a trace as plain text and says what was read and written: to a file or standard output, and to standard output or standard error.
+fn run_write(common: &Common, header: bool, output: Option<PathBuf>) -> Outcome {
+    with_trace(
+        common,
+        &[Place::Error, output.as_deref().map_or(Place::Output, Place::File), Place::Output],
+        |r| Outcome::err(refused::report(r), REFUSED),
+        |trace| {
+            let text = write::text(trace, header)?;
+            let name = output.as_deref().map_or("standard output".to_string(), text::path_name);
+            let after = write::report(trace, header, &text, &name);
+            Ok(Outcome { file: output.clone(), after, ..Outcome::out(text, FREE) })
+        },
+    )
 }
 
 /// Writes all at once. A failure has exit status 3.
 fn finish(outcome: Outcome) -> u8 {
-    let _ = io::stderr().write_all(outcome.err.as_bytes());
-    let bytes = outcome.out.as_bytes();
-    let written = match &outcome.file {
-        Some(path) => output::to_file(path, bytes).map_err(|e| format!("cannot write {}: {e}", text::path_name(path))),
-        None if bytes.is_empty() => Ok(()),
-        None => output::to_standard(bytes).map_err(|e| format!("cannot write to standard output: {e}")),
-    };
-    match written {
+    complain(&outcome.err);
+    // Writing to a file may put another one in its place, so this is asked before.
+    let to_standard = outcome.file.as_deref().is_none_or(output::is_standard);
+    match put(&outcome).and_then(|()| tell(&outcome, to_standard)) {
         Ok(()) => outcome.status,
         Err(e) => {
-            let _ = io::stderr().write_all(format!("kiqsaryn: {e}\n").as_bytes());
+            complain(&format!("kiqsaryn: {e}\n"));
             WRONG
         }
     }
+}
+
+/// Writes what goes to standard output or to a file.
+fn put(outcome: &Outcome) -> Result<(), String> {
+    match &outcome.file {
+        Some(path) => output::to_file(path, outcome.out.as_bytes()).map_err(|e| format!("cannot write {}: {e}", text::path_name(path))),
+        None => say(&outcome.out),
+    }
+}
+
+/// Says what is said once all is written: on standard output, or on standard error where standard output has the text.
+fn tell(outcome: &Outcome, to_standard: bool) -> Result<(), String> {
+    if to_standard {
+        complain(&outcome.after);
+        return Ok(());
+    }
+    say(&outcome.after).map_err(|e| format!("{e}; the file is written"))
+}
+
+/// Says something on standard output. Where nothing is to be said, nothing fails.
+fn say(words: &str) -> Result<(), String> {
+    if words.is_empty() {
+        return Ok(());
+    }
+    output::to_standard(words.as_bytes()).map_err(|e| format!("cannot write to standard output: {e}"))
+}
+
+/// Says something on standard error. There is no place to tell of a failure.
+fn complain(words: &str) {
+    let _ = io::stderr().write_all(words.as_bytes());
 }
 
 fn main() -> ExitCode {

@@ -17,15 +17,23 @@ fn same_file(a: &Metadata, b: &Metadata) -> bool {
     (a.dev(), a.ino()) == (b.dev(), b.ino())
 }
 
-/// Whether output to this path, or to standard output, would overwrite the trace. Terminals and pipes keep nothing to overwrite.
-pub fn overwrites(trace: &Source, path: Option<&Path>) -> bool {
+/// Where a command writes.
+pub enum Place<'a> {
+    Output,
+    Error,
+    File(&'a Path),
+}
+
+/// Whether output to this place would overwrite the trace. Terminals and pipes keep nothing to overwrite.
+pub fn overwrites(trace: &Source, place: &Place) -> bool {
     let trace = match trace {
         Source::Standard => standard::input().and_then(|f| f.metadata()),
         Source::Path(trace) => fs::metadata(trace),
     };
-    let output = match path {
-        None => standard::output().and_then(|f| f.metadata()),
-        Some(path) => fs::metadata(path),
+    let output = match place {
+        Place::Output => standard::output().and_then(|f| f.metadata()),
+        Place::Error => standard::error().and_then(|f| f.metadata()),
+        Place::File(path) => fs::metadata(path),
     };
     match (trace, output) {
         (Ok(t), Ok(o)) => (o.is_file() || o.file_type().is_block_device()) && same_file(&t, &o),
@@ -37,15 +45,22 @@ pub fn to_standard(bytes: &[u8]) -> io::Result<()> {
     standard::output()?.write_all(bytes)
 }
 
+/// Whether a path names the file that standard output is.
+pub fn is_standard(path: &Path) -> bool {
+    match (fs::metadata(path), standard::output().and_then(|f| f.metadata())) {
+        (Ok(file), Ok(standard)) => same_file(&file, &standard),
+        _ => false,
+    }
+}
+
 /// Writes a file. A device, a pipe or an open descriptor by its name is written to as it stands, and standard output at its place.
 pub fn to_file(path: &Path, bytes: &[u8]) -> io::Result<()> {
     let old = match fs::metadata(path) {
         Err(e) if e.kind() == ErrorKind::NotFound => None,
         old => Some(old?),
     };
-    let stdout = standard::output().and_then(|f| f.metadata());
     match &old {
-        Some(old) if stdout.is_ok_and(|s| same_file(&s, old)) => to_standard(bytes),
+        Some(_) if is_standard(path) => to_standard(bytes),
         Some(old) if !old.is_file() => write_at(path, bytes),
         _ => match followed(path)? {
             Some(path) => replace(&path, old.as_ref(), bytes),

@@ -1,7 +1,7 @@
 //! `replay`: what each read of a file gets under a model, next to one plain file.
 
 use crate::input::Trace;
-use crate::text::{bytes_of, counted, labelled};
+use crate::text::{bytes_of, counted, labelled, refusal_of_library};
 use kiqsaryn::{make, make_plain, replay, replay_plain, Header, Model, Refusal, Replayed, Row, READ, SEND, WRITE};
 use std::fmt::{self, Write};
 
@@ -33,10 +33,6 @@ struct Runner<'a> {
     done: u32,
 }
 
-fn wrong(what: &str, refusal: Refusal) -> String {
-    format!("{what}: refusal {}, {} Please report this trace.", refusal.number(), refusal.question())
-}
-
 impl<'a> Runner<'a> {
     fn new(trace: &'a Trace, model: Option<Model>, header: Header) -> Result<Runner<'a>, String> {
         let len = if model.is_some() { header.maps_len() } else { header.map_len() };
@@ -45,7 +41,7 @@ impl<'a> Runner<'a> {
             Some(m) => make(m.number(), header, &mut maps),
             None => make_plain(header, &mut maps),
         };
-        made.map_err(|r| wrong("the replay cannot start", r))?;
+        made.map_err(|r| refusal_of_library("the replay cannot start", r))?;
         let answer = (header.map_space as usize + 1).saturating_mul(3).max(ANSWER);
         Ok(Runner { trace, model, header, maps, counts: vec![0; trace.n as usize], out: vec![0; answer], done: 0 })
     }
@@ -59,7 +55,7 @@ impl<'a> Runner<'a> {
         };
         match refusal {
             Some(r) if r != Refusal::AnswerSpace || reached <= first => {
-                return Err(wrong(&format!("the replay stopped before row {}", u64::from(reached) + 1), r));
+                return Err(refusal_of_library(&format!("the replay stopped before row {}", u64::from(reached) + 1), r));
             }
             None if reached < n => return Err("the replay stopped too early; please report this trace".to_string()),
             _ => {}

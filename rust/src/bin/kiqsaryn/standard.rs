@@ -42,3 +42,8 @@ pub fn input() -> io::Result<File> {
 pub fn output() -> io::Result<File> {
     file(io::stdout().as_fd(), &OUTPUT_CLOSED)
 }
+
+/// Standard error. Where the caller closed it, this is the null device, and nobody reads what goes there.
+pub fn error() -> io::Result<File> {
+    io::stderr().as_fd().try_clone_to_owned().map(File::from)
+}

@@ -1,6 +1,6 @@
 //! Rows and bytes in words.
 
-use kiqsaryn::{Row, CLOSE, COMMIT, OPEN, READ, RECV, SEND, SYNC, WRITE};
+use kiqsaryn::{Refusal, Row, CLOSE, COMMIT, OPEN, READ, RECV, SEND, SYNC, WRITE};
 use std::path::Path;
 
 /// Lines of a report are no wider, save for records shown as they stand.
@@ -62,6 +62,20 @@ pub fn counted(n: u64, one: &str) -> String {
     } else {
         format!("{n} {one}s")
     }
+}
+
+/// How much a text holds, on a line each: its bytes, whether its first record is a header, and its rows.
+pub fn size(bytes: usize, header: bool, rows: u32) -> String {
+    let header = match header {
+        true => "yes (the first record is no row)",
+        false => "no (the first record is row 1)",
+    };
+    format!("  {}\n  header: {header}\n  {}\n", counted(bytes as u64, "byte"), counted(u64::from(rows), "row"))
+}
+
+/// A sentence on a refusal that the library should not have given.
+pub fn refusal_of_library(what: &str, refusal: Refusal) -> String {
+    format!("{what}: refusal {}, {} Please report this trace.", refusal.number(), refusal.question())
 }
 
 /// Breaks text between words into lines of at most `width` bytes; a longer word has a line of its own.
