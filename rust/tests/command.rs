@@ -137,6 +137,7 @@ fn help_and_version() {
         (&["check", "--help"], "kiqsaryn check shelf.csv --header yes"),
         (&["replay", "-h"], "kiqsaryn replay shelf.csv --header yes --file 1 --model commit"),
         (&["diagram", "x", "--help"], "kiqsaryn diagram shelf.csv --header yes -o shelf.svg"),
+        (&["write", "--out-header", "maybe", "-h"], "kiqsaryn write shelf.csv --header yes -o clean.csv"),
         (&["--version"], "kiqsaryn 0."),
     ] {
         let o = run(args, b"");
@@ -206,10 +207,10 @@ fn refusals_name_number_place_question_and_record() {
         ("no", b"0,send,,,,1\r\n0,recv,,,,1\r\n", &["number 12, at row 2", "0,recv,,,,1\n"]),
     ];
     for (header, input, parts) in cases {
-        for command in [&["check"][..], &["replay", "--file", "1", "--model", "commit"], &["diagram"]] {
+        for command in [&["check"][..], &["replay", "--file", "1", "--model", "commit"], &["diagram"], &["write"]] {
             let args: Vec<&str> = command.iter().copied().chain(["-", "--header", header]).collect();
             let o = run(&args, input);
-            let text = if command[0] == "diagram" { err(&o) } else { out(&o) };
+            let text = if ["diagram", "write"].contains(&command[0]) { err(&o) } else { out(&o) };
             assert_eq!(status(&o), 2, "{text}");
             assert!(parts.iter().all(|part| text.contains(part)), "{parts:?} in {text}");
         }
@@ -419,7 +420,7 @@ fn no_input_makes_it_crash() {
         let file = dice.below(3).to_string();
         let processes = dice.of(&["2", "4", "4", "64", "64"]);
         let mut args = vec!["check", "-", "--header", header, "--processes", processes];
-        match dice.below(5) {
+        match dice.below(8) {
             0 => args.extend(["--model", model, "--csv"]),
             1 => {
                 args[0] = "replay";
@@ -429,6 +430,7 @@ fn no_input_makes_it_crash() {
                 args[0] = "diagram";
                 args.extend(["--model", model]);
             }
+            3 => args[0] = "write",
             _ => {}
         }
         let o = run(&args, &text);
@@ -896,6 +898,7 @@ fn a_full_trace() {
         (&["check"], 0),
         (&["replay", "--file", "1", "--model", "session"], 0),
         (&["diagram"], 0),
+        (&["write"], 0),
     ] {
         let args: Vec<&str> = args.iter().copied().chain(["-", "--header", "no"]).collect();
         let o = run(&args, text.as_bytes());

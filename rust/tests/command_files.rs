@@ -1,138 +1,23 @@
-//! The files of the command `kiqsaryn`: the trace that it reads, standard output, and the picture that `diagram -o` writes. Every test types
-//! command lines into a shell.
+//! The files of the command `kiqsaryn`: the trace that it reads, standard output, and the picture that `diagram -o` writes, which `write -o`
+//! writes its text like. Every test types command lines into a shell.
 
 #[allow(dead_code)]
 mod running;
 
-use running::{err, examples, feed, out, status, EXE};
-use std::fs::{self, File, Permissions};
+use running::folder::{failed, silent, Folder};
+use running::{err, feed, out, status, EXE};
+use std::fs::{self, File};
 use std::io::{Read, Seek, SeekFrom};
-use std::os::unix::fs::{chown, symlink, FileTypeExt, MetadataExt, PermissionsExt};
-use std::os::unix::process::CommandExt;
-use std::path::{Path, PathBuf};
-use std::process::{Command, Output};
+use std::os::unix::fs::{symlink, FileTypeExt, MetadataExt};
+use std::path::Path;
+use std::process::Command;
 
-/// The user `nobody`. Root, whom no permissions bind and who could replace the machine's devices, runs the command lines as this user.
-const NOBODY: u32 = 65_534;
-
-fn is_root() -> bool {
-    fs::metadata("/proc/self").expect("this process").uid() == 0
-}
-
-fn as_nobody(command: &mut Command) -> &mut Command {
-    command.uid(NOBODY).gid(NOBODY)
-}
-
-/// A folder of one test with the trace `t.csv` in it, and the command in a folder `bin`, where every user can reach it.
-struct Folder {
-    path: PathBuf,
-    /// Root's command lines run as `nobody`.
-    nobody: bool,
-}
-
-impl Folder {
-    fn new(name: &str) -> Folder {
-        let path = std::env::temp_dir().join(format!("kiqsaryn-files-{name}-{}", std::process::id()));
-        let _ = fs::remove_dir_all(&path);
-        fs::create_dir(&path).expect("a folder");
-        let nobody = is_root();
-        if nobody {
-            as_nobody(&mut Command::new("true")).status().expect("root can run programs as another user");
-        }
-        let f = Folder { path, nobody };
-        f.set_mode("", 0o755);
-        f.make_folder("bin");
-        let copied = Command::new("cp").arg(EXE).arg(f.path("bin/kiqsaryn")).status().expect("a copy");
-        assert!(copied.success());
-        f.set_mode("bin/kiqsaryn", 0o755);
-        f.put("t.csv", &fs::read_to_string(examples().join("commit_missing.csv")).expect("a trace"), 0o644);
-        f.give("");
-        f
-    }
-
-    fn path(&self, name: &str) -> PathBuf {
-        self.path.join(name)
-    }
-
-    /// Makes a file or folder the property of the user that the command lines run as.
-    fn give(&self, name: &str) {
-        if self.nobody {
-            chown(self.path(name), Some(NOBODY), Some(NOBODY)).expect("another owner");
-        }
-    }
-
-    fn make_folder(&self, name: &str) {
-        fs::create_dir(self.path(name)).expect("a folder");
-        self.set_mode(name, 0o755);
-        self.give(name);
-    }
-
-    fn set_mode(&self, name: &str, mode: u32) {
-        fs::set_permissions(self.path(name), Permissions::from_mode(mode)).expect("a mode");
-    }
-
-    fn mode(&self, name: &str) -> u32 {
-        fs::metadata(self.path(name)).expect("a file").mode() & 0o7777
-    }
-
-    fn put(&self, name: &str, contents: &str, mode: u32) {
-        fs::write(self.path(name), contents).expect("a file");
-        self.set_mode(name, mode);
-        self.give(name);
-    }
-
-    fn read(&self, name: &str) -> Vec<u8> {
-        fs::read(self.path(name)).unwrap_or_else(|e| panic!("{name}: {e}"))
-    }
-
-    /// All names in the folder besides the command's: a new file that was not removed would be among them.
-    fn names(&self) -> Vec<String> {
-        let entries = fs::read_dir(&self.path).expect("the folder");
-        let names = entries.map(|e| e.expect("an entry").file_name().into_string().expect("a name"));
-        let mut names: Vec<String> = names.filter(|name| name != "bin").collect();
-        names.sort();
-        names
-    }
-
-    /// A shell in the folder that finds the command by its name.
-    fn shell(&self, line: &str) -> Command {
-        let path = std::env::var("PATH").unwrap_or_default();
-        let mut shell = Command::new("sh");
-        shell.args(["-c", line]).current_dir(&self.path).env("PATH", format!("{}:{path}", self.path("bin").display()));
-        if self.nobody {
-            as_nobody(&mut shell);
-        }
-        shell
-    }
-
-    fn sh(&self, line: &str) -> Output {
-        feed(&mut self.shell(line), b"")
-    }
-
-    /// The picture of the trace, as standard output gets it.
-    fn picture(&self) -> Vec<u8> {
-        let o = self.sh("kiqsaryn diagram t.csv --header yes");
-        assert_eq!(status(&o), 0, "{}", err(&o));
-        assert!(o.stdout.starts_with(b"<?xml") && o.stdout.ends_with(b"</svg>\n"));
-        o.stdout
-    }
-}
-
-impl Drop for Folder {
-    fn drop(&mut self) {
-        let _ = fs::remove_dir_all(&self.path);
-    }
-}
-
-/// Status 0 and no word.
-fn silent(o: &Output) {
-    assert_eq!((status(o), out(o), err(o)), (0, String::new(), String::new()));
-}
-
-/// Status 3, nothing on standard output, and one line on standard error that starts so.
-fn failed(o: &Output, line: &str, words: &str) {
-    assert_eq!((status(o), out(o)), (3, String::new()), "{line}: {}", err(o));
-    assert!(err(o).starts_with(&format!("kiqsaryn: {words}")) && err(o).lines().count() == 1, "{line}: {}", err(o));
+/// The picture of the trace, as standard output gets it.
+fn picture(f: &Folder) -> Vec<u8> {
+    let o = f.sh("kiqsaryn diagram t.csv --header yes");
+    assert_eq!(status(&o), 0, "{}", err(&o));
+    assert!(o.stdout.starts_with(b"<?xml") && o.stdout.ends_with(b"</svg>\n"));
+    o.stdout
 }
 
 // ---- The trace is never written over
@@ -161,7 +46,9 @@ fn standard_output_never_goes_over_the_trace() {
     let f = Folder::new("append");
     fs::hard_link(f.path("t.csv"), f.path("hard.csv")).expect("a hard link");
     let trace = f.read("t.csv");
-    for command in ["check", "replay --file 1 --model commit", "diagram", "diagram -o -", "diagram -o /dev/stdout"] {
+    let pictures = ["diagram", "diagram -o -", "diagram -o /dev/stdout"];
+    let texts = ["write", "write -o -", "write -o /dev/stdout", "write -o new.csv", "write -o new.csv --out-header no"];
+    for command in [&["check", "replay --file 1 --model commit"][..], &pictures, &texts].concat() {
         for files in ["t.csv >> t.csv", "t.csv >> hard.csv", "- < t.csv >> hard.csv", "t.csv 1<> t.csv"] {
             let line = format!("kiqsaryn {command} --header yes {files}");
             let words = if command.ends_with("stdout") { "-o names the trace" } else { "standard output is the trace" };
@@ -169,6 +56,7 @@ fn standard_output_never_goes_over_the_trace() {
             assert_eq!(f.read("t.csv"), trace, "{line}");
         }
     }
+    assert_eq!(f.names(), ["hard.csv", "t.csv"]);
 }
 
 // ---- Files that are written
@@ -178,7 +66,7 @@ fn a_new_file_has_the_mode_that_the_user_asks_for() {
     let f = Folder::new("new");
     for (umask, mode) in [("022", 0o644), ("027", 0o640), ("077", 0o600), ("000", 0o666)] {
         silent(&f.sh(&format!("umask {umask}; kiqsaryn diagram t.csv --header yes -o p{umask}.svg")));
-        assert!(f.read(&format!("p{umask}.svg")) == f.picture());
+        assert!(f.read(&format!("p{umask}.svg")) == picture(&f));
         assert_eq!(f.mode(&format!("p{umask}.svg")), mode, "umask {umask}");
     }
     assert_eq!(f.names(), ["p000.svg", "p022.svg", "p027.svg", "p077.svg", "t.csv"]);
@@ -192,7 +80,7 @@ fn an_old_file_is_replaced_and_its_mode_kept() {
         let _ = fs::remove_file(f.path("other.svg"));
         fs::hard_link(f.path("p.svg"), f.path("other.svg")).expect("a second name of the old file");
         silent(&f.sh("umask 022; kiqsaryn diagram t.csv --header yes -o p.svg"));
-        assert!(f.read("p.svg") == f.picture());
+        assert!(f.read("p.svg") == picture(&f));
         assert_eq!(f.mode("p.svg"), mode);
         assert!(f.read("other.svg") == "old ".repeat(5_000).as_bytes(), "the old file is not written to");
         assert_eq!(f.names(), ["other.svg", "p.svg", "t.csv"]);
@@ -210,7 +98,7 @@ fn a_file_that_root_replaces_stays_its_owners() {
     let before = owner(fs::metadata(f.path("p.svg")).expect("the old file"));
     silent(&feed(&mut command, b""));
     assert_eq!(owner(fs::metadata(f.path("p.svg")).expect("the new file")), before);
-    assert!(f.read("p.svg") == f.picture());
+    assert!(f.read("p.svg") == picture(&f));
 }
 
 /// A link stays, and the file that it leads to is written, whether or not it is there already.
@@ -228,7 +116,7 @@ fn a_symbolic_link_is_written_through() {
             old.into_iter().for_each(|old| f.put(written, old, 0o604));
             silent(&f.sh(&format!("umask 022; kiqsaryn diagram t.csv --header yes -o {target}")));
             let regular = fs::symlink_metadata(f.path(written)).expect("the file").is_file();
-            assert!(regular && f.read(written) == f.picture(), "{target}");
+            assert!(regular && f.read(written) == picture(&f), "{target}");
             assert_eq!(f.mode(written), if old.is_some() { 0o604 } else { 0o644 }, "{target}");
         }
     }
@@ -249,12 +137,12 @@ fn no_file_is_in_the_way_of_the_new_one() {
     let f = Folder::new("taken");
     let line = "for k in 0 1 2; do echo mine > .kiqsaryn-$$-$k; done; exec kiqsaryn diagram t.csv --header yes -o p.svg";
     silent(&f.sh(line));
-    assert!(f.read("p.svg") == f.picture());
+    assert!(f.read("p.svg") == picture(&f));
     let taken: Vec<String> = f.names().into_iter().filter(|name| name.starts_with(".kiqsaryn-")).collect();
     assert!(taken.len() == 3 && taken.iter().all(|name| f.read(name) == b"mine\n"), "{taken:?}");
     let long = "p".repeat(255);
     silent(&f.sh(&format!("kiqsaryn diagram t.csv --header yes -o {long}")));
-    assert!(f.read(&long) == f.picture());
+    assert!(f.read(&long) == picture(&f));
 }
 
 /// A limit on the length of files ends the writing in its middle.
@@ -288,7 +176,7 @@ fn a_refused_trace_leaves_the_file_as_it_was() {
 fn what_is_no_regular_file_is_written_to_as_it_stands() {
     let f = Folder::new("special");
     let diagram = "kiqsaryn diagram t.csv --header yes -o";
-    let picture = f.picture();
+    let picture = picture(&f);
     silent(&f.sh(&format!("{diagram} /dev/null")));
     assert!(fs::metadata("/dev/null").expect("the null device").file_type().is_char_device());
     let line = format!("{diagram} /dev/full");
@@ -343,11 +231,13 @@ fn permissions_hold() {
 // ---- Standard output
 
 /// Every command, with a trace that is accepted and one that is refused.
-const COMMANDS: [&str; 6] = [
+const COMMANDS: [&str; 8] = [
     "kiqsaryn check t.csv --header yes",
     "kiqsaryn check t.csv --header no --csv",
     "kiqsaryn replay t.csv --header yes --file 1 --model commit",
     "kiqsaryn diagram t.csv --header yes",
+    "kiqsaryn write t.csv --header yes",
+    "kiqsaryn write t.csv --header yes --out-header no -o -",
     "kiqsaryn --help",
     "kiqsaryn --version",
 ];
@@ -367,7 +257,7 @@ fn output_that_cannot_be_written_is_an_error() {
     }
     // Where nothing is to be written, nothing fails.
     silent(&f.sh("kiqsaryn diagram t.csv --header yes -o p.svg >&-"));
-    assert!(f.read("p.svg") == f.picture());
+    assert!(f.read("p.svg") == picture(&f));
     assert_eq!(status(&f.sh("kiqsaryn diagram t.csv --header no >&-")), 2);
 }
 
@@ -389,7 +279,7 @@ fn a_trace_that_cannot_be_read_is_an_error() {
     let f = Folder::new("reading");
     f.make_folder("sub");
     symlink("sub", f.path("link")).expect("a link");
-    for command in ["check", "replay --file 1 --model commit", "diagram"] {
+    for command in ["check", "replay --file 1 --model commit", "diagram", "write"] {
         for (trace, name, why) in [
             ("none.csv", "none.csv", "No such file or directory"),
             ("t.csv/x", "t.csv/x", "Not a directory"),
@@ -428,7 +318,7 @@ fn a_read_that_fails_midway_is_an_error() {
     let mut memory = fails_midway();
     assert_eq!(memory.read(&mut bytes).expect("some bytes"), 100);
     memory.read(&mut bytes).expect_err("an error behind them");
-    for command in ["check", "replay --file 1 --model commit", "diagram", "diagram -o p.svg"] {
+    for command in ["check", "replay --file 1 --model commit", "diagram", "diagram -o p.svg", "write", "write -o p.csv"] {
         let line = format!("kiqsaryn {command} --header no -");
         let o = f.shell(&line).stdin(fails_midway()).output().expect("the command ends");
         failed(&o, &line, "cannot read standard input: Input/output error");

@@ -8,171 +8,15 @@
 mod naive;
 
 use kiqsaryn::{
-    check_trace, fill_counts, report, verdict, Checked, Model, Refusal, Row, Settings, Verdict, CLOSE, COMMIT, KINDS, OPEN, READ, RECV,
-    SEND, SYNC, WRITE,
+    check_trace, fill_counts, report, verdict, Checked, Model, Refusal, Row, Settings, Verdict, KINDS, READ, RECV, SEND, WRITE,
 };
 use naive::order::{counts, first_race, Order};
 use naive::random::{setting, Random};
 use naive::reading;
+use naive::rows::{numbers, some_rows};
 
 const TRACES: u64 = 60_000;
 const SEED: u64 = 20_240_101;
-
-// ---- Rows of traces that are accepted
-
-/// Rows in the making, with the messages that are sent and not yet received.
-struct Rows<'a> {
-    r: &'a mut Random,
-    all: Vec<Row>,
-    processes: Vec<u32>,
-    files: Vec<u32>,
-    base: u32,
-    spread: u32,
-    longest: u32,
-    sent: Vec<u32>,
-    waiting: Vec<(u32, u32)>,
-}
-
-impl Rows<'_> {
-    fn new(r: &mut Random, process_limit: u32, most: u32) -> Rows<'_> {
-        let fewest = if r.once_in(20) { 1 } else { 2 };
-        let processes = (0..r.between(fewest, most.min(process_limit))).map(|_| r.below(process_limit)).collect();
-        let files = (0..r.pick(&[1, 1, 2, 3])).map(|_| r.below(64)).collect();
-        let base = if r.once_in(10) { u32::MAX - r.between(100, 300) } else { r.below(5) };
-        let spread = r.pick(&[4, 16, 90]);
-        let longest = r.pick(&[1, 5, 20]);
-        Rows { r, all: Vec::new(), processes, files, base, spread, longest, sent: Vec::new(), waiting: Vec::new() }
-    }
-
-    fn range(&mut self) -> (u32, u32) {
-        if self.r.once_in(40) {
-            return self.r.pick(&[(u32::MAX, 0), (0, u32::MAX), (u32::MAX - 1, 1), (0, 0), (u32::MAX - 7, 7)]);
-        }
-        let offset = self.base + self.r.below(self.spread);
-        (offset, self.r.below(self.longest + 1).min(u32::MAX - offset))
-    }
-
-    fn data(&mut self, process: u32, file: u32) {
-        let kind = self.r.pick(&[READ, WRITE]);
-        let (offset, length) = self.range();
-        self.all.push(Row { process, kind, file, offset, length, message: 0 });
-    }
-
-    fn sync(&mut self, process: u32, kind: u32, file: u32) {
-        self.all.push(Row { process, kind, file, ..Row::default() });
-    }
-
-    fn send(&mut self, process: u32) -> u32 {
-        let mut message = if self.r.once_in(2) { self.r.below(70) } else { self.r.below(65_536) };
-        while self.sent.contains(&message) {
-            message = (message + 1) % 65_536;
-        }
-        self.sent.push(message);
-        self.all.push(Row { process, kind: SEND, message, ..Row::default() });
-        message
-    }
-
-    fn recv(&mut self, process: u32, message: u32) {
-        self.all.push(Row { process, kind: RECV, message, ..Row::default() });
-    }
-
-    /// Any row of any process; a recv takes a waiting message of another.
-    fn loose(&mut self) {
-        let process = self.r.pick(&self.processes);
-        let file = self.r.pick(&self.files);
-        match self.r.below(10) {
-            0..=3 => self.data(process, file),
-            4 | 5 => {
-                let kind = self.r.between(COMMIT, SYNC);
-                self.sync(process, kind, file);
-            }
-            6 | 7 => {
-                let message = self.send(process);
-                self.waiting.push((message, process));
-            }
-            _ => {
-                let k = self.waiting.iter().position(|(_, sender)| *sender != process);
-                if let Some((message, _)) = k.map(|k| self.waiting.remove(k)) {
-                    self.recv(process, message);
-                }
-            }
-        }
-    }
-
-    /// A file goes from its holder to the next process, with these of the rows that the models ask for; now and then one is left out.
-    fn hand_over(&mut self, holder: u32, file: u32, wanted: &[u32], slip: u32) -> u32 {
-        let next = self.r.pick(&self.processes);
-        if next == holder {
-            return holder;
-        }
-        for kind in [COMMIT, CLOSE, SYNC] {
-            if wanted.contains(&kind) && !self.r.once_in(slip) {
-                self.sync(holder, kind, file);
-            }
-        }
-        if !self.r.once_in(slip) {
-            let message = self.send(holder);
-            self.recv(next, message);
-        }
-        for kind in [OPEN, SYNC] {
-            if wanted.contains(&kind) && !self.r.once_in(slip) {
-                self.sync(next, kind, file);
-            }
-        }
-        next
-    }
-
-    fn orderly(&mut self, rows: usize) {
-        let wanted = self.r.pick::<&[u32]>(&[&[COMMIT, CLOSE, OPEN, SYNC], &[COMMIT], &[CLOSE, OPEN], &[SYNC], &[COMMIT, CLOSE, OPEN]]);
-        let slip = self.r.pick(&[4, 12, 40, 1000]);
-        let hold = self.r.pick(&[2, 4]);
-        let stray = self.r.pick(&[10, 50, 1000]);
-        let mut holders: Vec<u32> = self.files.iter().map(|_| self.processes[0]).collect();
-        while self.all.len() < rows {
-            let k = self.r.place(holders.len());
-            self.data(holders[k], self.files[k]);
-            if self.r.once_in(hold) {
-                holders[k] = self.hand_over(holders[k], self.files[k], wanted, slip);
-            }
-            if self.r.once_in(stray) {
-                self.loose();
-            }
-        }
-        self.all.truncate(rows);
-    }
-}
-
-fn loose_rows(r: &mut Random, process_limit: u32, rows: usize) -> Vec<Row> {
-    let mut making = Rows::new(r, process_limit, 6);
-    while making.all.len() < rows {
-        making.loose();
-    }
-    making.all
-}
-
-fn orderly_rows(r: &mut Random, process_limit: u32, rows: usize) -> Vec<Row> {
-    let mut making = Rows::new(r, process_limit, 6);
-    making.orderly(rows);
-    making.all
-}
-
-/// A long trace: many processes, wide files, so that most pairs do not meet.
-fn long_rows(r: &mut Random, rows: usize) -> Vec<Row> {
-    let mut making = Rows::new(r, 64, 64);
-    while making.files.len() < 6 {
-        making.files.push(making.files.len() as u32);
-    }
-    (making.base, making.spread, making.longest) = (0, 5_000, 4);
-    if making.r.once_in(2) {
-        making.orderly(rows);
-    } else {
-        while making.all.len() < rows {
-            making.loose();
-        }
-    }
-    making.all.truncate(rows);
-    making.all
-}
 
 // ---- The text of rows
 
@@ -391,18 +235,6 @@ fn lent(r: &mut Random, s: Settings) -> (Vec<u32>, Vec<u16>) {
     (rows, counts)
 }
 
-/// Rows that are accepted, and the process limit that they keep.
-fn some_rows(r: &mut Random) -> (Vec<Row>, u32) {
-    if r.once_in(4000) {
-        let n = r.between(500, 4096) as usize;
-        return (long_rows(r, n), 64);
-    }
-    let process_limit = r.pick(&[2, 3, 4, 8, 64]);
-    let n = r.between(2, 60) as usize;
-    let rows = if r.once_in(2) { loose_rows(r, process_limit, n) } else { orderly_rows(r, process_limit, n) };
-    (rows, process_limit)
-}
-
 /// A setting that does not suit the text, or a wild one.
 fn damage_settings(r: &mut Random, s: &mut Settings, text_len: usize) {
     match r.below(8) {
@@ -474,10 +306,6 @@ fn padded<T: Copy + Default>(front: Vec<T>, len: usize) -> Vec<T> {
     let mut all = front;
     all.resize(len, T::default());
     all
-}
-
-fn numbers(rows: &[Row]) -> Vec<u32> {
-    rows.iter().flat_map(|r| [r.process, r.kind, r.file, r.offset, r.length, r.message]).collect()
 }
 
 /// The refusal of the counts, or of a verdict whose model is one or not: 1, 2, then 10.

@@ -35,6 +35,11 @@ static void judge(void) {
 
 static void report(void) { expect(kiqsaryn_report(text, text_len, out, sizeof out) > 0); }
 
+static void write_rows(void) {
+    uint64_t answer = kiqsaryn_write(rows, 6 * ROWS, n, 1, PROCESSES, out, sizeof out, 0);
+    expect(0 < answer && answer <= sizeof out);
+}
+
 static void fill_counts(void) { expect(kiqsaryn_fill_counts(rows, 6 * ROWS, n, PROCESSES, counts, ROWS * PROCESSES) == 0); }
 
 static void verdict(void) { expect(kiqsaryn_verdict(rows, 6 * ROWS, n, PROCESSES, 1, counts, ROWS * PROCESSES) == 0); }
@@ -58,8 +63,8 @@ static void step_plain(void) { expect(kiqsaryn_step_plain(PROCESSES, 1, SPACE, m
 static const struct {
     const char *name;
     void (*call)(void);
-} calls[] = {{"none", none}, {"check_trace", check_trace}, {"judge", judge}, {"report", report}, {"fill_counts", fill_counts},
-             {"verdict", verdict}, {"make", make}, {"replay", replay}, {"step", step}, {"make_plain", make_plain},
+} calls[] = {{"none", none}, {"check_trace", check_trace}, {"judge", judge}, {"report", report}, {"write", write_rows},
+             {"fill_counts", fill_counts}, {"verdict", verdict}, {"make", make}, {"replay", replay}, {"step", step}, {"make_plain", make_plain},
              {"replay_plain", replay_plain}, {"step_plain", step_plain}};
 
 static void *run(void *call) {

@@ -8,12 +8,12 @@ use std::path::{Path, PathBuf};
 use std::process::Command;
 
 /// How many functions the library exports.
-const EXPORTS: usize = 11;
+const EXPORTS: usize = 12;
 
 /// The bound that c/kiqsaryn.h names for a call, in KB.
 fn bound(call: &str) -> usize {
     match call {
-        "check_trace" | "judge" | "report" => 140,
+        "check_trace" | "judge" | "report" | "write" => 140,
         "fill_counts" | "verdict" => 18,
         _ => 4,
     }
@@ -55,4 +55,39 @@ fn every_call_keeps_to_the_stack_that_the_header_names() {
         let bytes: usize = bytes.parse().expect("a number");
         assert!(bytes < 1024 * bound(call), "{line}");
     }
+}
+
+/// The instructions of a file's machine code, as `objdump` prints them: those of each function under its name.
+fn disassembled(file: &Path) -> Vec<(String, Vec<String>)> {
+    let run = Command::new("objdump").args(["-d", "--no-show-raw-insn", "--no-addresses"]).arg(file).output().expect("objdump runs");
+    assert!(run.status.success());
+    let text = String::from_utf8(run.stdout).expect("plain text");
+    let mut functions: Vec<(String, Vec<String>)> = Vec::new();
+    for line in text.lines() {
+        if let Some(name) = line.strip_prefix('<').and_then(|l| l.strip_suffix(">:")) {
+            functions.push((name.to_string(), Vec::new()));
+        } else if let (Some((_, all)), true) = (functions.last_mut(), line.starts_with('\t')) {
+            all.push(line.split_whitespace().collect::<Vec<_>>().join(" "));
+        }
+    }
+    functions
+}
+
+/// The compiler touches the pages of a large frame one by one and counts them in r11, whatever r11 holds. That is right at a function's entry, where
+/// r11 holds nothing, and wrong behind early returns, to which the compiler may move it (docs/DECISIONS.md, Forms).
+#[test]
+fn large_frames_are_made_at_the_entry() {
+    let built = Path::new(env!("CARGO_MANIFEST_DIR")).join("../target");
+    let mut large = 0;
+    for file in ["staticlib/libkiqsaryn.a", "bin/verdict"] {
+        for (name, instructions) in disassembled(&built.join(file)) {
+            let Some(probe) = instructions.iter().position(|i| i == "mov %rsp,%r11") else {
+                continue;
+            };
+            large += 1;
+            let first = &instructions[..probe];
+            assert!(first.iter().all(|i| i.starts_with("push ") || i == "endbr64"), "{file}, {name}: {first:?}");
+        }
+    }
+    assert!(large > 1, "the tables by message stand in large frames");
 }

@@ -1,8 +1,10 @@
-//! The rules of document 01 in the simplest form: records as lists of fields, happens-before as a matrix of pairs, races pair by pair with
-//! the chains as they are written, and files byte by byte. It shares types with the library and no code. What document 01 leaves open is taken
-//! as `docs/DECISIONS.md` has it, and a replay, which document 01 does not have, as the library's interface describes it: row by row.
+//! The rules of documents 01 and 02 in the simplest form: records as lists of fields, happens-before as a matrix of pairs, races pair by pair with
+//! the chains as they are written, and files byte by byte. It shares types with the library and no code. What the documents leave open is taken
+//! as `docs/DECISIONS.md` has it, and a replay, which they do not have, as the library's interface describes it: row by row.
 
 pub mod machine;
 pub mod order;
 pub mod random;
 pub mod reading;
+pub mod rows;
+pub mod writing;

@@ -138,7 +138,7 @@ pub enum Fault {
 }
 
 /// All faults of a row behind these rows.
-fn faults(row: Row, rows: &[Row]) -> Vec<Fault> {
+pub fn faults(row: Row, rows: &[Row]) -> Vec<Fault> {
     let sender = rows.iter().find(|r| r.kind == SEND && r.message == row.message);
     let received = rows.iter().any(|r| r.kind == RECV && r.message == row.message);
     let found = [

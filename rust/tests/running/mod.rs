@@ -1,5 +1,7 @@
 //! Programs run as a user runs them.
 
+pub mod folder;
+
 use std::io::Write;
 use std::path::PathBuf;
 use std::process::{Command, Output, Stdio};

@@ -35,27 +35,52 @@ impl Line<'_> {
     }
 
     pub fn number(&self, k: usize) -> u32 {
-        let digits = self.words[k].bytes().all(|b| b.is_ascii_digit());
-        self.words[k].parse().ok().filter(|_| digits).unwrap_or_else(|| panic!("{self}: word {k} is no number"))
+        self.number_in(k, self.words[k])
+    }
+
+    /// The number that a part of a word holds.
+    fn number_in(&self, k: usize, part: &str) -> u32 {
+        let digits = part.bytes().all(|b| b.is_ascii_digit());
+        part.parse().ok().filter(|_| digits).unwrap_or_else(|| panic!("{self}: word {k} is no number"))
     }
 
     /// All numbers behind the kind; `-` alone is none.
     pub fn numbers(&self, kind: &str) -> Vec<u32> {
         assert_eq!(self.words[0], kind, "{self}");
-        match self.words[1..] {
-            ["-"] => Vec::new(),
-            _ => (1..self.words.len()).map(|k| self.number(k)).collect(),
-        }
+        self.numbers_from(1)
     }
 
-    /// The bytes of a hexadecimal word; `-` is none.
-    pub fn bytes(&self, k: usize) -> Vec<u8> {
-        if self.words[k] == "-" {
+    /// All numbers from a word on; `-` alone is none, and `W*n` is n times W.
+    pub fn numbers_from(&self, first: usize) -> Vec<u32> {
+        if self.words[first..] == ["-"] {
             return Vec::new();
         }
-        let digits: Option<Vec<u8>> = self.words[k].chars().map(|c| c.to_digit(16).map(|d| d as u8)).collect();
+        let mut all = Vec::new();
+        for k in first..self.words.len() {
+            let (word, times) = self.repeated(k);
+            all.extend(std::iter::repeat_n(self.number_in(k, word), times));
+        }
+        all
+    }
+
+    /// The bytes of a hexadecimal word; `-` is none, and `W*n` is n times W.
+    pub fn bytes(&self, k: usize) -> Vec<u8> {
+        let (word, times) = self.repeated(k);
+        if word == "-" {
+            return Vec::new();
+        }
+        let digits: Option<Vec<u8>> = word.chars().map(|c| c.to_digit(16).map(|d| d as u8)).collect();
         let digits = digits.filter(|d| d.len() % 2 == 0).unwrap_or_else(|| panic!("{self}: word {k} is not hexadecimal"));
-        digits.chunks_exact(2).map(|pair| 16 * pair[0] + pair[1]).collect()
+        let bytes: Vec<u8> = digits.chunks_exact(2).map(|pair| 16 * pair[0] + pair[1]).collect();
+        bytes.repeat(times)
+    }
+
+    /// A word and how often it stands there: `W*n` is n times W, and any other word stands there once.
+    fn repeated(&self, k: usize) -> (&str, usize) {
+        match self.words[k].split_once('*') {
+            None => (self.words[k], 1),
+            Some((word, times)) => (word, self.number_in(k, times) as usize),
+        }
     }
 }
 

@@ -1,0 +1,174 @@
+//! Every vector of `vectors/writer.txt`: the answer, and every byte of the lent slice. Then calls whose numbers do not fit the slices, and the
+//! longest lines.
+
+#[allow(dead_code)]
+mod vectors;
+
+use kiqsaryn::{check_trace, write, Checked, Refusal, Settings, Written, HEADER_LINE, LONGEST_LINE, RECV, ROWS, SEND, WRITE};
+
+/// The words of a line `W` before its rows.
+const BEFORE_ROWS: usize = 8;
+
+/// What a slice of this length holds once a text stands in it from a place on, and `fill` everywhere else.
+fn laid(text: &[u8], place: usize, len: usize, fill: u8) -> Vec<u8> {
+    let mut all = vec![fill; len];
+    all[place..place + text.len()].copy_from_slice(text);
+    all
+}
+
+fn refused(number: u32, place: u32) -> Written {
+    Written::Refused { refusal: Refusal::from_number(number).expect("a refusal"), place }
+}
+
+#[test]
+fn every_writer_vector() {
+    let text = vectors::text("writer.txt");
+    let mut lines = vectors::lines(&text);
+    let mut run = 0;
+    while let Some(line) = lines.next() {
+        assert!(line.words[0] == "W" && line.words.len() > BEFORE_ROWS, "{line}: no call");
+        let n = |k: usize| line.number(k);
+        let (count, header, process_limit, place, out_len, fill) = (n(2), n(3), n(4), n(5) as usize, n(6) as usize, n(7) as u8);
+        let rows = line.numbers_from(BEFORE_ROWS);
+        let mut out = vec![fill; out_len];
+        let got = write(&rows, count, header, process_limit, &mut out, place);
+
+        let answer = lines.next().expect("an answer");
+        let (want, left) = match answer.words[..] {
+            ["A", "written", _, _] => (Written::Length(answer.number(2) as usize), laid(&answer.bytes(3), place, out_len, fill)),
+            ["A", "refused", _, _] => (refused(answer.number(2), answer.number(3)), vec![fill; out_len]),
+            _ => panic!("{answer}: no answer"),
+        };
+        assert_eq!(got, want, "{line}");
+        assert!(out == left, "the slice after {line}: {}", out.escape_ascii());
+        run += 1;
+    }
+    vectors::all_run("writer.txt", &text, &["W"], run);
+}
+
+// ---- Calls whose numbers do not fit
+
+/// Two rows that are written: process 5 sends message 9, and process 6 receives it.
+const TWO: [u32; 12] = [5, SEND, 0, 0, 0, 9, 6, RECV, 0, 0, 0, 9];
+const TWO_TEXT: &[u8] = b"5,send,,,,9\r\n6,recv,,,,9\r\n";
+const ONE_TEXT: &[u8] = b"5,send,,,,9\r\n";
+const HEADER: &[u8; HEADER_LINE] = b"process,kind,file,offset,length,message\r\n";
+
+/// The length of the lent slice.
+const OUT: usize = 100;
+
+/// Zeros for one row more than can be written.
+static MANY: [u32; 6 * (ROWS as usize + 1)] = [0; 6 * (ROWS as usize + 1)];
+
+/// The rows' numbers, how many rows, the header word, the process limit and the place of a call, and its refusal.
+type Wild<'a> = (&'a [u32], u32, u32, u32, usize, u32);
+
+#[test]
+fn calls_that_do_not_fit_are_refused() {
+    let wild: &[Wild] = &[
+        // 1: fewer than six numbers a row, whatever else is wrong
+        (&TWO, 3, 0, 64, 0, 1),
+        (&TWO[..11], 2, 0, 64, 0, 1),
+        (&[], 1, 2, 0, usize::MAX, 1),
+        (&TWO, u32::MAX, 0, 64, 0, 1),
+        (&TWO, u32::MAX, u32::MAX, u32::MAX, usize::MAX, 1),
+        (&MANY, ROWS + 2, 2, 65, 0, 1),
+        (&TWO, 0x2AAA_AAAB, 0, 64, 0, 1), // 6 times as many are 2 in 32 bits
+        // 2: a process limit that is not 1 to 64, or more than 4,096 rows
+        (&TWO, 2, 2, 0, usize::MAX, 2),
+        (&TWO, 2, 2, 65, usize::MAX, 2),
+        (&TWO, 2, 0, u32::MAX, 0, 2),
+        (&[], 0, 0, 0, 0, 2),
+        (&MANY, ROWS + 1, 2, 64, usize::MAX, 2),
+        // 3: a header word past 1, before any row is looked at
+        (&[9; 6], 1, 2, 64, usize::MAX, 3),
+        (&TWO, 2, u32::MAX, 64, 0, 3),
+        // 18: a place past the end, or too few bytes behind it
+        (&TWO, 2, 0, 64, usize::MAX, 18),
+        (&TWO, 2, 1, 64, usize::MAX - 1, 18),
+        (&TWO, 2, 0, 64, usize::MAX - TWO_TEXT.len() + 1, 18),
+        (&TWO, 2, 0, 64, OUT + 1, 18),
+        (&TWO, 2, 0, 64, OUT, 18),
+        (&TWO, 2, 0, 64, OUT - TWO_TEXT.len() + 1, 18),
+        (&[], 0, 0, 1, OUT + 1, 18),
+        (&[], 0, 0, 1, usize::MAX, 18),
+        (&[], 0, 1, 1, OUT - HEADER_LINE + 1, 18),
+    ];
+    for (rows, n, header, process_limit, place, number) in wild {
+        let mut out = [7; OUT];
+        let got = write(rows, *n, *header, *process_limit, &mut out, *place);
+        let told = format!("{} numbers, {n} rows, header {header}, {process_limit} processes, place {place}", rows.len());
+        assert_eq!(got, refused(*number, 0), "{told}");
+        assert!(out == [7; OUT], "{told}");
+    }
+}
+
+#[test]
+fn what_fits_exactly_is_written() {
+    for (rows, n, header, place, text) in [
+        (&TWO[..], 2, 0, OUT - TWO_TEXT.len(), TWO_TEXT),
+        (&TWO, 2, 0, 0, TWO_TEXT),
+        (&TWO, 1, 0, OUT - ONE_TEXT.len(), ONE_TEXT),
+        (&TWO, 0, 1, OUT - HEADER_LINE, HEADER),
+        (&TWO, 0, 0, OUT, b""),
+        (&[], 0, 0, 0, b""),
+    ] {
+        let mut out = [7; OUT];
+        assert_eq!(write(rows, n, header, 7, &mut out, place), Written::Length(text.len()), "{n} rows at {place}");
+        assert!(out[..] == laid(text, place, OUT, 7), "{n} rows at {place}");
+    }
+    assert_eq!(write(&[], 0, 0, 1, &mut [], 0), Written::Length(0));
+}
+
+/// Rows behind the count are neither asked nor written, whatever they hold.
+#[test]
+fn rows_behind_the_count_are_not_looked_at() {
+    let unknown = [0, 99, 0, 0, 0, 0];
+    for n in 0..4 {
+        let rows = [[0; 6].repeat(n), unknown.to_vec()].concat();
+        let text = b"0,read,0,0,0,\r\n".repeat(n);
+        let mut out = [7; OUT];
+        assert_eq!(write(&rows, n as u32, 0, 1, &mut out, 0), Written::Length(text.len()), "{n} rows");
+        assert!(out[..] == laid(&text, 0, OUT, 7), "{n} rows");
+        assert_eq!(write(&rows, n as u32 + 1, 0, 1, &mut out, 0), refused(8, n as u32 + 1), "{n} rows and one of an unknown kind");
+    }
+}
+
+/// Each way in which a message can stand out of order is refused at its row.
+#[test]
+fn messages_out_of_order_are_refused() {
+    for (talks, place) in [
+        (&[(0, SEND, 7), (1, SEND, 7)][..], 2),           // sent twice
+        (&[(0, SEND, 7), (1, RECV, 7), (0, SEND, 7)], 3), // sent again once it is received
+        (&[(1, RECV, 7), (0, SEND, 7)], 1),               // received before it is sent
+        (&[(0, SEND, 7), (1, RECV, 8)], 2),               // never sent
+        (&[(0, SEND, 7), (0, RECV, 7)], 2),               // received by its sender
+        (&[(0, SEND, 7), (1, RECV, 7), (2, RECV, 7)], 3), // received twice, by two processes
+        (&[(0, SEND, 7), (1, RECV, 7), (1, RECV, 7)], 3), // received twice by one process
+    ] {
+        let rows: Vec<u32> = talks.iter().flat_map(|(process, kind, message)| [*process, *kind, 0, 0, 0, *message]).collect();
+        let mut out = [7; OUT];
+        assert_eq!(write(&rows, talks.len() as u32, 0, 3, &mut out, 0), refused(12, place), "{talks:?}");
+        assert!(out == [7; OUT], "{talks:?}");
+        assert!(matches!(write(&rows, place - 1, 0, 3, &mut out, 0), Written::Length(_)), "the rows before, {talks:?}");
+    }
+}
+
+/// Every row as long as can be: the constants are enough, and no smaller ones are.
+#[test]
+fn the_longest_text() {
+    let longest = [63, WRITE, 63, 2_147_483_647, 2_147_483_648, 0];
+    let rows = longest.repeat(ROWS as usize);
+    let room = HEADER_LINE + LONGEST_LINE * ROWS as usize;
+    let mut out = vec![7; room + 2];
+    assert_eq!(write(&rows, ROWS, 1, 64, &mut out[..room], 1), refused(18, 0));
+    assert!(out.iter().all(|b| *b == 7));
+    assert_eq!(write(&rows, ROWS, 1, 64, &mut out, 1), Written::Length(room));
+    let line = b"63,write,63,2147483647,2147483648,\r\n";
+    let text = [HEADER, &line.repeat(ROWS as usize)[..]].concat();
+    assert!(out == laid(&text, 1, room + 2, 7));
+    let (mut read, mut counts) = (vec![9; rows.len()], vec![9; 64 * ROWS as usize]);
+    let s = Settings { header: 1, model: 0, row_limit: ROWS, process_limit: 64, byte_limit: room };
+    assert_eq!(check_trace(&out[1..1 + room], s, &mut read, &mut counts), Checked::Accepted(ROWS));
+    assert!(read == rows);
+}
