@@ -43,7 +43,7 @@ pub fn plain(rows: &[u32], n: usize, processes: usize, counts: &mut [u16]) {
 }
 
 /// The rows of a text that the library accepts.
-fn rows(shape: &str, n: usize) -> Vec<u32> {
+pub fn rows(shape: &str, n: usize) -> Vec<u32> {
     let (mut rows, mut counts) = (vec![0u32; 6 * n], vec![0u16; PROCESSES * n]);
     let s = Settings { header: 1, model: 1, row_limit: n as u32, process_limit: PROCESSES as u32, byte_limit: usize::MAX };
     assert_eq!(check_trace(&text(shape, n), s, &mut rows, &mut counts), Checked::Accepted(n as u32));

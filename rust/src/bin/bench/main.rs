@@ -1,4 +1,4 @@
-//! Times of reading, counts, verdict and replay next to plain Rust versions of the same rules, in the same run:
+//! Times of reading, writing, counts, verdict and replay next to plain Rust versions of the same rules, in the same run:
 //! `cargo run --release --offline --bin bench`. With words of a case (`bench replay commit scattered 512`) it runs the cases that have them all,
 //! and with `--once` before them only the library's call, once, for a profile; with `--once-plain` the first plain version's.
 
@@ -11,6 +11,7 @@ mod harness;
 mod reading;
 mod replay;
 mod verdict;
+mod writing;
 
 use harness::{table, told};
 
@@ -18,9 +19,13 @@ fn main() {
     let mut words: Vec<String> = std::env::args().skip(1).collect();
     let once = words.first().filter(|word| word.starts_with("--once")).cloned();
     words.drain(..usize::from(once.is_some()));
-    for (title, mut cases) in
-        [("reading", reading::cases()), ("counts", counts::cases()), ("verdict", verdict::cases()), ("replay", replay::cases())]
-    {
+    for (title, mut cases) in [
+        ("reading", reading::cases()),
+        ("writing", writing::cases()),
+        ("counts", counts::cases()),
+        ("verdict", verdict::cases()),
+        ("replay", replay::cases()),
+    ] {
         cases.retain(|case| {
             let named = format!("{title} {} {}", case.name, case.rows);
             words.iter().all(|word| named.split([' ', ',']).any(|w| w == word))
