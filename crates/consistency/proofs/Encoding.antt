@@ -20,7 +20,8 @@ use Rattle.machine_meaning.specs.States.{Header, layersIn, layersTo, plainIn, p
 use Rattle.machine_meaning.specs.Steps.{makingQuestions, plainMakingQuestions, usesRange, rowAsked, Step, answered, stepOf, plainStepOf}
 use Rattle.machine_meaning.proofs.Points.{picked, Pointed, pointed-pieces, LayersPointed, PlainPointed, Writing, fresh-pointed, plain-pointed, row-pointed, plain-row-pointed}
 use Rattle.machine_meaning.proofs.Slices.{held-fit, to-in, layers-held, plain-in, plain-held}
-use Rattle.machine_meaning.proofs.Stepping.{AllYes, step-held, plain-step-held}
+use Rattle.rows.proofs.Asking.{AllYes}
+use Rattle.machine_meaning.proofs.Stepping.{step-held, plain-step-held}
 use Rattle.machine_meaning.proofs.Making.{making-yes, making-fresh, plain-making-yes, plain-making-fresh}
 use Rattle.rows.specs.Lists.{In}
 use Rattle.consistency.specs.Files.{NumberedRow, Agree, runFrom, plainRunFrom, Level, writesIn, SpaceFor, Lent, freshMachine, freshPlain}

@@ -18,7 +18,8 @@ use Rattle.machine_meaning.specs.Steps.{rowAsked, stepOf}
 use Rattle.machine_meaning.proofs.Points.{picked, Pointed, LayersPointed, fresh-pointed, row-pointed}
 use Rattle.machine_meaning.proofs.Slices.{all-out, LayersHeld, Alike, alike-fit, alike-to}
 use Rattle.machine_meaning.proofs.Lawful.{state-parts}
-use Rattle.machine_meaning.proofs.Stepping.{AllYes, alike-row, to-lawful}
+use Rattle.rows.proofs.Asking.{AllYes}
+use Rattle.machine_meaning.proofs.Stepping.{alike-row, to-lawful}
 use Rattle.machine_state.proofs.Maps.{state-making}
 use Rattle.machine_state.proofs.Questions.{row-named, asked-process}
 use Rattle.machine_state.proofs.LawfulBytes.{points-to, lawful-pointed, published-pointed, asked-writing}

@@ -26,7 +26,7 @@ use Rattle.rows.specs.Counting.{allBelow}
 use Rattle.machine_meaning.specs.Steps.{StepAnswer, done, listed, rowAsked, roomAsked, answered, decided, stepOf}
 use Rattle.machine_meaning.proofs.Slices.{Alike, alike-fit, alike-to}
 use Rattle.machine_meaning.proofs.Lawful.{here-fit, to-same}
-use Rattle.machine_meaning.proofs.Stepping.{AllYes}
+use Rattle.rows.proofs.Asking.{AllYes, all-yes, first-no, yes-behind}
 use Rattle.extents.specs.declared.Answer as extents
 use Rattle.extents.specs.declared.Answer.the-variants.{Done, Refused}
 use Rattle.extents_meaning.specs.Pairs.{twoMaps, viewOf, belowOf}
@@ -34,7 +34,7 @@ use Rattle.extents.specs.Entries.{bothMaps, orRefused, orKept, listedCount, wri
 use Rattle.extents.proofs.Lent.{home, two-told, lentMap, map-lent, map-space}
 use Rattle.machine_state.specs.Answers.{answerOf, Steps, Ready}
 use Rattle.machine_state.proofs.Maps.{first-map, state-two, state-view, state-in, anew, fit-both, to-both, to-view-alone, shared′, view′, row-both}
-use Rattle.machine_state.proofs.Questions.{no-none, no-behind, no-before, room-named, asked-yes, asked-process, asked-range}
+use Rattle.machine_state.proofs.Questions.{room-named, asked-yes, asked-process, asked-range}
 use Rattle.machine_state.proofs.Answering.{same-kept, carried, refused}
 
 -- ---- Is the state lawful?
@@ -130,7 +130,7 @@ module _ (h : Header) (xs : List ℕ) (r : Row) (number : ℕ) (out : List ℕ) 
   asked-step law {k} e n =
       let s = afterRow (h .model) r number (layersIn h xs) in
       let pieces = piecesRead r (s .view (r .process)) in
-      let first = no-before (rowAsked h r number) (roomAsked (layersFit h s) pieces (length out)) (λ z. n (e ∙ z)) ∙ sym e in
+      let first = first-no (rowAsked h r number) (roomAsked (layersFit h s) pieces (length out)) (λ z. n (e ∙ z)) ∙ sym e in
       refused _ k xs out (λ i. cond (law i) (first i) 13) n
 
 module _ {h : Header} {xs : List ℕ} {r : Row} {number : ℕ} (k : Ready h xs r number) where
@@ -233,12 +233,12 @@ module _ {h : Header} {xs : List ℕ} {r : Row} {number : ℕ} (k : Ready h xs r
         let p : piecesRead r (s .view (r .process)) ≡ pieces = ap (piecesRead r) (row-both (h .model) r number old .1 ∙ view) in
         let qs : List Question = record { number = 13; yes = lawfulState h xs } ∷ rowAsked h r number in
         (λ i. decided
-        (no-behind qs (roomAsked (fit i) (p i) (length out)) (k .lawful, ready-yes k) i)
+        (yes-behind qs (roomAsked (fit i) (p i) (length out)) (k .lawful, ready-yes k) i)
         (answered r (p i) (alike-to h row-alike xs i) out) xs out)
 
     -- If neither 16 nor 17 refuses, both maps fit.
     fits-both : (out : List ℕ) → firstNo (roomAsked fits pieces (length out)) ≡ 0 → fits ≡ true
-    fits-both out e = no-none (roomAsked fits pieces (length out)) (room-named fits pieces (length out)) e .0
+    fits-both out e = all-yes (roomAsked fits pieces (length out)) (room-named fits pieces (length out)) e .0
 
     -- Encoding the new state replaces both maps.
     both-to : fits ≡ true → layersTo h state xs ≡ bothMaps (h .space) (suc (r .process)) 0 xs v w

@@ -11,7 +11,7 @@ use Rattle.machine_meaning.specs.Layers.{fresh, nothing}
 use Rattle.machine_meaning.specs.States.{Header, mapsLength, layersTo, plainTo}
 use Rattle.machine_meaning.specs.Steps.{makingQuestions, plainMakingQuestions, madeTo}
 use Rattle.machine_meaning.proofs.Slices.{fresh-to, fresh-plain}
-use Rattle.machine_meaning.proofs.Stepping.{AllYes, none-no}
+use Rattle.rows.proofs.Asking.{AllYes, none-no}
 
 module _ (h : Header) (some-process : 1 ≤ h .processes) (few-processes : h .processes ≤ PROCESSES) (is-file : h .file < FILES) where
   -- ---- Machines

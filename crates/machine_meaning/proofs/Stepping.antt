@@ -1,9 +1,9 @@
 -- A step of a machine or of a plain file whose maps hold bytes: if every question is answered Yes, the step does what the row does to the bytes.
 use Prim.Native.Nat.{ℕ, suc, _*_, _≤_, _<_}
 use native.Mathlib.Omega.{arith}
-use mathlib.Core.Path.{_≡_, refl, ap, _∙_}
+use mathlib.Core.Path.{_≡_, ap, _∙_}
 use mathlib.Core.Bool.{Bool, true, false, cond, _&&_}
-use mathlib.Core.List.{List, [], _∷_, _++_}
+use mathlib.Core.List.{List}
 use lib.ListN.{length}
 use lib.Dec.{leb, ltb, eqb}
 use borrow.Author.Tests.{le-leb, leb-true, ltb-true, eq-eqb}
@@ -11,7 +11,7 @@ use Rattle.rows.specs.Limits.{MODELS}
 use Rattle.rows.specs.Kinds.{WRITE}
 use Rattle.models.specs.Table.{publishes, refreshes}
 use Rattle.rows.specs.declared.Row.{Row}
-use Rattle.rows.specs.Questions.{Question, firstNo}
+use Rattle.rows.proofs.Asking.{AllYes, none-no, yes-append}
 use Rattle.extents_meaning.specs.Cells.{Bytes, cellOf, overwrite, published, asPublished, refreshed}
 use Rattle.extents_meaning.specs.Runs.{Run}
 use Rattle.extents_meaning.specs.Maps.{lawful, lawfulPublished}
@@ -23,22 +23,6 @@ use Rattle.machine_meaning.specs.Steps.{makingQuestions, plainMakingQues
 use Rattle.machine_meaning.proofs.Slices.{all-in, held-lawful, held-published, LayersHeld, Alike, alike-fit, alike-to, to-length, to-again, to-shared, to-view, to-in, PlainHeld, plain-first, plain-length, plain-again, plain-in}
 
 -- ---- Questions
-
--- Every question is answered Yes.
-abbrev pub AllYes : List Question → Type 0
-AllYes [] = Unit {0}
-AllYes (q ∷ qs) = (q .yes ≡ true) × AllYes qs
-
--- If every question is answered Yes, the first No is 0.
-pub none-no : (qs : List Question) → AllYes qs → firstNo qs ≡ 0
-unfolding firstNo
-none-no [] y = refl
-none-no (q ∷ qs) y = rw (y .0) (none-no qs (y .1))
-
--- Two lists of questions that are all answered Yes are so one after the other.
-pub yes-append : (ps qs : List Question) → AllYes ps → AllYes qs → AllYes (ps ++ qs)
-yes-append [] qs y z = z
-yes-append (p ∷ ps) qs y z = (y .0, yes-append ps qs (y .1) z)
 
 -- A first No of 0 leaves the decision to the step.
 decided-none : (n : ℕ) (s : Step) (maps out : List ℕ) → n ≡ 0 → decided n s maps out ≡ s

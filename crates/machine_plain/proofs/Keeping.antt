@@ -13,7 +13,8 @@ use Rattle.machine_meaning.specs.States.{Header, lawfulPlain, plainIn, plainTo,
 use Rattle.machine_meaning.specs.Steps.{rowAsked, plainStepOf}
 use Rattle.machine_meaning.proofs.Points.{plain-row-pointed}
 use Rattle.machine_meaning.proofs.Slices.{PlainHeld}
-use Rattle.machine_meaning.proofs.Stepping.{AllYes, plain-lawful}
+use Rattle.rows.proofs.Asking.{AllYes}
+use Rattle.machine_meaning.proofs.Stepping.{plain-lawful}
 use Rattle.machine_state.proofs.Maps.{plain-making}
 use Rattle.machine_state.proofs.Questions.{row-named}
 use Rattle.machine_state.proofs.LawfulBytes.{points-to, published-pointed, asked-writing}

@@ -20,13 +20,13 @@ use Rattle.machine_meaning.specs.Layers.{afterPlain, piecesRead}
 use Rattle.machine_meaning.specs.States.{Header, processLimit, lawfulPlain, plainIn, plainTo, plainFits}
 use Rattle.machine_meaning.specs.Steps.{StepAnswer, done, listed, plainMakingQuestions, rowAsked, roomAsked, plainStepOf}
 use Rattle.machine_meaning.proofs.Lawful.{here-fit, here-again}
-use Rattle.machine_meaning.proofs.Stepping.{AllYes}
+use Rattle.rows.proofs.Asking.{AllYes, first-no, yes-behind}
 use Rattle.extents.specs.declared.Answer as extents
 use Rattle.extents.specs.declared.Answer.the-variants.{Done, Refused}
 use Rattle.extents.specs.Entries.{orRefused, orKept, listedCount, writeRefusal, writtenMap, listRefusal}
 use Rattle.machine_state.specs.Answers.{answerOf, Steps}
 use Rattle.machine_state.proofs.Maps.{first-map, plain-making}
-use Rattle.machine_state.proofs.Questions.{no-behind, no-before, asked-yes, asked-number, asked-range}
+use Rattle.machine_state.proofs.Questions.{asked-yes, asked-number, asked-range}
 use Rattle.machine_state.proofs.Answering.{same-kept, kept-append, carried, refused}
 
 -- ---- Lawful plain files
@@ -104,7 +104,7 @@ module _ (h : Header) (xs : List ℕ) (law : lawfulPlain h xs ≡ true) where
     pub plain-asked : (k : ℕ) → k ≡ firstNo (rowAsked h r number) → (k ≡ 0 → ⊥) → Steps (plainStepOf h xs r number out) (Refused k) xs out
     unfolding plainStepOf firstNo
     plain-asked k e n =
-        let first = no-before (rowAsked h r number) (roomAsked (plainFits h (afterPlain r number (plainIn h xs)))
+        let first = first-no (rowAsked h r number) (roomAsked (plainFits h (afterPlain r number (plainIn h xs)))
         (piecesRead r (afterPlain r number (plainIn h xs))) (length out)) (λ z. n (e ∙ z)) ∙ sym e in
         refused _ k xs out (λ i. cond (law i) (first i) 13) n
 
@@ -126,7 +126,7 @@ module _ (h : Header) (xs : List ℕ) (law : lawfulPlain h xs ≡ true) where
           cond (plainFits h after) (cond (leb (3 * length read) (length out)) 0 17) 16
       unfolding firstNo
       room =
-          λ i. cond (law i) (no-behind (rowAsked h r number) (roomAsked (plainFits h after) read (length out)) passes i) 13
+          λ i. cond (law i) (yes-behind (rowAsked h r number) (roomAsked (plainFits h after) read (length out)) passes i) 13
 
       -- A read lists the pieces of the map.
       module _ (kind : r .kind ≡ READ) where

@@ -16,10 +16,10 @@ use Rattle.extents_meaning.proofs.Threes.{length-threes}
 use Rattle.machine_meaning.specs.Layers.{ofFile}
 use Rattle.machine_meaning.specs.Steps.{StepAnswer, refusing, done, listed, Step, roomAsked, answered, decided}
 use Rattle.machine_meaning.proofs.Points.{picked}
-use Rattle.machine_meaning.proofs.Stepping.{AllYes}
+use Rattle.rows.proofs.Asking.{From, AllYes, all-yes, yes-parts, from-append}
 use Rattle.machine_state.specs.Answers.{putTo}
 use Rattle.machine_state.specs.Replays.{refusalIn, countIn}
-use Rattle.machine_state.proofs.Questions.{Named, no-none, named-append, yes-parts, room-named}
+use Rattle.machine_state.proofs.Questions.{room-named}
 
 -- One step leaves lawful maps lawful, lists no more pieces than the answer slice has room for, and keeps the answer slice's length. A refusal
 -- changes nothing.
@@ -48,16 +48,16 @@ module _ (law : List ℕ → Bool) (xs : List ℕ) (r : Row) (pieces : List Run)
       }
 
   -- A step that asks for the state, then the row's questions, then the room, keeps all, if it leaves lawful maps where every answer is Yes.
-  pub decided-keeps : (asked : List Question) (fit : Bool) → Named asked → (law xs ≡ true → AllYes asked → fit ≡ true → law ys ≡ true) →
+  pub decided-keeps : (asked : List Question) (fit : Bool) → From 1 asked → (law xs ≡ true → AllYes asked → fit ≡ true → law ys ≡ true) →
       Keeps law xs out
       (decided (firstNo (record { number = 13; yes = law xs } ∷ (asked ++ roomAsked fit pieces (length out)))) (answered r pieces ys out) xs out)
-  decided-keeps asked fit n k = picked (Keeps law xs out) (eqb (firstNo qs) 0) _ _ (λ e. then (no-none qs named (eqb-true _ _ e))) refused
+  decided-keeps asked fit n k = picked (Keeps law xs out) (eqb (firstNo qs) 0) _ _ (λ e. then (all-yes qs named (eqb-true _ _ e))) refused
     where
       qs : List Question
       qs = record { number = 13; yes = law xs } ∷ (asked ++ roomAsked fit pieces (length out))
 
-      named : Named qs
-      named = ((λ e. omega arith), named-append asked (roomAsked fit pieces (length out)) n (room-named fit pieces (length out)))
+      named : From 1 qs
+      named = (omega arith, from-append 1 asked (roomAsked fit pieces (length out)) n (room-named fit pieces (length out)))
 
       refused : Keeps law xs out (record { answer = refusing (firstNo qs); maps = xs; out = out })
       refused = record { lawful = λ e. e; room = omega arith; size = refl; stays = λ _. (refl, refl) }

@@ -17,7 +17,7 @@ use Rattle.extents_meaning.proofs.Trips.{lawful-map, no-marks-out}
 use Rattle.machine_meaning.specs.States.{Header}
 use Rattle.machine_meaning.specs.Steps.{rowAsked}
 use Rattle.machine_meaning.proofs.Points.{prior, Pointed, PlainPointed, Writing}
-use Rattle.machine_meaning.proofs.Stepping.{AllYes}
+use Rattle.rows.proofs.Asking.{AllYes}
 use Rattle.machine_state.proofs.Questions.{asked-number, asked-range}
 
 -- A list that holds every number up to n.

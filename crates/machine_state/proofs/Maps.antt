@@ -23,7 +23,7 @@ use Rattle.machine_meaning.specs.Layers.{Layers, withView, publishing, refreshi
 use Rattle.machine_meaning.specs.States.{Header, mapsLength, processLimit, lawfulState, layersIn, layersTo, layersFit, lawfulPlain}
 use Rattle.rows.specs.Counting.{allBelow}
 use Rattle.machine_meaning.specs.Steps.{makingQuestions, plainMakingQuestions}
-use Rattle.machine_meaning.proofs.Stepping.{AllYes}
+use Rattle.rows.proofs.Asking.{AllYes}
 use Rattle.machine_meaning.proofs.Slices.{all-in, all-out}
 use Rattle.machine_meaning.proofs.Lawful.{to-is, here-fit, state-told, state-parts, map-below, map-in, shared-again, view-again}
 use Rattle.extents_meaning.proofs.Trips.{length-map}

@@ -3,21 +3,18 @@ use Prim.Native.Nat.{ℕ, zero, suc, _+_, _*_, _/_, _≤_, _<_}
 use native.Mathlib.Omega.{arith}
 use mathlib.Core.Path.{_≡_, refl, sym, _∙_}
 use mathlib.Core.Bool.{Bool, true, false, cond, not, _&&_, _||_, and-true, and-false}
-use mathlib.Core.List.{List, [], _∷_, _++_}
-use lib.ListN.{drop, getD}
-use lib.Seq.{getD-drop}
+use mathlib.Core.List.{List, [], _∷_}
 use lib.Dec.{leb, ltb, eqb}
 use borrow.Author.Tests.{le-leb, lt-leb, leb-true, lt-ltb, le-ltb, ltb-true, eq-eqb, ne-eqb}
 use Rattle.rows.specs.Limits.{ROWS, OFFSET-MAX}
 use Rattle.rows.specs.Kinds.{READ, WRITE, COMMIT, SEND}
 use Rattle.rows.specs.declared.Row.{Row}
-use Rattle.rows.specs.Rows.{rowHere, rowIn}
-use Rattle.rows.specs.Questions.{Question, firstNo}
+use Rattle.rows.specs.Questions.{firstNo}
 use Rattle.extents_meaning.specs.Runs.{Run}
 use Rattle.machine_meaning.specs.Layers.{ofFile}
 use Rattle.machine_meaning.specs.States.{Header, processLimit}
 use Rattle.machine_meaning.specs.Steps.{usesRange, rowAsked, roomAsked}
-use Rattle.machine_meaning.proofs.Stepping.{AllYes}
+use Rattle.rows.proofs.Asking.{From, AllYes, all-yes, first-no, rest-decides}
 use Rattle.rows.proofs.Bools.{and-out}
 use Rattle.machine_state.specs.Answers.{fileAsked, rangeAsked}
 
@@ -64,53 +61,11 @@ uses r h = go (r .kind) h
 uses-not : (r : Row) → 1 < r .kind → usesRange r ≡ false
 uses-not r h = λ i. ne-eqb (r .kind) READ (λ e. omega arith) i || ne-eqb (r .kind) WRITE (λ e. omega arith) i
 
--- ---- The first No of questions in sequence
-
--- No question has number 0.
-abbrev pub Named : List Question → Type 0
-Named [] = Unit {0}
-Named (q ∷ qs) = (q .number ≡ 0 → ⊥) × Named qs
-
--- If the first No is 0, every answer is Yes.
-pub no-none : (qs : List Question) → Named qs → firstNo qs ≡ 0 → AllYes qs
-unfolding firstNo
-no-none [] named e = tt
-no-none (q ∷ qs) named e = go (q .yes) refl (no-none qs (named .1)) e
-  where
-    go : (b : Bool) → q .yes ≡ b → (firstNo qs ≡ 0 → AllYes qs) → cond b (firstNo qs) (q .number) ≡ 0 → (q .yes ≡ true) × AllYes qs
-    go true y rest z = (y, rest z)
-    go false y rest z = absurd (named .0 z)
-
--- Questions that are all answered Yes leave the first No to the questions behind them.
-pub no-behind : (ps qs : List Question) → AllYes ps → firstNo (ps ++ qs) ≡ firstNo qs
-unfolding firstNo
-no-behind [] qs y = refl
-no-behind (p ∷ ps) qs y = (λ i. cond (y .0 i) (firstNo (ps ++ qs)) (p .number)) ∙ no-behind ps qs (y .1)
-
--- A first No stays the first before other questions.
-pub no-before : (ps qs : List Question) → (firstNo ps ≡ 0 → ⊥) → firstNo (ps ++ qs) ≡ firstNo ps
-unfolding firstNo
-no-before [] qs n = absurd (n refl)
-no-before (p ∷ ps) qs n = go (p .yes) (no-before ps qs) n
-  where
-    go : (b : Bool) → ((firstNo ps ≡ 0 → ⊥) → firstNo (ps ++ qs) ≡ firstNo ps) → (cond b (firstNo ps) (p .number) ≡ 0 → ⊥) →
-        cond b (firstNo (ps ++ qs)) (p .number) ≡ cond b (firstNo ps) (p .number)
-    go true rest m = rest m
-    go false rest m = refl
-
--- Two lists of questions without number 0 are so one after the other.
-pub named-append : (ps qs : List Question) → Named ps → Named qs → Named (ps ++ qs)
-named-append [] qs m n = n
-named-append (p ∷ ps) qs m n = (m .0, named-append ps qs (m .1) n)
-
--- Answers that are all Yes are so for the first and for the later questions.
-pub yes-parts : (ps qs : List Question) → AllYes (ps ++ qs) → AllYes ps × AllYes qs
-yes-parts [] qs y = (tt, y)
-yes-parts (p ∷ ps) qs y = let b = yes-parts ps qs (y .1) in ((y .0, b .0), b .1)
+-- ---- Questions have numbers
 
 -- Questions 16 and 17 are not number 0.
-pub room-named : (fit : Bool) (pieces : List Run) (room : ℕ) → Named (roomAsked fit pieces room)
-room-named fit pieces room = ((λ e. omega arith), ((λ e. omega arith), tt))
+pub room-named : (fit : Bool) (pieces : List Run) (room : ℕ) → From 1 (roomAsked fit pieces room)
+room-named fit pieces room = (omega arith, (omega arith, tt))
 
 -- ---- 15, 14, 10 and 11, by the fields that a kind uses
 
@@ -172,16 +127,15 @@ module _ (h : Header) (r : Row) (number : ℕ) where
 
   -- A No to 15, 14 or 10 stays the first.
   pub range-before : {k : ℕ} → k ≡ firstNo (fileAsked h r number) → (k ≡ 0 → ⊥) → k ≡ firstNo (rangeAsked h r number)
-  range-before {k} e n = e ∙ sym (no-before (fileAsked h r number) _ (λ z. n (e ∙ z)))
+  range-before {k} e n = e ∙ sym (first-no (fileAsked h r number) _ (λ z. n (e ∙ z)))
 
   module _ (yes : firstNo (fileAsked h r number) ≡ 0) where
     -- If 15, 14 and 10 are answered Yes, 11 decides.
     range-asks : firstNo (rangeAsked h r number) ≡ cond (leb (r .offset + r .length) OFFSET-MAX) 0 11
     unfolding firstNo
     range-asks =
-        let named : Named (fileAsked h r number) = ((λ e. omega arith), ((λ e. omega arith), ((λ e. omega arith), tt))) in
-        no-behind (fileAsked h r number) (record { number = 11; yes = leb (r .offset + r .length) OFFSET-MAX } ∷ [])
-        (no-none (fileAsked h r number) named yes)
+        let named : From 1 (fileAsked h r number) = (omega arith, (omega arith, (omega arith, tt))) in
+        rest-decides (fileAsked h r number) (record { number = 11; yes = leb (r .offset + r .length) OFFSET-MAX } ∷ []) named yes
 
     -- 11: an end past the range.
     pub end-past : OFFSET-MAX < r .offset + r .length → 11 ≡ firstNo (rangeAsked h r number)
@@ -195,13 +149,13 @@ module _ (h : Header) (r : Row) (number : ℕ) where
 
 module _ (h : Header) (r : Row) (number : ℕ) where
   -- Questions 15, 14, 10 and 11 are not number 0.
-  pub row-named : Named (rowAsked h r number)
+  pub row-named : From 1 (rowAsked h r number)
   unfolding rowAsked
-  row-named = ((λ e. omega arith), ((λ e. omega arith), ((λ e. omega arith), ((λ e. omega arith), tt))))
+  row-named = (omega arith, (omega arith, (omega arith, (omega arith, tt))))
 
   -- If the first No of the row is 0, every answer is Yes.
   pub asked-yes : firstNo (rowAsked h r number) ≡ 0 → AllYes (rowAsked h r number)
-  asked-yes = no-none (rowAsked h r number) row-named
+  asked-yes = all-yes (rowAsked h r number) row-named
 
   module _ (all : AllYes (rowAsked h r number)) where
     -- The number of a row that passes is a row number.

@@ -1,7 +1,7 @@
 -- What the first No says of a list of questions.
 use Prim.Native.Nat.{ℕ, _≤_}
 use native.Mathlib.Omega.{arith}
-use mathlib.Core.Path.{_≡_, refl}
+use mathlib.Core.Path.{_≡_, refl, _∙_}
 use mathlib.Core.Bool.{Bool, true, false, cond}
 use mathlib.Core.List.{List, [], _∷_, _++_}
 use Rattle.rows.specs.Questions.{Question, firstNo}
@@ -58,13 +58,33 @@ first-no (q ∷ qs) rest h = go (q .yes) (first-no qs rest) h
     go true ih g = ih g
     go false ih g = refl
 
+-- Questions that are all answered Yes have no No.
+pub none-no : (qs : List Question) → AllYes qs → firstNo qs ≡ 0
+unfolding firstNo
+none-no [] y = refl
+none-no (q ∷ qs) y = rw (y .0) (none-no qs (y .1))
+
+-- Questions that are all answered Yes leave the first No to the questions behind them.
+pub yes-behind : (qs rest : List Question) → AllYes qs → firstNo (qs ++ rest) ≡ firstNo rest
+unfolding firstNo
+yes-behind [] rest y = refl
+yes-behind (q ∷ qs) rest y = (λ i. cond (y .0 i) (firstNo (qs ++ rest)) (q .number)) ∙ yes-behind qs rest (y .1)
+
 -- Without a No in the first list of questions, the second decides.
 pub rest-decides : (qs rest : List Question) → From 1 qs → firstNo qs ≡ 0 → firstNo (qs ++ rest) ≡ firstNo rest
-unfolding firstNo
-rest-decides [] rest n h = refl
-rest-decides (q ∷ qs) rest n h = go (q .yes) (rest-decides qs rest (n .1)) h
-  where
-    go : (x : Bool) → (firstNo qs ≡ 0 → firstNo (qs ++ rest) ≡ firstNo rest) → cond x (firstNo qs) (q .number) ≡ 0 →
-        cond x (firstNo (qs ++ rest)) (q .number) ≡ firstNo rest
-    go true ih g = ih g
-    go false ih g = absurd (omega (arith, n .0))
+rest-decides qs rest n h = yes-behind qs rest (all-yes qs n h)
+
+-- Two lists of questions that are all answered Yes are so one after the other.
+pub yes-append : (qs rest : List Question) → AllYes qs → AllYes rest → AllYes (qs ++ rest)
+yes-append [] rest y z = z
+yes-append (q ∷ qs) rest y z = (y .0, yes-append qs rest (y .1) z)
+
+-- Answers that are all Yes are so for the first and for the later questions.
+pub yes-parts : (qs rest : List Question) → AllYes (qs ++ rest) → AllYes qs × AllYes rest
+yes-parts [] rest y = (tt, y)
+yes-parts (q ∷ qs) rest y = let b = yes-parts qs rest (y .1) in ((y .0, b .0), b .1)
+
+-- Two lists of questions without a number below k are so one after the other.
+pub from-append : (k : ℕ) (qs rest : List Question) → From k qs → From k rest → From k (qs ++ rest)
+from-append k [] rest m n = n
+from-append k (q ∷ qs) rest m n = (m .0, from-append k qs rest (m .1) n)
