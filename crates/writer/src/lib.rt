@@ -28,7 +28,7 @@ pub fn write_trace(
 ) -> Written
     ensures { λ r. ⌜ Writes (writeTrace (now (rows .entry)) n header «process_limit» (length (now (out .entry))) place) r place (now (out .entry)) (now (out .exit)) ⌝ }
 {
-    // The table stands before every answer: docs/DECISIONS.md, Forms, says why.
+    // The table stands before the first answer, so that the compiler makes its large frame at the function's entry (docs/DECISIONS.md, Forms).
     let mut table = [0u16; messages::ENTRIES];
     let no = ask_call(rows.len(), n, header, process_limit);
     if no != 0 {
