@@ -1,5 +1,5 @@
 -- The verdict is the first race, and overlap is a shared byte.
-use Prim.Native.Nat.{ℕ, zero, suc, _+_, max, min, _≤_, _<_}
+use Prim.Native.Nat.{ℕ, zero, suc, _+_, _≤_, _<_}
 use native.Mathlib.Omega.{arith}
 use native.Mathlib.Decide.{decLt}
 use mathlib.Core.Path.{_≡_, refl, sym, ap, _∙_}
@@ -8,11 +8,12 @@ use mathlib.Core.Bool.{Bool, true, false, cond, false≢true}
 use mathlib.Core.List.{List}
 use lib.ListN.{length}
 use lib.Dec.{ltb, eqb}
-use borrow.Author.Tests.{lt-ltb, ltb-true, eqb-true, eqb-false}
+use borrow.Author.Tests.{ltb-true, eqb-true, eqb-false}
 use Rattle.rows.specs.declared.Row.{Row}
 use Rattle.rows.specs.Counting.{anyBelow, leastFrom}
 use Rattle.rows.proofs.Bools.{and-out}
 use Rattle.rows.proofs.Below.{any-in, any-out}
+use Rattle.ranges.proofs.Overlaps.{shared-iff}
 use Rattle.races_meaning.specs.Races.{shareByte, race, Verdict, free, racing, verdictOf}
 
 -- Two ranges overlap exactly where some byte lies in both.
@@ -20,15 +21,9 @@ pub share-iff : (r s : Row) →
     (shareByte r s ≡ true) ↔ ((b : ℕ) × (r .offset ≤ b) × (b < r .offset + r .length) × (s .offset ≤ b) × (b < s .offset + s .length))
 unfolding shareByte
 share-iff r s = (
-  λ e. let h : lo < hi = ltb-true lo hi e in (lo, omega arith, omega arith, omega arith, omega arith),
-  λ (b, h, i, j, k). lt-ltb lo hi (omega arith),
+  λ e. let (b, h, k) = shared-iff (r .offset) (r .length) (s .offset) (s .length) .0 e in (b, h .0, h .1, k .0, k .1),
+  λ (b, h, i, j, k). shared-iff (r .offset) (r .length) (s .offset) (s .length) .1 (b, (h, i), (j, k)),
 )
-  where
-    lo : ℕ
-    lo = max (r .offset) (s .offset)
-
-    hi : ℕ
-    hi = min (r .offset + r .length) (s .offset + s .length)
 
 -- ---- The least that passes
 
