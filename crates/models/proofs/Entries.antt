@@ -1,14 +1,16 @@
 -- The table in the code has the entry of specs/Table.antt for every model and kind, by one computed test.
 use Prim.Native.Nat.{ℕ, zero, suc, _+_, _*_, _/_, _%_, _≤_, _<_}
 use native.Mathlib.Omega.{arith}
+use native.Mathlib.Decide.{ℕ-discrete}
 use mathlib.Core.Path.{_≡_, refl, sym, ap, _∙_}
 use mathlib.Core.Bool.{Bool, true, false, cond, _&&_, and-false, false≢true}
 use mathlib.Core.List.{List, [], _∷_}
 use lib.ListN.{length, getD}
 use lib.Dec.{eqb, leb}
-use borrow.Author.Tests.{ne-eqb, eqb-true}
+use borrow.Author.Tests.{eq-eqb, ne-eqb, eqb-true}
 use Rattle.rows.specs.Limits.{MODELS}
-use Rattle.rows.specs.Kinds.{KINDS}
+use Rattle.rows.specs.Kinds.{KINDS, READ, WRITE}
+use Rattle.models.specs.Models.{POSIX}
 use Rattle.models.specs.Table.{publishes, refreshes, tableEntry, ENTRY-NONE, ENTRY-PUBLISH, ENTRY-REFRESH, ENTRY-BOTH}
 
 -- A test passes at every number of a list with its place, counted from i.
@@ -96,3 +98,27 @@ refresh-entry model kind entry e = ap (leb ENTRY-REFRESH) e ∙ go (publishes mo
     go true false = refl
     go false true = refl
     go false false = refl
+
+-- A model whose writes publish refreshes at its reads.
+pub own-refresh : (model : ℕ) → publishes model WRITE ≡ true → refreshes model READ ≡ true
+unfolding publishes refreshes
+own-refresh model e = go (ℕ-discrete model POSIX)
+  where
+    go : Dec (model ≡ POSIX) → refreshes model READ ≡ true
+    go (yes q) = rw (eq-eqb model POSIX q)
+    go (no n) = absurd (false≢true (sym none ∙ e))
+      where
+        none : publishes model WRITE ≡ false
+        none = simp (ne-eqb model POSIX n, and-false)
+
+-- Under a model whose writes do not publish, no data row does.
+pub no-data-publishes : (model kind : ℕ) → publishes model WRITE ≡ false → kind ≤ WRITE → publishes model kind ≡ false
+unfolding publishes
+no-data-publishes model kind e h = go (ℕ-discrete kind WRITE)
+  where
+    go : Dec (kind ≡ WRITE) → publishes model kind ≡ false
+    go (yes q) = ap (publishes model) q ∙ e
+    go (no n) = let z : kind ≡ READ = omega (arith, h, n) in ap (publishes model) z ∙ none
+      where
+        none : publishes model READ ≡ false
+        none = simp and-false

@@ -1,20 +1,24 @@
 -- Rows as the numbers of a slice: their conflicts and the last refresh.
-use Prim.Native.Nat.{ℕ, suc, _+_, _*_, _-_, _≤_, _<_, max, min}
+use Prim.Native.Nat.{ℕ, suc, _+_, _*_, _-_, _≤_, _<_}
 use native.Mathlib.Decide.{ℕ-discrete}
 use native.Mathlib.Omega.{arith}
-use mathlib.Core.Path.{_≡_, sym, ap, _∙_}
-use mathlib.Core.Bool.{Bool, true, false, not, _&&_, _||_, and-false}
+use mathlib.Core.Path.{_≡_, refl, sym, ap, _∙_}
+use mathlib.Core.Bool.{Bool, true, false, cond, not, _&&_, _||_, and-true, and-false, and-comm}
 use mathlib.Core.List.{List}
 use lib.ListN.{length, getD}
 use lib.Seq.{getD-drop}
-use lib.Dec.{ltb, eqb}
+use lib.Dec.{eqb}
 use borrow.Author.Tests.{eq-eqb, ne-eqb}
 use Rattle.rows.specs.Kinds.{READ, WRITE}
 use Rattle.models.specs.Table.{refreshes}
+use Rattle.rows.specs.declared.Row.{Row}
 use Rattle.rows.specs.Rows.{rowHere, rowsIn, rowAt, rowIn}
 use Rattle.rows.proofs.Slices.{row-in}
 pub use Rattle.happens_before.proofs.Joins.{process-in}
-use Rattle.races_meaning.specs.Races.{conflict, shareByte}
+use Rattle.ranges.specs.Ranges.{YES, NO, overlaps, overlapOf}
+use Rattle.races_meaning.specs.Races.{isWrite, isData, sameFile, conflict, shareByte}
+use Rattle.happens_before.specs.Order.{sameProcess}
+use Rattle.races.specs.Given.{mayConflict}
 use Rattle.races_meaning.specs.Search.{isRefresh, refreshAt}
 use Rattle.rows.specs.Counting.{lastBelow}
 
@@ -59,15 +63,20 @@ some-data {k} h = go (ℕ-discrete k READ)
     go (yes e) = rw (eq-eqb k READ e)
     go (no n) = let e : k ≡ WRITE = omega arith in rw (ne-eqb k READ n, eq-eqb k WRITE e)
 
--- Rows of kinds k and l, files f and g and processes p and q conflict; b says whether they share a byte.
-abbrev told : ℕ → ℕ → ℕ → ℕ → Bool → ℕ → ℕ → Bool
-told k l f g b p q = ofData k && (ofData l && (eqb f g && (b && (not (eqb p q) && (eqb k WRITE || eqb l WRITE)))))
+-- Rows of kinds k and l, files f and g and processes p and q conflict if they share a byte.
+abbrev told : ℕ → ℕ → ℕ → ℕ → ℕ → ℕ → Bool
+told k l f g p q = ofData k && (ofData l && (eqb f g && (not (eqb p q) && (eqb k WRITE || eqb l WRITE))))
 
--- The ranges of rows x and y share a byte.
-abbrev pub shared : List ℕ → ℕ → ℕ → Bool
-shared xs x y =
-    ltb (max (getD xs (x * 6 + 3) 0) (getD xs (y * 6 + 3) 0))
-    (min (getD xs (x * 6 + 3) 0 + getD xs (x * 6 + 4) 0) (getD xs (y * 6 + 3) 0 + getD xs (y * 6 + 4) 0))
+-- Two rows conflict where they may and share a byte.
+pub conflict-split : (r s : Row) → conflict r s ≡ (mayConflict r s && shareByte r s)
+unfolding conflict
+conflict-split r s = go (isData r) (isData s) (sameFile r s) (shareByte r s) (not (sameProcess r s) && (isWrite r || isWrite s))
+  where
+    go : (u v w b z : Bool) → (u && (v && (w && (b && z)))) ≡ ((u && (v && (w && z))) && b)
+    go true true true b z = and-comm b z
+    go true true false b z = refl
+    go true false w b z = refl
+    go false v w b z = refl
 
 module _ (xs : List ℕ) (x y : ℕ) where
   -- The kinds, files and processes of rows x and y.
@@ -89,47 +98,46 @@ module _ (xs : List ℕ) (x y : ℕ) where
   abbrev q : ℕ
   q = getD xs (y * 6) 0
 
-  -- Rows x and y conflict where their numbers say so.
-  cells : conflict (rowIn xs x) (rowIn xs y) ≡ told k l f g (shared xs x y) p q
-  unfolding conflict shareByte
-  cells i =
-      told (kind-in xs x i) (kind-in xs y i) (file-in xs x i) (file-in xs y i)
-      (ltb (max (offset-in xs x i) (offset-in xs y i)) (min (offset-in xs x i + length-in xs x i) (offset-in xs y i + length-in xs y i)))
-      (process-in xs x i) (process-in xs y i)
+  -- Rows x and y may conflict where their numbers say so.
+  cells : mayConflict (rowIn xs x) (rowIn xs y) ≡ told k l f g p q
+  cells i = told (kind-in xs x i) (kind-in xs y i) (file-in xs x i) (file-in xs y i) (process-in xs x i) (process-in xs y i)
 
   -- Rows do not conflict where the first is no data row.
-  pub no-first : WRITE < k → false ≡ conflict (rowIn xs x) (rowIn xs y)
+  pub no-first : WRITE < k → false ≡ mayConflict (rowIn xs x) (rowIn xs y)
   no-first h = sym (cells ∙ rw (no-data h))
 
   -- Rows do not conflict where the second is no data row.
-  pub no-second : WRITE < l → false ≡ conflict (rowIn xs x) (rowIn xs y)
+  pub no-second : WRITE < l → false ≡ mayConflict (rowIn xs x) (rowIn xs y)
   no-second h = sym (cells ∙ rw (no-data h) (and-false (ofData k)))
 
-  -- Rows of two files do not conflict.
-  pub no-file : (f ≡ g → ⊥) → false ≡ conflict (rowIn xs x) (rowIn xs y)
-  no-file n = sym (cells ∙ simp (ne-eqb f g n, and-false))
-
-  -- Rows that share no byte do not conflict.
-  pub no-share : shared xs x y ≡ false → false ≡ conflict (rowIn xs x) (rowIn xs y)
-  no-share e = sym (cells ∙ simp (e, and-false))
+  -- Two reads do not conflict.
+  pub no-write : k + l < WRITE → false ≡ mayConflict (rowIn xs x) (rowIn xs y)
+  no-write h = sym (cells ∙ simp (ne-eqb k WRITE (λ e. omega (arith, h, e)), ne-eqb l WRITE (λ e. omega (arith, h, e)), and-false))
 
   -- Rows of one process do not conflict.
-  pub no-process : p ≡ q → false ≡ conflict (rowIn xs x) (rowIn xs y)
+  pub no-process : p ≡ q → false ≡ mayConflict (rowIn xs x) (rowIn xs y)
   no-process e = sym (cells ∙ simp (eq-eqb p q e, and-false))
 
-  -- Data rows of one file and two processes that share a byte.
-  module _ (a : k ≤ WRITE) (b : l ≤ WRITE) (e : f ≡ g) (s : shared xs x y ≡ true) (n : p ≡ q → ⊥) where
-    -- Such rows conflict where one of them is a write.
-    by-writes : conflict (rowIn xs x) (rowIn xs y) ≡ (eqb k WRITE || eqb l WRITE)
-    by-writes = cells ∙ rw (some-data a, some-data b, eq-eqb f g e, s, ne-eqb p q n)
+  -- Of data rows of two processes, one of them a write, the files decide.
+  pub by-file : k ≤ WRITE → l ≤ WRITE → WRITE ≤ k + l → (p ≡ q → ⊥) → eqb f g ≡ mayConflict (rowIn xs x) (rowIn xs y)
+  by-file a b w n = sym (cells ∙ rw (some-data a, some-data b, ne-eqb p q n, one-writes (ℕ-discrete k WRITE)) (and-true (eqb f g)))
+    where
+      one-writes : Dec (k ≡ WRITE) → (eqb k WRITE || eqb l WRITE) ≡ true
+      one-writes (yes e) = rw (eq-eqb k WRITE e)
+      one-writes (no m) = rw (ne-eqb k WRITE m) (eq-eqb l WRITE (omega (arith, a, b, w, m)))
 
-    -- Such rows conflict where the first is a write.
-    pub first-writes : k ≡ WRITE → true ≡ conflict (rowIn xs x) (rowIn xs y)
-    first-writes h = sym (by-writes ∙ rw (eq-eqb k WRITE h))
-
-    -- Where the first is no write, the second decides.
-    pub by-second : (k ≡ WRITE → ⊥) → eqb l WRITE ≡ conflict (rowIn xs x) (rowIn xs y)
-    by-second h = sym (by-writes ∙ rw (ne-eqb k WRITE h))
+  -- The answer of the test for a shared byte.
+  pub by-overlap : {r : ℕ} →
+      r ≡ overlapOf (getD xs (x * 6 + 3) 0) (getD xs (x * 6 + 4) 0) (getD xs (y * 6 + 3) 0) (getD xs (y * 6 + 4) 0) →
+      eqb r YES ≡ shareByte (rowIn xs x) (rowIn xs y)
+  unfolding overlapOf shareByte
+  by-overlap e =
+      ap (λ (t : ℕ). eqb t YES) e ∙ says (overlaps (getD xs (x * 6 + 3) 0) (getD xs (x * 6 + 4) 0) (getD xs (y * 6 + 3) 0) (getD xs (y * 6 + 4) 0))
+      ∙ sym (λ i. overlaps (offset-in xs x i) (length-in xs x i) (offset-in xs y i) (length-in xs y i))
+    where
+      says : (t : Bool) → eqb (cond t YES NO) YES ≡ t
+      says true = refl
+      says false = refl
 
 -- ---- The last refresh
 

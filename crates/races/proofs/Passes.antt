@@ -3,7 +3,7 @@ use Prim.Native.Nat.{ℕ, zero, suc, _+_, _*_, _-_, _≤_, _<_}
 use native.Mathlib.Nat.{add-zero}
 use native.Mathlib.Numerals.{add-one}
 use native.Mathlib.Omega.{arith}
-use mathlib.Core.Path.{_≡_, refl, sym, ap, ap₂, _∙_}
+use mathlib.Core.Path.{_≡_, sym, ap, ap₂, _∙_}
 use mathlib.Core.Logic.{_⊎_, inl, inr}
 use mathlib.Core.Bool.{Bool, true, false, cond, not, _&&_, and-true, and-false}
 use mathlib.Core.List.{List}
@@ -14,6 +14,7 @@ use borrow.Author.Tests.{eq-eqb, ne-eqb, lt-ltb, le-ltb}
 use Rattle.rows.specs.Kinds.{READ, WRITE}
 use Rattle.rows.specs.Limits.{PROCESSES}
 use Rattle.models.specs.Table.{publishes, refreshes}
+use Rattle.models.proofs.Entries.{own-refresh, no-data-publishes}
 use Rattle.rows.specs.declared.Row.{Row}
 use Rattle.rows.specs.Rows.{rowsIn, rowHere, rowAt, rowIn}
 use Rattle.happens_before.specs.Order.{count, countsOf}
@@ -21,13 +22,14 @@ use Rattle.happens_before.specs.Clock.{cellIn}
 use Rattle.rows.proofs.Products.{block-before}
 use Rattle.happens_before.proofs.Filling.{rowsOf, length-rowsOf, cell-done}
 use Rattle.rows.proofs.Slices.{length-rows, row-in}
-use Rattle.races_meaning.specs.Races.{isData, conflict}
+use Rattle.races_meaning.specs.Races.{isData, shareByte, conflict}
 use Rattle.rows.specs.Counting.{leastFrom, lastBelow, LastBy}
 use Rattle.races_meaning.specs.Search.{isRefresh, refreshAt}
 use Rattle.races_meaning.specs.Scan.{noted, lastNoted, inOrder, raceAt}
-use Rattle.races.specs.Given.{Given}
+use Rattle.races.specs.Given.{Given, mayConflict}
 use Rattle.rows.proofs.Below.{last-most}
 use Rattle.rows.proofs.Lasts.{lasts-none, lasts-kept, lasts-noted}
+use Rattle.races.proofs.Cells.{conflict-split, refresh-own}
 
 -- ---- What is read
 
@@ -92,6 +94,10 @@ module _ {n P model : ℕ} {xs counts : List ℕ} (g : Given n P model xs counts
   -- ---- A row that is noted
 
   module _ {y c : ℕ} (o : ℕ) (hy : y < n) (hc : c < n) where
+    -- A data row is not noted where a write does not publish.
+    pub no-data-noted : getD xs (c * 6 + 1) 0 ≤ WRITE → publishes model WRITE ≡ false → false ≡ noted rows model y o c
+    no-data-noted h q = rw (kind-at hc, no-data-publishes model (getD xs (c * 6 + 1) 0) q h)
+
     -- A row that does not publish is not noted.
     pub no-publish : {b : Bool} → b ≡ publishes model (getD xs (c * 6 + 1) 0) → b ≡ false → false ≡ noted rows model y o c
     no-publish e q = rw (kind-at hc, sym e ∙ q)
@@ -115,26 +121,28 @@ module _ {n P model : ℕ} {xs counts : List ℕ} (g : Given n P model xs counts
     unfolding inOrder
     order-read f t = t ∙ sym (rw (kind-at hx, ne-eqb (getD xs (x * 6 + 1) 0) WRITE f))
 
+    -- A write that publishes is in order by the counts, since row y is then the refresh.
+    pub order-own : {b r : Bool} → getD xs (x * 6 + 1) 0 ≡ WRITE → b ≡ publishes model WRITE → b ≡ true →
+        r ≡ leb (count rows (rowAt rows x .process) x) (count rows (rowAt rows x .process) y) → r ≡ inOrder rows model x y
+    unfolding inOrder
+    order-own w d q t =
+        let e : refreshAt rows model y ≡ suc y = sym (refresh-own xs n model y (own-refresh model (sym d ∙ q))) in
+        let m : suc y - 1 ≡ y = omega arith in
+        t ∙ sym (rw (kind-at hx, eq-eqb (getD xs (x * 6 + 1) 0) WRITE w, e, lt-ltb 0 (suc y) (omega arith), m, sym d ∙ q))
+
     module _ {refresh : ℕ} (w : getD xs (x * 6 + 1) 0 ≡ WRITE) (e : refresh ≡ refreshAt rows model y) where
       -- A write with no refresh is not in order.
       pub order-none : refresh ≡ 0 → false ≡ inOrder rows model x y
       unfolding inOrder
       order-none z = sym (rw (kind-at hx, eq-eqb (getD xs (x * 6 + 1) 0) WRITE w, sym e ∙ z))
 
-      module _ (l : 0 < refresh) {b : Bool} (d : b ≡ publishes model WRITE) where
-        -- A write that publishes is in order by the counts at the refresh.
-        pub order-own : {r : Bool} → b ≡ true →
-            r ≡ leb (count rows (rowAt rows x .process) x) (count rows (rowAt rows x .process) (refresh - 1)) → r ≡ inOrder rows model x y
-        unfolding inOrder
-        order-own q t = t ∙ sym (rw (kind-at hx, eq-eqb (getD xs (x * 6 + 1) 0) WRITE w, sym e, lt-ltb 0 refresh l, sym d ∙ q))
-
-        -- A write that does not publish is in order where a noted row follows.
-        pub order-noted : {last : ℕ} → b ≡ false → last ≡ lastNoted rows model y (refresh - 1) (rowAt rows x .process) y →
-            ltb (x + 1) last ≡ inOrder rows model x y
-        unfolding inOrder
-        order-noted q t =
-            let one : x + 1 ≡ suc x = omega arith in
-            (λ i. ltb (one i) (t i)) ∙ sym (rw (kind-at hx, eq-eqb (getD xs (x * 6 + 1) 0) WRITE w, sym e, lt-ltb 0 refresh l, sym d ∙ q))
+      -- A write that does not publish is in order where a noted row follows.
+      pub order-noted : {b : Bool} {last : ℕ} → 0 < refresh → b ≡ publishes model WRITE → b ≡ false →
+          last ≡ lastNoted rows model y (refresh - 1) (rowAt rows x .process) y → ltb (x + 1) last ≡ inOrder rows model x y
+      unfolding inOrder
+      order-noted l d q t =
+          let one : x + 1 ≡ suc x = omega arith in
+          (λ i. ltb (one i) (t i)) ∙ sym (rw (kind-at hx, eq-eqb (getD xs (x * 6 + 1) 0) WRITE w, sym e, lt-ltb 0 refresh l, sym d ∙ q))
 
 -- ---- The refresh
 
@@ -154,19 +162,19 @@ refresh-most rows model y = go (refreshes model READ) (last-most y (isRefresh ro
 abbrev notedOf : List Row → ℕ → ℕ → ℕ → ℕ → ℕ → Bool
 notedOf rows model y o p c = eqb (rowAt rows c .process) p && noted rows model y o c
 
--- The slice `last` holds, for each process, its last noted row below c.
+-- Where a write does not publish, the slice `last` holds, for each process, its last noted row below c.
 pub record Noting (rows : List Row) (model y refresh : ℕ) (last : List ℕ) (c : ℕ) : Type 0 where
   pub low : c ≤ y
   pub refreshed : refresh ≡ refreshAt rows model y
   pub many : length last ≡ PROCESSES
-  pub held : 0 < refresh → LastBy (notedOf rows model y (refresh - 1)) PROCESSES last c
+  pub held : 0 < refresh → publishes model WRITE ≡ false → LastBy (notedOf rows model y (refresh - 1)) PROCESSES last c
 
 -- Before the first row, no process has a noted row.
 pub noting-start : (rows : List Row) (model y : ℕ) {refresh : ℕ} → refresh ≡ refreshAt rows model y →
     Noting rows model y refresh (replicate PROCESSES 0) 0
 unfolding lastNoted lastBelow
 noting-start rows model y e =
-    record { low = omega arith; refreshed = e; many = length-replicate {A = ℕ} PROCESSES 0; held = λ l. lasts-none (notedOf rows model y (_ - 1)) PROCESSES }
+    record { low = omega arith; refreshed = e; many = length-replicate {A = ℕ} PROCESSES 0; held = λ l q. lasts-none (notedOf rows model y (_ - 1)) PROCESSES }
 
 module _ {rows : List Row} {model y refresh : ℕ} {last : List ℕ} {c : ℕ} (k : Noting rows model y refresh last c) where
   -- The refresh lies within the rows.
@@ -175,37 +183,58 @@ module _ {rows : List Row} {model y refresh : ℕ} {last : List ℕ} {c : ℕ} (
 
   -- Row c is stored for its process, or is not noted.
   pub noting-next : {after : List ℕ} {b : Bool} {q : ℕ} → c < y → q < PROCESSES → rowAt rows c .process ≡ q →
-      (0 < refresh → b ≡ noted rows model y (refresh - 1) c) →
+      (0 < refresh → publishes model WRITE ≡ false → b ≡ noted rows model y (refresh - 1) c) →
       ((b ≡ true) × (after ≡ set last q (c + 1))) ⊎ ((b ≡ false) × (after ≡ last)) → Noting rows model y refresh after (c + 1)
   noting-next {after} {b} {q} h l e t (inl w) =
       record {
         low = omega arith;
         refreshed = k .refreshed;
         many = ap length (w .1) ∙ length-set last q (c + 1) ∙ k .many;
-        held = λ r. rw (w .1, add-one) (lasts-noted (notedOf rows model y (refresh - 1)) PROCESSES (k .held r) q l
-            (λ p. (λ i. eqb (e i) p && (sym (t r) ∙ w .0) i) ∙ and-true (eqb q p)));
+        held = λ r f. rw (w .1, add-one) (lasts-noted (notedOf rows model y (refresh - 1)) PROCESSES (k .held r f) q l
+            (λ p. (λ i. eqb (e i) p && (sym (t r f) ∙ w .0) i) ∙ and-true (eqb q p)));
       }
   noting-next {after} {b} {q} h l e t (inr w) =
       record {
         low = omega arith;
         refreshed = k .refreshed;
         many = ap length (w .1) ∙ k .many;
-        held = λ r. rw (w .1, add-one) (lasts-kept (notedOf rows model y (refresh - 1)) PROCESSES (k .held r)
-            (λ p. ap (λ (x : Bool). eqb (rowAt rows c .process) p && x) (sym (t r) ∙ w .0) ∙ and-false (eqb (rowAt rows c .process) p)));
+        held = λ r f. rw (w .1, add-one) (lasts-kept (notedOf rows model y (refresh - 1)) PROCESSES (k .held r f)
+            (λ p. ap (λ (x : Bool). eqb (rowAt rows c .process) p && x) (sym (t r f) ∙ w .0) ∙ and-false (eqb (rowAt rows c .process) p)));
       }
 
   -- After all rows below y, the slice holds the last noted row of each process.
-  pub noting-done : {p q : ℕ} → y ≤ c → q < PROCESSES → p ≡ q → 0 < refresh → getD last q 0 ≡ lastNoted rows model y (refresh - 1) p y
+  pub noting-done : {p q : ℕ} → y ≤ c → q < PROCESSES → p ≡ q → 0 < refresh → publishes model WRITE ≡ false →
+      getD last q 0 ≡ lastNoted rows model y (refresh - 1) p y
   unfolding lastNoted
-  noting-done {p} {q} h l e r =
+  noting-done {p} {q} h l e r f =
       let d : c ≡ y = omega (arith, k .low) in
-      k .held r .last-at q l ∙ (λ i. lastNoted rows model y (refresh - 1) (sym e i) (d i))
+      k .held r f .last-at q l ∙ (λ i. lastNoted rows model y (refresh - 1) (sym e i) (d i))
 
 -- ---- The pass over the earlier rows
 
 -- Row x races with row y.
 abbrev pub races : List Row → ℕ → ℕ → ℕ → Bool
 races rows model y x = conflict (rowAt rows x) (rowAt rows y) && not (inOrder rows model x y)
+
+module _ {n P model x y : ℕ} {xs counts : List ℕ} (k : Given n P model xs counts) (h : x < n) (l : y < n) where
+  -- The rows of the trace conflict where those of the slice may and share a byte.
+  split : conflict (rowAt (rowsIn n xs) x) (rowAt (rowsIn n xs) y)
+      ≡ (mayConflict (rowIn xs x) (rowIn xs y) && shareByte (rowIn xs x) (rowIn xs y))
+  split = sym (conflict-in k h l) ∙ conflict-split (rowIn xs x) (rowIn xs y)
+
+  module _ {b : Bool} (e : b ≡ mayConflict (rowIn xs x) (rowIn xs y)) where
+    -- Rows that may not conflict do not race.
+    pub no-race-kind : b ≡ false → false ≡ races (rowsIn n xs) model y x
+    no-race-kind q = sym (rw (split, sym e ∙ q))
+
+    module _ {o : Bool} (t : o ≡ inOrder (rowsIn n xs) model x y) where
+      -- A row that is in order does not race.
+      pub no-race-order : o ≡ true → false ≡ races (rowsIn n xs) model y x
+      no-race-order q = sym (rw (sym t ∙ q) (and-false (conflict (rowAt (rowsIn n xs) x) (rowAt (rowsIn n xs) y))))
+
+      -- Rows that may conflict and are not in order race where they share a byte.
+      pub by-byte : {r : Bool} → b ≡ true → o ≡ false → r ≡ shareByte (rowIn xs x) (rowIn xs y) → r ≡ races (rowsIn n xs) model y x
+      by-byte q u w = w ∙ sym (rw (split, sym e ∙ q, sym t ∙ u) (and-true (shareByte (rowIn xs x) (rowIn xs y))))
 
 -- The rows below x do not race with y.
 pub record Looking (rows : List Row) (model y x : ℕ) : Type 0 where
@@ -255,25 +284,20 @@ module _ {rows : List Row} {model y x : ℕ} (k : Looking rows model y x) where
   unfolding leastFrom
   step h = let e : y - x ≡ suc (y - suc x) = omega arith in k .least ∙ ap (λ (m : ℕ). leastFrom m x (races rows model y)) e
 
-  -- Row x does not conflict with row y, or is in order.
-  module _ {b : Bool} (h : x < y) (e : b ≡ conflict (rowAt rows x) (rowAt rows y)) where
-    pub looking-next : (b ≡ false) ⊎ (inOrder rows model x y ≡ true) → Looking rows model y (x + 1)
-    looking-next w =
-        record {
-          low = omega arith;
-          least =
-              let one : suc x ≡ x + 1 = omega arith in
-              step h ∙ ap (λ (t : Bool). cond t x (leastFrom (y - suc x) (suc x) (races rows model y))) (go w)
-              ∙ ap (λ (s : ℕ). leastFrom (y - s) s (races rows model y)) one;
-        }
-      where
-        go : (b ≡ false) ⊎ (inOrder rows model x y ≡ true) → races rows model y x ≡ false
-        go (inl q) = rw (sym e ∙ q)
-        go (inr q) = rw (q, and-false)
+  -- Row x does not race with row y.
+  pub looking-next : {b : Bool} → x < y → b ≡ races rows model y x → b ≡ false → Looking rows model y (x + 1)
+  looking-next h e q =
+      record {
+        low = omega arith;
+        least =
+            let one : suc x ≡ x + 1 = omega arith in
+            step h ∙ ap (λ (t : Bool). cond t x (leastFrom (y - suc x) (suc x) (races rows model y))) (sym e ∙ q)
+            ∙ ap (λ (s : ℕ). leastFrom (y - s) s (races rows model y)) one;
+      }
 
-    -- Row x is the first that races.
-    pub looking-found : b ≡ true → inOrder rows model x y ≡ false → x + 1 ≡ raceAt rows model y
-    looking-found q t = race-some rows model y (step h ∙ rw (sym e ∙ q, t)) h
+  -- Row x is the first that races.
+  pub looking-found : {b : Bool} → x < y → b ≡ races rows model y x → b ≡ true → x + 1 ≡ raceAt rows model y
+  looking-found h e q = race-some rows model y (step h ∙ rw (sym e ∙ q)) h
 
   -- After all rows below y, no row races.
   pub looking-none : y ≤ x → 0 ≡ raceAt rows model y

@@ -1,10 +1,13 @@
 -- What the search for races relies on.
 use Prim.Native.Nat.{ℕ, _*_, _≤_, _<_}
 use mathlib.Core.Path.{_≡_}
+use mathlib.Core.Bool.{Bool, not, _&&_, _||_}
 use mathlib.Core.List.{List, _++_}
 use lib.ListN.{length}
+use Rattle.rows.specs.declared.Row.{Row}
 use Rattle.rows.specs.Rows.{rowsIn, rowIn}
-use Rattle.happens_before.specs.Order.{countsOf}
+use Rattle.happens_before.specs.Order.{sameProcess, countsOf}
+use Rattle.races_meaning.specs.Races.{isWrite, isData, sameFile}
 use Rattle.rows.specs.Limits.{ROWS, PROCESSES, MODELS, FIELDS}
 
 -- The first n rows stand in a slice with their counts in another, their processes are below the limit, and the model is one.
@@ -16,3 +19,7 @@ pub record Given (n processes model : ℕ) (xs counts : List ℕ) : Type 0 where
   pub below : (k : ℕ) → k < n → rowIn xs k .process < processes
   pub rest : List ℕ
   pub counted : counts ≡ countsOf processes (rowsIn n xs) ++ rest
+
+-- All of a conflict but the shared byte: two data rows that name the same file and are of different processes, one of them a write.
+abbrev pub mayConflict : Row → Row → Bool
+mayConflict r s = isData r && (isData s && (sameFile r s && (not (sameProcess r s) && (isWrite r || isWrite s))))

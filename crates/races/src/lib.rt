@@ -1,19 +1,20 @@
 // Finds the verdict on rows under a model: free, or the first race.
 ghost use mathlib.Core.Path.{_≡_};
-ghost use Prim.Native.Nat.{max, min, _+_, _*_, _-_, _<_, _≤_};
+ghost use Prim.Native.Nat.{_+_, _*_, _-_, _<_, _≤_};
 ghost use lib.ListN.{length};
-ghost use lib.Dec.{leb, ltb, eqb};
-ghost use mathlib.Core.Bool.{_&&_};
-ghost use Rattle.models.specs.Table.{refreshes};
+ghost use lib.Dec.{leb, eqb};
+ghost use mathlib.Core.Bool.{false, not, _&&_};
+ghost use Rattle.models.specs.Table.{publishes, refreshes};
+ghost use Rattle.rows.specs.Kinds.{WRITE};
 ghost use Rattle.rows.specs.Rows.{rowsIn, rowAt, rowIn};
 ghost use Rattle.rows.specs.Questions.{firstNo};
 ghost use Rattle.happens_before.specs.Clock.{cellIn};
 ghost use Rattle.happens_before.specs.Filling.{filledLeft};
-ghost use Rattle.races_meaning.specs.Races.{conflict, verdictOf};
+ghost use Rattle.races_meaning.specs.Races.{shareByte, conflict, verdictOf};
 ghost use Rattle.races_meaning.specs.Search.{refreshAt};
 ghost use Rattle.races_meaning.specs.Scan.{noted, lastNoted, inOrder, raceAt};
 ghost use Rattle.races.specs.Answers.{judgeQuestions, verdictFound, foundOf};
-ghost use Rattle.races.specs.Given.{Given};
+ghost use Rattle.races.specs.Given.{Given, mayConflict};
 use happens_before::Filled;
 use rows::refusal;
 ghost use Rattle.rows.specs.Limits.{PROCESSES, FIELDS};
@@ -62,10 +63,11 @@ fn first_race(rows: &[u32], n: usize, processes: usize, model: u32, counts: &[u1
     Found::Free
 }
 
-// Rows x and y conflict: two data rows of one file and two processes that share a byte, one of them a write.
-fn is_conflict(rows: &[u32], x: usize, y: usize) -> bool
+// Rows x and y conflict if they share a byte: they are data rows of one file and two processes, one of them a write. The kinds of two data rows
+// add up to less than WRITE where both are reads.
+fn may_conflict(rows: &[u32], x: usize, y: usize) -> bool
     requires { ⌜ (x * FIELDS + FIELDS ≤ length (now rows)) × (y * FIELDS + FIELDS ≤ length (now rows)) ⌝ }
-    ensures { λ r. ⌜ r ≡ conflict (rowIn (now (rows .entry)) x) (rowIn (now (rows .entry)) y) ⌝ }
+    ensures { λ r. ⌜ r ≡ mayConflict (rowIn (now (rows .entry)) x) (rowIn (now (rows .entry)) y) ⌝ }
 {
     let a = x * rows::FIELDS;
     let b = y * rows::FIELDS;
@@ -77,45 +79,29 @@ fn is_conflict(rows: &[u32], x: usize, y: usize) -> bool
     if rows::WRITE < second {
         return false;
     }
-    if rows[a + rows::FILE_AT] != rows[b + rows::FILE_AT] {
-        return false;
-    }
-    if !overlap(
-        rows[a + rows::OFFSET_AT],
-        rows[a + rows::LENGTH_AT],
-        rows[b + rows::OFFSET_AT],
-        rows[b + rows::LENGTH_AT],
-    ) {
+    if first + second < rows::WRITE {
         return false;
     }
     if rows[a] == rows[b] {
         return false;
     }
-    if first == rows::WRITE {
-        return true;
-    }
-    second == rows::WRITE
+    rows[a + rows::FILE_AT] == rows[b + rows::FILE_AT]
 }
 
-// Some byte lies in both ranges.
-fn overlap(a: u32, a_len: u32, b: u32, b_len: u32) -> bool
-    ensures { λ r. ⌜ r ≡ ltb (max a b) (min (a + «a_len») (b + «b_len»)) ⌝ }
+// Some byte lies in the ranges of rows x and y.
+fn share_byte(rows: &[u32], x: usize, y: usize) -> bool
+    requires { ⌜ (x * FIELDS + FIELDS ≤ length (now rows)) × (y * FIELDS + FIELDS ≤ length (now rows)) ⌝ }
+    ensures { λ r. ⌜ r ≡ shareByte (rowIn (now (rows .entry)) x) (rowIn (now (rows .entry)) y) ⌝ }
 {
-    let start = larger(a as u64, b as u64);
-    let end = smaller(a as u64 + a_len as u64, b as u64 + b_len as u64);
-    start < end
-}
-
-fn larger(a: u64, b: u64) -> u64
-    ensures { λ r. ⌜ r ≡ max a b ⌝ }
-{
-    if a < b { b } else { a }
-}
-
-fn smaller(a: u64, b: u64) -> u64
-    ensures { λ r. ⌜ r ≡ min a b ⌝ }
-{
-    if a < b { a } else { b }
+    let a = x * rows::FIELDS;
+    let b = y * rows::FIELDS;
+    let shared = ranges::overlap(
+        rows[a + rows::OFFSET_AT],
+        rows[a + rows::LENGTH_AT],
+        rows[b + rows::OFFSET_AT],
+        rows[b + rows::LENGTH_AT],
+    );
+    shared == ranges::YES
 }
 
 // Answers the index of the last row that refreshes for y, plus one; 0 where none does.
@@ -158,13 +144,13 @@ fn refreshes_file(
 ) -> bool
     ensures { λ r. ⌜ r ≡ (refreshes model kind && (eqb file «other_file» && eqb process «other_process»)) ⌝ }
 {
-    if !models::is_refresh(model, kind) {
+    if process != other_process {
         return false;
     }
     if file != other_file {
         return false;
     }
-    process == other_process
+    models::is_refresh(model, kind)
 }
 
 // The count of process p at row i is at most that at row j.
@@ -177,13 +163,15 @@ fn counts_before(counts: &[u16], processes: usize, p: usize, i: usize, j: usize)
     counts[from] <= counts[to]
 }
 
-// A later row y of the first n rows under a model, and the index of the last row that refreshes for y, plus one; 0 where none does.
+// A later row y of the first n rows under a model, the index of the last row that refreshes for y, plus one (0 where none does), and whether
+// a write publishes by itself.
 struct Later {
     n: usize,
     processes: usize,
     model: u32,
     y: usize,
     refresh: usize,
+    own: bool,
 }
 
 // Answers the smallest index of a row that races with y, plus one; 0 where none does.
@@ -203,6 +191,7 @@ fn race_at(rows: &[u32], n: usize, processes: usize, model: u32, counts: &[u16],
         model: model,
         y: y,
         refresh: refresh,
+        own: models::is_publish(model, rows::WRITE),
     };
     let mut last = [0usize; NOTES];
     let mut c = 0;
@@ -216,30 +205,50 @@ fn race_at(rows: &[u32], n: usize, processes: usize, model: u32, counts: &[u16],
     }
     let mut x = 0;
     while x < y {
-        if is_conflict(rows, x, y) {
-            let at = x * rows::FIELDS;
-            let p = rows[at] as usize;
-            let noted = last[p];
-            if !is_in_order(rows, counts, later, x, noted) {
-                return x + 1;
-            }
+        let at = x * rows::FIELDS;
+        let p = rows[at] as usize;
+        if is_race(rows, counts, later, x, last[p]) {
+            return x + 1;
         }
         x += 1;
     }
     0
 }
 
-// Row c publishes the later row's file and happens before the refresh.
+// Row x before the later row races with it; `last` is the index of the last noted row of the process of x, plus one. Bytes are compared last: of
+// two rows that may conflict and are not in order, a shared byte is a race, and ends the search.
+fn is_race(rows: &[u32], counts: &[u16], later: Later, x: usize, last: usize) -> bool
+    requires { ⌜ Given (later .n) (later .processes) (later .model) (now rows) (now counts) ⌝ }
+    requires { ⌜ (later .y < later .n) × (x < later .n) × (later .refresh ≡ refreshAt (rowsIn (later .n) (now rows)) (later .model) (later .y)) × (later .refresh ≤ later .n) × (later .own ≡ publishes (later .model) WRITE) ⌝ }
+    requires { ⌜ (0 < later .refresh → publishes (later .model) WRITE ≡ false → last ≡ lastNoted (rowsIn (later .n) (now rows)) (later .model) (later .y) (later .refresh - 1) (rowAt (rowsIn (later .n) (now rows)) x .process) (later .y)) ⌝ }
+    ensures { λ r. ⌜ r ≡ (conflict (rowAt (rowsIn (later .n) (now (rows .entry))) x) (rowAt (rowsIn (later .n) (now (rows .entry))) (later .y)) && not (inOrder (rowsIn (later .n) (now (rows .entry))) (later .model) x (later .y))) ⌝ }
+{
+    if !may_conflict(rows, x, later.y) {
+        return false;
+    }
+    if is_in_order(rows, counts, later, x, last) {
+        return false;
+    }
+    share_byte(rows, x, later.y)
+}
+
+// Row c publishes the later row's file and happens before the refresh. Where a write publishes by itself, no such row is needed, and none is told.
 fn is_noted(rows: &[u32], counts: &[u16], later: Later, c: usize) -> bool
     requires { ⌜ Given (later .n) (later .processes) (later .model) (now rows) (now counts) ⌝ }
-    requires { ⌜ (later .y < later .n) × (c < later .n) × (later .refresh ≤ later .n) ⌝ }
-    ensures { λ r. ⌜ (0 < later .refresh → r ≡ noted (rowsIn (later .n) (now (rows .entry))) (later .model) (later .y) (later .refresh - 1) c) ⌝ }
+    requires { ⌜ (later .y < later .n) × (c < later .n) × (later .refresh ≤ later .n) × (later .own ≡ publishes (later .model) WRITE) ⌝ }
+    ensures { λ r. ⌜ (0 < later .refresh → publishes (later .model) WRITE ≡ false → r ≡ noted (rowsIn (later .n) (now (rows .entry))) (later .model) (later .y) (later .refresh - 1) c) ⌝ }
 {
     if later.refresh == 0 {
         return false;
     }
+    if later.own {
+        return false;
+    }
     let at = c * rows::FIELDS;
     let to = later.y * rows::FIELDS;
+    if rows[at + rows::KIND_AT] <= rows::WRITE {
+        return false;
+    }
     if !models::is_publish(later.model, rows[at + rows::KIND_AT]) {
         return false;
     }
@@ -258,20 +267,18 @@ fn is_noted(rows: &[u32], counts: &[u16], later: Later, c: usize) -> bool
 // Row x before the later row is properly synchronized; `last` is the index of the last noted row of the process of x, plus one.
 fn is_in_order(rows: &[u32], counts: &[u16], later: Later, x: usize, last: usize) -> bool
     requires { ⌜ Given (later .n) (later .processes) (later .model) (now rows) (now counts) ⌝ }
-    requires { ⌜ (later .y < later .n) × (x < later .n) × (later .refresh ≡ refreshAt (rowsIn (later .n) (now rows)) (later .model) (later .y)) × (later .refresh ≤ later .n) ⌝ }
-    requires { ⌜ (0 < later .refresh → last ≡ lastNoted (rowsIn (later .n) (now rows)) (later .model) (later .y) (later .refresh - 1) (rowAt (rowsIn (later .n) (now rows)) x .process) (later .y)) ⌝ }
+    requires { ⌜ (later .y < later .n) × (x < later .n) × (later .refresh ≡ refreshAt (rowsIn (later .n) (now rows)) (later .model) (later .y)) × (later .refresh ≤ later .n) × (later .own ≡ publishes (later .model) WRITE) ⌝ }
+    requires { ⌜ (0 < later .refresh → publishes (later .model) WRITE ≡ false → last ≡ lastNoted (rowsIn (later .n) (now rows)) (later .model) (later .y) (later .refresh - 1) (rowAt (rowsIn (later .n) (now rows)) x .process) (later .y)) ⌝ }
     ensures { λ r. ⌜ r ≡ inOrder (rowsIn (later .n) (now (rows .entry))) (later .model) x (later .y) ⌝ }
 {
     let at = x * rows::FIELDS;
-    let p = rows[at] as usize;
-    if rows[at + rows::KIND_AT] != rows::WRITE {
-        return counts_before(counts, later.processes, p, x, later.y);
+    if rows[at + rows::KIND_AT] == rows::WRITE {
+        if !later.own {
+            if later.refresh == 0 {
+                return false;
+            }
+            return x + 1 < last;
+        }
     }
-    if later.refresh == 0 {
-        return false;
-    }
-    if models::is_publish(later.model, rows::WRITE) {
-        return counts_before(counts, later.processes, p, x, later.refresh - 1);
-    }
-    x + 1 < last
+    counts_before(counts, later.processes, rows[at] as usize, x, later.y)
 }

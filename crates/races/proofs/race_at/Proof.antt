@@ -1,22 +1,18 @@
 -- `races::race_at` meets its contract.
 use borrow.Author.Needs.{needs}
-use borrow.Author.Tests.{not-true, not-false}
 use native.Mathlib.Omega.{arith}
 use denote.Ref.{now}
 use Prim.Native.Nat.{_-_, _*_, _<_}
 use lib.ListN.{getD}
 use mathlib.Core.Logic.{⊎-elim, inl, inr}
-use mathlib.Core.Path.{sym, _∙_}
 use Rattle.rows.specs.Limits.{PROCESSES}
 use Rattle.rows.specs.Rows.{rowsIn}
-use Rattle.races.proofs.Passes.{process-at, kind-at, process-low, conflict-in, Noting, noting-start, refresh-in, noting-next, noting-done, no-data, Looking, looking-start, looking-next, looking-found, looking-none}
+use Rattle.races.proofs.Passes.{process-at, kind-at, process-low, Noting, noting-start, refresh-in, noting-next, noting-done, no-data, Looking, looking-start, looking-next, looking-found, looking-none}
 use Rattle.races.proofs.race_at.Statement.{statement}
 use Rattle.races.proofs.race_at.Tie as tie
-use Rattle.races.proofs.race_at.Reads as reads
-use Rattle.races.proofs.race_at.Lts as lts
-use Rattle.races.proofs.is_conflict.Reads as is-conflict-reads
-use Rattle.races.proofs.is_in_order.Reads as is-in-order-reads
+use Rattle.models.proofs.is_publish.Reads as is-publish-reads
 use Rattle.races.proofs.is_noted.Reads as is-noted-reads
+use Rattle.races.proofs.is_race.Reads as is-race-reads
 use Rattle.races.proofs.refresh_at.Reads as refresh-at-reads
 
 -- Of the rows below c, `last` holds each process's last noted row.
@@ -57,17 +53,21 @@ refresh-at-requires c κs =
     let given = c .before .before .before .before .pre in
     (given .1, given .0 .rows-in)
 
+is-publish-requires : tie.Need-is-publish-requires Inv-loop μ-loop Inv-loop2 μ-loop2
+is-publish-requires c κs = search needs
+
 loop-holds : tie.Need-loop-holds Inv-loop μ-loop Inv-loop2 μ-loop2
 loop-holds c =
-    let a = c .before .before .before .before .before .args in
-    noting-start (rowsIn (a .n) (now (a .rows))) (a .model) (a .y) (c .refresh-at .ensures)
+    let a = c .before .before .before .before .before .before .args in
+    noting-start (rowsIn (a .n) (now (a .rows))) (a .model) (a .y) (c .before .refresh-at .ensures)
 
 is-noted-requires : tie.Need-is-noted-requires Inv-loop μ-loop Inv-loop2 μ-loop2
 is-noted-requires c κs =
-    let a = c .before .before .before .before .before .before .before .args in
-    let given = c .before .before .before .before .before .before .before .pre in
+    let start = c .before .before .before .before .before .before .before .before in
+    let a = start .args in
+    let given = start .pre in
     let h : c .before .loop .c < a .n = omega (arith, c .loop-test .taken, given .1) in
-    (given .0, (given .1, h, refresh-in (c .before .loop .inv) (given .1)))
+    (given .0, (given .1, h, refresh-in (c .before .loop .inv) (given .1), c .before .before .is-publish .ensures))
 
 mul-at : tie.Need-mul-at Inv-loop μ-loop Inv-loop2 μ-loop2
 mul-at c = search needs
@@ -80,8 +80,9 @@ shared-slice-read-p c = search needs
 
 cast-p : tie.Need-cast-p Inv-loop μ-loop Inv-loop2 μ-loop2
 cast-p c =
-    let a = c .before .before .before .before .before .before .before .before .before .before .args in
-    let given = c .before .before .before .before .before .before .before .before .before .before .pre in
+    let start = c .before .before .before .before .before .before .before .before .before .before .before in
+    let a = start .args in
+    let given = start .pre in
     let noting = c .before .before .before .before .loop in
     let h : noting .c < a .n = omega (arith, c .before .before .before .loop-test .taken, given .1) in
     omega (arith, process-low (given .0) h, given .0 .few-processes)
@@ -91,16 +92,18 @@ add-last c = search needs
 
 mul-last : tie.Need-mul-last Inv-loop μ-loop Inv-loop2 μ-loop2
 mul-last c =
-    let a = c .before .before .before .before .before .before .before .before .before .before .args in
-    let given = c .before .before .before .before .before .before .before .before .before .before .pre in
+    let start = c .before .before .before .before .before .before .before .before .before .before .before in
+    let a = start .args in
+    let given = start .pre in
     let noting = c .before .before .before .before .loop in
     let h : noting .c < a .n = omega (arith, c .before .before .before .loop-test .taken, given .1) in
     omega (arith, process-low (given .0) h, given .0 .few-processes)
 
 array-write-last : tie.Need-array-write-last Inv-loop μ-loop Inv-loop2 μ-loop2
 array-write-last c =
-    let a = c .before .before .before .before .before .before .before .before .before .before .args in
-    let given = c .before .before .before .before .before .before .before .before .before .before .pre in
+    let start = c .before .before .before .before .before .before .before .before .before .before .before in
+    let a = start .args in
+    let given = start .pre in
     let noting = c .before .before .before .before .loop in
     let h : noting .c < a .n = omega (arith, c .before .before .before .loop-test .taken, given .1) in
     omega (arith, process-low (given .0) h, given .0 .few-processes)
@@ -113,8 +116,9 @@ loop-less c = omega (arith, c .before .before .loop-test .taken)
 
 loop-again : tie.Need-loop-again Inv-loop μ-loop Inv-loop2 μ-loop2
 loop-again c =
-    let a = c .before .before .before .before .before .before .before .before .before .args in
-    let given = c .before .before .before .before .before .before .before .before .before .pre in
+    let start = c .before .before .before .before .before .before .before .before .before .before in
+    let a = start .args in
+    let given = start .pre in
     let noting = c .before .before .before .loop in
     let h : noting .c < a .n = omega (arith, c .before .before .loop-test .taken, given .1) in
     let l : getD (now (a .rows)) (noting .c * 6) 0 < PROCESSES = omega (arith, process-low (given .0) h, given .0 .few-processes) in
@@ -123,13 +127,8 @@ loop-again c =
 
 loop2-holds : tie.Need-loop2-holds Inv-loop μ-loop Inv-loop2 μ-loop2
 loop2-holds c =
-    let a = c .before .before .before .before .before .before .before .args in
+    let a = c .before .before .before .before .before .before .before .before .args in
     looking-start (rowsIn (a .n) (now (a .rows))) (a .model) (a .y)
-
-is-conflict-requires : tie.Need-is-conflict-requires Inv-loop μ-loop Inv-loop2 μ-loop2
-is-conflict-requires c κs =
-    let given = c .before .before .before .before .before .before .before .before .before .pre in
-    (omega (arith, given .0 .rows-in, given .1, c .loop2-test .taken), omega (arith, given .0 .rows-in, given .1))
 
 mul-at-2 : tie.Need-mul-at-2 Inv-loop μ-loop Inv-loop2 μ-loop2
 mul-at-2 c = search needs
@@ -142,40 +141,44 @@ shared-slice-read-p-2 c = search needs
 
 cast-p-2 : tie.Need-cast-p-2 Inv-loop μ-loop Inv-loop2 μ-loop2
 cast-p-2 c =
-    let a = c .before .before .before .before .before .before .before .before .before .before .before .before .args in
-    let given = c .before .before .before .before .before .before .before .before .before .before .before .before .pre in
-    let looking = c .before .before .before .before .loop2 in
-    let h : looking .x < a .n = omega (arith, c .before .before .before .loop2-test .taken, given .1) in
+    let start = c .before .before .before .before .before .before .before .before .before .before .before in
+    let a = start .args in
+    let given = start .pre in
+    let looking = c .before .before .loop2 in
+    let h : looking .x < a .n = omega (arith, c .before .loop2-test .taken, given .1) in
     omega (arith, process-low (given .0) h, given .0 .few-processes)
 
-mul-noted : tie.Need-mul-noted Inv-loop μ-loop Inv-loop2 μ-loop2
-mul-noted c =
-    let a = c .before .before .before .before .before .before .before .before .before .before .before .before .args in
-    let given = c .before .before .before .before .before .before .before .before .before .before .before .before .pre in
-    let looking = c .before .before .before .before .loop2 in
-    let h : looking .x < a .n = omega (arith, c .before .before .before .loop2-test .taken, given .1) in
+mul-is-race : tie.Need-mul-is-race Inv-loop μ-loop Inv-loop2 μ-loop2
+mul-is-race c =
+    let start = c .before .before .before .before .before .before .before .before .before .before .before in
+    let a = start .args in
+    let given = start .pre in
+    let looking = c .before .before .loop2 in
+    let h : looking .x < a .n = omega (arith, c .before .loop2-test .taken, given .1) in
     omega (arith, process-low (given .0) h, given .0 .few-processes)
 
-array-read-noted : tie.Need-array-read-noted Inv-loop μ-loop Inv-loop2 μ-loop2
-array-read-noted c =
-    let a = c .before .before .before .before .before .before .before .before .before .before .before .before .args in
-    let given = c .before .before .before .before .before .before .before .before .before .before .before .before .pre in
-    let looking = c .before .before .before .before .loop2 in
-    let h : looking .x < a .n = omega (arith, c .before .before .before .loop2-test .taken, given .1) in
+array-read-is-race : tie.Need-array-read-is-race Inv-loop μ-loop Inv-loop2 μ-loop2
+array-read-is-race c =
+    let start = c .before .before .before .before .before .before .before .before .before .before .before in
+    let a = start .args in
+    let given = start .pre in
+    let looking = c .before .before .loop2 in
+    let h : looking .x < a .n = omega (arith, c .before .loop2-test .taken, given .1) in
     omega (arith, process-low (given .0) h, given .0 .few-processes)
 
-is-in-order-requires : tie.Need-is-in-order-requires Inv-loop μ-loop Inv-loop2 μ-loop2
-is-in-order-requires c κs =
-    let a = c .before .before .before .before .before .before .before .before .before .before .before .before .args in
-    let given = c .before .before .before .before .before .before .before .before .before .before .before .before .pre in
-    let noting = c .before .before .before .before .before .before .loop in
-    let looking = c .before .before .before .before .loop2 in
-    let h : looking .x < a .n = omega (arith, c .before .before .before .loop2-test .taken, given .1) in
+is-race-requires : tie.Need-is-race-requires Inv-loop μ-loop Inv-loop2 μ-loop2
+is-race-requires c κs =
+    let start = c .before .before .before .before .before .before .before .before .before .before .before in
+    let a = start .args in
+    let given = start .pre in
+    let noting = c .before .before .before .before .loop in
+    let looking = c .before .before .loop2 in
+    let h : looking .x < a .n = omega (arith, c .before .loop2-test .taken, given .1) in
     let l : getD (now (a .rows)) (looking .x * 6) 0 < PROCESSES = omega (arith, process-low (given .0) h, given .0 .few-processes) in (
       given .0,
       (
-        (given .1, h, noting .inv .refreshed, refresh-in (noting .inv) (given .1)),
-        λ r. noting-done (noting .inv) (c .before .before .before .before .before .loop-test .left) l (process-at (given .0) h) r,
+        (given .1, h, noting .inv .refreshed, refresh-in (noting .inv) (given .1), c .before .before .before .before .before .is-publish .ensures),
+        λ r q. noting-done (noting .inv) (c .before .before .before .loop-test .left) l (process-at (given .0) h) r q,
       ),
     )
 
@@ -184,29 +187,19 @@ add-result c = search needs
 
 returns-2 : tie.Need-returns-2 Inv-loop μ-loop Inv-loop2 μ-loop2
 returns-2 c =
-    let a = c .before .before .before .before .before .before .before .before .before .before .before .before .before .before .args in
-    let given = c .before .before .before .before .before .before .before .before .before .before .before .before .before .before .pre in
-    let looking = c .before .before .before .before .before .before .loop2 in
-    let h : looking .x < a .n = omega (arith, c .before .before .before .before .before .loop2-test .taken, given .1) in
-    let e = c .before .before .before .before .is-conflict .ensures ∙ conflict-in (given .0) h (given .1) in
-    looking-found (looking .inv) (c .before .before .before .before .before .loop2-test .taken) e (c .before .before .before .if3 .taken)
-    (sym (c .before .is-in-order .ensures) ∙ not-true (c .before .is-in-order .result) (c .if4 .taken))
+    let looking = c .before .before .before .before .loop2 in
+    looking-found (looking .inv) (c .before .before .before .loop2-test .taken) (c .before .is-race .ensures) (c .if3 .taken)
 
 add-x : tie.Need-add-x Inv-loop μ-loop Inv-loop2 μ-loop2
 add-x c = search needs
 
 loop2-less : tie.Need-loop2-less Inv-loop μ-loop Inv-loop2 μ-loop2
-loop2-less c = omega (arith, c .before .before .loop2-test .taken)
+loop2-less c = omega (arith, c .before .before .before .loop2-test .taken)
 
 loop2-again : tie.Need-loop2-again Inv-loop μ-loop Inv-loop2 μ-loop2
 loop2-again c =
-    let a = c .before .before .before .before .before .before .before .before .before .before .before .args in
-    let given = c .before .before .before .before .before .before .before .before .before .before .before .pre in
-    let looking = c .before .before .before .loop2 in
-    let h : looking .x < a .n = omega (arith, c .before .before .loop2-test .taken, given .1) in
-    let e = c .before .is-conflict .ensures ∙ conflict-in (given .0) h (given .1) in
-    looking-next (looking .inv) (c .before .before .loop2-test .taken) e
-    (⊎-elim (λ w. inr (sym (w .2 .ensures) ∙ not-false (w .2 .result) (w .3 .left))) (λ w. inl (w .left)) (c .if3 .came))
+    let looking = c .before .before .before .before .loop2 in
+    looking-next (looking .inv) (c .before .before .before .loop2-test .taken) (c .before .is-race .ensures) (c .if3 .left)
 
 returns-3 : tie.Need-returns-3 Inv-loop μ-loop Inv-loop2 μ-loop2
 returns-3 c =
@@ -227,6 +220,7 @@ race-at-spec =
     shared-slice-read-if1
     returns
     refresh-at-requires
+    is-publish-requires
     loop-holds
     is-noted-requires
     mul-at
@@ -240,14 +234,13 @@ race-at-spec =
     loop-less
     loop-again
     loop2-holds
-    is-conflict-requires
     mul-at-2
     mul-p-2
     shared-slice-read-p-2
     cast-p-2
-    mul-noted
-    array-read-noted
-    is-in-order-requires
+    mul-is-race
+    array-read-is-race
+    is-race-requires
     add-result
     returns-2
     add-x
