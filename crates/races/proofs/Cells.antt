@@ -67,7 +67,7 @@ some-data {k} h = go (ℕ-discrete k READ)
 abbrev told : ℕ → ℕ → ℕ → ℕ → ℕ → ℕ → Bool
 told k l f g p q = ofData k && (ofData l && (eqb f g && (not (eqb p q) && (eqb k WRITE || eqb l WRITE))))
 
--- Two rows conflict where they may and share a byte.
+-- Two rows conflict where they pass all other tests of a conflict and share a byte.
 pub conflict-split : (r s : Row) → conflict r s ≡ (mayConflict r s && shareByte r s)
 unfolding conflict
 conflict-split r s = go (isData r) (isData s) (sameFile r s) (shareByte r s) (not (sameProcess r s) && (isWrite r || isWrite s))
@@ -98,7 +98,7 @@ module _ (xs : List ℕ) (x y : ℕ) where
   abbrev q : ℕ
   q = getD xs (y * 6) 0
 
-  -- Rows x and y may conflict where their numbers say so.
+  -- Rows x and y conflict if they share a byte, where their numbers say so.
   cells : mayConflict (rowIn xs x) (rowIn xs y) ≡ told k l f g p q
   cells i = told (kind-in xs x i) (kind-in xs y i) (file-in xs x i) (file-in xs y i) (process-in xs x i) (process-in xs y i)
 

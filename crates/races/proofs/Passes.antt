@@ -217,13 +217,13 @@ abbrev pub races : List Row → ℕ → ℕ → ℕ → Bool
 races rows model y x = conflict (rowAt rows x) (rowAt rows y) && not (inOrder rows model x y)
 
 module _ {n P model x y : ℕ} {xs counts : List ℕ} (k : Given n P model xs counts) (h : x < n) (l : y < n) where
-  -- The rows of the trace conflict where those of the slice may and share a byte.
+  -- The rows of the trace conflict where those of the slice pass all other tests and share a byte.
   split : conflict (rowAt (rowsIn n xs) x) (rowAt (rowsIn n xs) y)
       ≡ (mayConflict (rowIn xs x) (rowIn xs y) && shareByte (rowIn xs x) (rowIn xs y))
   split = sym (conflict-in k h l) ∙ conflict-split (rowIn xs x) (rowIn xs y)
 
   module _ {b : Bool} (e : b ≡ mayConflict (rowIn xs x) (rowIn xs y)) where
-    -- Rows that may not conflict do not race.
+    -- Rows that do not conflict, whatever their bytes, do not race.
     pub no-race-kind : b ≡ false → false ≡ races (rowsIn n xs) model y x
     no-race-kind q = sym (rw (split, sym e ∙ q))
 
@@ -232,7 +232,7 @@ module _ {n P model x y : ℕ} {xs counts : List ℕ} (k : Given n P model xs co
       pub no-race-order : o ≡ true → false ≡ races (rowsIn n xs) model y x
       no-race-order q = sym (rw (sym t ∙ q) (and-false (conflict (rowAt (rowsIn n xs) x) (rowAt (rowsIn n xs) y))))
 
-      -- Rows that may conflict and are not in order race where they share a byte.
+      -- Rows that conflict if they share a byte, and are not in order, race where they share one.
       pub by-byte : {r : Bool} → b ≡ true → o ≡ false → r ≡ shareByte (rowIn xs x) (rowIn xs y) → r ≡ races (rowsIn n xs) model y x
       by-byte q u w = w ∙ sym (rw (split, sym e ∙ q, sym t ∙ u) (and-true (shareByte (rowIn xs x) (rowIn xs y))))
 
