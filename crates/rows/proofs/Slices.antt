@@ -3,9 +3,9 @@ use Prim.Native.Nat.{ℕ, zero, suc, _+_, _*_, _/_, _≤_, _<_}
 use native.Mathlib.Numerals.{add-one, add-two, add-three, add-four, add-five}
 use native.Mathlib.Omega.{arith}
 use mathlib.Core.Path.{_≡_, refl, sym, ap, _∙_}
-use mathlib.Core.List.{List, [], _∷_, _++_, append-assoc}
+use mathlib.Core.List.{List, [], _∷_, _++_, append-assoc, append-nil}
 use lib.ListN.{length, getD, take, drop, set, length-drop, drop-of-length-le}
-use lib.Seq.{take-add, drop-drop, sets-eq, getD-drop}
+use lib.Seq.{take-add, take-at, drop-drop, drop-append-add, sets-eq, getD-drop}
 use borrow.Author.Tests.{le-leb, lt-leb}
 use Rattle.rows.specs.declared.Row.{Row}
 use Rattle.rows.specs.Limits.{FIELDS}
@@ -130,3 +130,26 @@ module _ (k : ℕ) (r : Row) (xs : List ℕ) where
   pub with-room : k * 6 + 6 ≤ length xs → withRow k r xs ≡ take (k * 6) xs ++ (six r ++ drop (k * 6 + 6) xs)
   unfolding withRow
   with-room h = rw (le-leb (k * 6 + 6) (length xs) h)
+
+-- A slice that holds some numbers at its front holds one block more once the block, of w numbers, is put behind them; the rest stays.
+pub block-next : (front block : List ℕ) (w : ℕ) {at : ℕ} {xs ys : List ℕ} (xs₀ : List ℕ) → length front ≡ at → xs ≡ front ++ drop at xs₀ →
+    ys ≡ take at xs ++ (block ++ drop (at + w) xs) → ys ≡ (front ++ block) ++ drop (at + w) xs₀
+block-next front block w {at} {xs} xs₀ size held e =
+    let q = drop at xs₀ in
+    let here : take at xs ≡ front = ap (take at) held ∙ take-at front q at size in
+    let more : at + w ≡ length front + w = ap (λ (k : ℕ). k + w) (sym size) in
+    let behind : drop (at + w) xs ≡ drop (at + w) xs₀ = (λ i. drop (more i) (held i)) ∙ drop-append-add front q w ∙ drop-drop w at xs₀ in
+    e ∙ (λ i. here i ++ (block ++ behind i)) ∙ sym (append-assoc front block (drop (at + w) xs₀))
+
+-- A slice that holds the numbers of n rows at its front holds those of one row more once the row is put behind them; the rest stays.
+pub numbers-next : (rows : List Row) (row : Row) {n : ℕ} {xs ys : List ℕ} (xs₀ : List ℕ) → n ≡ length rows → xs ≡ numbers rows ++ drop (6 * n) xs₀ →
+    ys ≡ take (n * 6) xs ++ (six row ++ drop (n * 6 + 6) xs) → ys ≡ numbers (rows ++ (row ∷ [])) ++ drop (6 * (n + 1)) xs₀
+unfolding numbers
+numbers-next rows row {n} xs₀ many held e =
+    let p = numbers rows in
+    let size : length p ≡ n * 6 = length-numbers rows ∙ omega arith in
+    let same : 6 * n ≡ n * 6 = omega arith in
+    let on : n * 6 + 6 ≡ 6 * (n + 1) = omega arith in
+    let all : p ++ six row ≡ numbers (rows ++ (row ∷ [])) =
+    ap (λ (l : List ℕ). p ++ l) (sym (append-nil (six row))) ∙ sym (numbers-append rows (row ∷ [])) in
+    block-next p (six row) 6 xs₀ size (held ∙ ap (λ (k : ℕ). p ++ drop k xs₀) same) e ∙ (λ i. all i ++ drop (on i) xs₀)
