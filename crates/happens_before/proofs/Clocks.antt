@@ -97,7 +97,7 @@ edge-first {e} f i k j a u = or-right (eqb i j) _ (hb-iff f i j .1 (go (or-out (
 -- ---- The edges of a trace
 
 -- An edge leads forward, into the trace, within a process or along a message.
-edge-out : (rows : List Row) (i j : ℕ) → edge rows i j ≡ true →
+pub edge-out : (rows : List Row) (i j : ℕ) → edge rows i j ≡ true →
     (i < j) × (j < length rows) × ((rowAt rows i .process ≡ rowAt rows j .process) ⊎ (delivers (rowAt rows i) (rowAt rows j) ≡ true))
 unfolding edge
 edge-out rows i j e =

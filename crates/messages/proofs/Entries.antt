@@ -47,7 +47,7 @@ pub record Told (entry m : ℕ) (rows : List Row) : Type 0 where
   pub other-told : (p : ℕ) → p < PROCESSES → isSent entry && not (eqb (senderIn entry) p) ≡ sentByOther p m rows
 
 -- Some row passes, or the last one does.
-any-last : (test : Row → Bool) (rows : List Row) (r : Row) → any test (rows ++ (r ∷ [])) ≡ (any test rows || test r)
+pub any-last : (test : Row → Bool) (rows : List Row) (r : Row) → any test (rows ++ (r ∷ [])) ≡ (any test rows || test r)
 unfolding any
 any-last test [] r = or-false (test r)
 any-last test (x ∷ rows) r = ap (λ (b : Bool). test x || b) (any-last test rows r) ∙ sym (or-assoc (test x) (any test rows) (test r))

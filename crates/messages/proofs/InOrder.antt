@@ -34,7 +34,7 @@ pub record InOrder (rows : List Row) (n : ℕ) (r : Row) : Type 0 where
 -- ---- The rows that pass a test
 
 -- Where some row passes, one of them.
-some-out : (test : Row → Bool) (rows : List Row) → any test rows ≡ true → (k : ℕ) × (k < length rows) × (test (rowAt rows k) ≡ true)
+pub some-out : (test : Row → Bool) (rows : List Row) → any test rows ≡ true → (k : ℕ) × (k < length rows) × (test (rowAt rows k) ≡ true)
 unfolding any
 some-out test [] e = absurd (false≢true e)
 some-out test (r ∷ rs) e = go (or-out (test r) (any test rs) e) (some-out test rs)
@@ -45,14 +45,14 @@ some-out test (r ∷ rs) e = go (or-out (test r) (any test rs) e) (some-out test
     go (inr q) rest = let t = rest q in (suc (t .0), omega (arith, t .1), t .2)
 
 -- Where one passes, some row does.
-some-in : (test : Row → Bool) (rows : List Row) (k : ℕ) → k < length rows → test (rowAt rows k) ≡ true → any test rows ≡ true
+pub some-in : (test : Row → Bool) (rows : List Row) (k : ℕ) → k < length rows → test (rowAt rows k) ≡ true → any test rows ≡ true
 unfolding any
 some-in test [] k h e = absurd (omega arith)
 some-in test (r ∷ rs) zero h e = rw e
 some-in test (r ∷ rs) (suc k) h e = or-right (test r) (any test rs) (some-in test rs k (omega arith) e)
 
 -- A row of a kind with a message.
-carries-iff : (kind message : ℕ) (r : Row) → (carries kind message r ≡ true) ↔ ((r .kind ≡ kind) × (r .message ≡ message))
+pub carries-iff : (kind message : ℕ) (r : Row) → (carries kind message r ≡ true) ↔ ((r .kind ≡ kind) × (r .message ≡ message))
 carries-iff kind message r = (
   λ e. let a = and-out (eqb (r .kind) kind) (eqb (r .message) message) e in (eqb-true _ _ (a .0), eqb-true _ _ (a .1)),
   λ (k, m). rw (eq-eqb (r .kind) kind k, eq-eqb (r .message) message m),

@@ -31,6 +31,13 @@ pub fn put(table: &mut [u16; ENTRIES], row: Row) -> u32
     0
 }
 
+// Whether a row put to the table has sent the row's message.
+pub fn is_row_sent(table: &[u16; ENTRIES], row: Row) -> bool
+    ensures { λ r. ⌜ r ≡ isSent (entryFor (now (table .entry)) row) ⌝ }
+{
+    is_sent(entry_for(table, row))
+}
+
 // Answers the entry of the row's message. A message past the table has none, and 0 stands for it.
 fn entry_for(table: &[u16], row: Row) -> u16
     ensures { λ r. ⌜ r ≡ entryFor (now (table .entry)) row ⌝ }
