@@ -3,7 +3,7 @@ use Prim.Native.Nat.{ℕ, suc, _*_, _≤_, _<_}
 use native.Mathlib.Omega.{arith}
 use mathlib.Core.Path.{_≡_, refl, sym, ap, _∙_}
 use mathlib.Core.Bool.{Bool, true, false, cond, _&&_, and-true}
-use mathlib.Core.List.{List, [], _++_, map}
+use mathlib.Core.List.{List, [], map}
 use lib.ListN.{length, getD, drop, drop-of-length-le}
 use lib.Seq.{drop-cons}
 use lib.Dec.{leb, eqb}
@@ -18,7 +18,7 @@ use Rattle.trace_numbers.specs.declared.ReadRow.the-variants.{Kept, No}
 use Rattle.trace.specs.Rows.{headerNames, sameFields, rowOf}
 use Rattle.trace.specs.Questions.{inLimits, callQuestions, fieldQuestions, recordQuestions}
 use Rattle.messages.specs.Table.{tableQuestions, tableAfter}
-use Rattle.rows.specs.Questions.{firstNo}
+use Rattle.rows.specs.Questions.{Question, firstNo}
 use Rattle.rows.proofs.Asking.{From, first-no, rest-decides}
 use Rattle.trace.specs.Reads.{fieldsOf, judgedBy, judgedFields, judgedRow, tableLeft, headed}
 
@@ -131,12 +131,12 @@ module _ {text : List ℕ} {count : ℕ} {spans : List Span} {k : ℕ} (n : Name
       let g′ : length headerNames ≤ suc k = omega arith in
       sym (next ∙ rw (drop-of-length-le spans g, drop-of-length-le headerNames g′) (and-true b))
 
--- ---- The questions 6 to 12
+-- ---- The questions 6 to 11
 
--- the questions 8 to 11 have numbers
-pub numbered : (processLimit : ℕ) (fields : List (List ℕ)) → From 1 (fieldQuestions processLimit fields)
-unfolding fieldQuestions
-numbered processLimit fields = (omega arith, (omega arith, (omega arith, (omega arith, tt))))
+-- the questions 6 to 11 have numbers
+pub numbered : (rowLimit processLimit n count : ℕ) (fields : List (List ℕ)) → From 1 (recordQuestions rowLimit processLimit n count fields)
+unfolding recordQuestions fieldQuestions
+numbered rowLimit processLimit n count fields = (omega arith, (omega arith, (omega arith, (omega arith, (omega arith, (omega arith, tt))))))
 
 -- What an answer tells of the first No.
 module _ (first : ℕ) (fields : List (List ℕ)) where
@@ -156,7 +156,30 @@ module _ (first : ℕ) (fields : List (List ℕ)) where
       go true q e = (eqb-true first 0 q, cc)
       go false q e = let z : _≡_ {A = ℕ} 0 1 = cc in absurd (omega arith)
 
-module _ (rowLimit processLimit n : ℕ) (table : List ℕ) (count : ℕ) (fields : List (List ℕ)) where
+-- The answer to the questions 6 to 11 of a record.
+abbrev pub recordAnswer : ℕ → ℕ → ℕ → ℕ → List (List ℕ) → ReadRow
+recordAnswer rowLimit processLimit n count fields = judgedBy (firstNo (recordQuestions rowLimit processLimit n count fields)) fields
+
+module _ (rowLimit processLimit n count : ℕ) (fields : List (List ℕ)) where
+  -- 6 has No
+  pub row-over : rowLimit ≤ n → No 6 ≡ recordAnswer rowLimit processLimit n count fields
+  unfolding recordQuestions firstNo
+  row-over h = rw (le-ltb n rowLimit h)
+
+  -- 7 has No
+  pub other-count : n < rowLimit → (count ≡ 6 → ⊥) → No 7 ≡ recordAnswer rowLimit processLimit n count fields
+  unfolding recordQuestions firstNo
+  other-count h s = rw (lt-ltb n rowLimit h, ne-eqb count 6 s)
+
+  -- 6 and 7 have Yes, and 8 to 11 decide
+  pub fields-decide : n < rowLimit → count ≡ 6 → {j : ReadRow} → j ≡ judgedFields processLimit fields → j ≡ recordAnswer rowLimit processLimit n count fields
+  unfolding recordQuestions firstNo judgedFields
+  fields-decide h s e = e ∙ rw (lt-ltb n rowLimit h, eq-eqb count 6 s)
+
+-- ---- The questions 6 to 12
+
+module _ (rowLimit processLimit n : ℕ) (table : List ℕ) (count : ℕ) (fields : List (List ℕ)) {j : ReadRow}
+    (e : j ≡ recordAnswer rowLimit processLimit n count fields) where
   -- the answer to a row's record
   abbrev whole : ReadRow
   whole = judgedRow rowLimit processLimit n table count fields
@@ -165,65 +188,42 @@ module _ (rowLimit processLimit n : ℕ) (table : List ℕ) (count : ℕ) (field
   abbrev left : List ℕ
   left = tableLeft rowLimit processLimit n table count fields
 
-  -- 6 has No
-  pub row-over : rowLimit ≤ n → (No 6 ≡ whole) × (table ≡ left)
-  unfolding judgedRow tableLeft recordQuestions firstNo
-  row-over h = (rw (le-ltb n rowLimit h), rw (le-ltb n rowLimit h))
+  -- the questions 6 to 11
+  abbrev asked : List Question
+  asked = recordQuestions rowLimit processLimit n count fields
 
-  module _ (h : n < rowLimit) where
-    -- 7 has No
-    pub other-count : (count ≡ 6 → ⊥) → (No 7 ≡ whole) × (table ≡ left)
-    unfolding judgedRow tableLeft recordQuestions firstNo
-    other-count s = (rw (lt-ltb n rowLimit h, ne-eqb count 6 s), rw (lt-ltb n rowLimit h, ne-eqb count 6 s))
+  -- one of 6 to 11 has No
+  pub record-no : {k : ℕ} → j ≡ No k → (No k ≡ whole) × (table ≡ left)
+  unfolding judgedRow tableLeft
+  record-no q =
+      let o = no-of (firstNo asked) fields (sym e ∙ q) .1 in
+      let g = first-no asked (tableQuestions table (rowOf fields)) o in
+      (sym (ap (λ (x : ℕ). judgedBy x fields) g ∙ (sym e ∙ q)), rw (ne-eqb (firstNo asked) 0 o))
 
-    module _ (s : count ≡ 6) {j : ReadRow} (e : j ≡ judgedFields processLimit fields) where
-      -- 6 and 7 have Yes, and the others decide
-      inner : whole ≡ judgedBy (firstNo (fieldQuestions processLimit fields ++ tableQuestions table (rowOf fields))) fields
-      unfolding judgedRow recordQuestions firstNo
-      inner = rw (lt-ltb n rowLimit h, eq-eqb count 6 s)
+  -- 6 to 11 have Yes
+  module _ {row : Row} (q : j ≡ Kept row) {no : ℕ} {after : List ℕ}
+      (m : (no ≡ firstNo (tableQuestions table row)) × (after ≡ tableAfter table row)) where
+    -- the record's row
+    told : (firstNo asked ≡ 0) × (row ≡ rowOf fields)
+    told = kept-of (firstNo asked) fields (sym e ∙ q)
 
-      -- 6 and 7 have Yes, and 8 to 11 decide whether the row is put to the table
-      inner-left : left ≡ cond (eqb (firstNo (fieldQuestions processLimit fields)) 0) (tableAfter table (rowOf fields)) table
-      unfolding tableLeft recordQuestions firstNo
-      inner-left = rw (lt-ltb n rowLimit h, eq-eqb count 6 s)
+    -- the questions of its message decide
+    final : whole ≡ judgedBy no fields
+    unfolding judgedRow
+    final =
+        ap (λ (x : ℕ). judgedBy x fields)
+        (rest-decides asked (tableQuestions table (rowOf fields)) (numbered rowLimit processLimit n count fields) (told .0)
+        ∙ sym (m .0 ∙ ap (λ (r : Row). firstNo (tableQuestions table r)) (told .1)))
 
-      -- one of 8 to 11 has No
-      pub fields-no : {k : ℕ} → j ≡ No k → (No k ≡ whole) × (table ≡ left)
-      unfolding judgedFields
-      fields-no q =
-          let f = firstNo (fieldQuestions processLimit fields) in
-          let o = no-of f fields (sym e ∙ q) .1 in
-          let g = first-no (fieldQuestions processLimit fields) (tableQuestions table (rowOf fields)) o in (
-            sym (inner ∙ ap (λ (x : ℕ). judgedBy x fields) g ∙ (sym e ∙ q)),
-            sym (inner-left ∙ rw (ne-eqb f 0 o)),
-          )
+    -- the row was put to the table
+    final-left : after ≡ left
+    unfolding tableLeft
+    final-left = m .1 ∙ ap (tableAfter table) (told .1) ∙ rw (eq-eqb (firstNo asked) 0 (told .0))
 
-      -- 8 to 11 have Yes
-      module _ {row : Row} (q : j ≡ Kept row) {no : ℕ} {after : List ℕ}
-          (m : (no ≡ firstNo (tableQuestions table row)) × (after ≡ tableAfter table row)) where
-        -- the record's row
-        told : (firstNo (fieldQuestions processLimit fields) ≡ 0) × (row ≡ rowOf fields)
-        unfolding judgedFields
-        told = kept-of (firstNo (fieldQuestions processLimit fields)) fields (sym e ∙ q)
+    -- one of them has No
+    pub order-no : (no ≡ 0 → ⊥) → (No no ≡ whole) × (after ≡ left)
+    order-no x = (sym (final ∙ rw (ne-eqb no 0 x)), final-left)
 
-        -- the questions of its message decide
-        final : whole ≡ judgedBy no fields
-        final =
-            inner
-            ∙ ap (λ (x : ℕ). judgedBy x fields)
-            (rest-decides (fieldQuestions processLimit fields) (tableQuestions table (rowOf fields)) (numbered processLimit fields) (told .0)
-            ∙ sym (m .0 ∙ ap (λ (r : Row). firstNo (tableQuestions table r)) (told .1)))
-
-        -- the row was put to the table
-        final-left : after ≡ left
-        final-left =
-            m .1 ∙ ap (tableAfter table) (told .1)
-            ∙ sym (inner-left ∙ rw (eq-eqb (firstNo (fieldQuestions processLimit fields)) 0 (told .0)))
-
-        -- one of them has No
-        pub order-no : (no ≡ 0 → ⊥) → (No no ≡ whole) × (after ≡ left)
-        order-no x = (sym (final ∙ rw (ne-eqb no 0 x)), final-left)
-
-        -- all have Yes
-        pub order-yes : no ≡ 0 → (Kept row ≡ whole) × (after ≡ left)
-        order-yes x = (ap Kept (told .1) ∙ sym (final ∙ rw (eq-eqb no 0 x)), final-left)
+    -- all have Yes
+    pub order-yes : no ≡ 0 → (Kept row ≡ whole) × (after ≡ left)
+    order-yes x = (ap Kept (told .1) ∙ sym (final ∙ rw (eq-eqb no 0 x)), final-left)

@@ -1,11 +1,11 @@
 -- Laws of reading a trace that other crates cite.
-use Prim.Native.Nat.{ℕ, zero, suc, _+_, _*_, _-_, _≤_, _<_}
+use Prim.Native.Nat.{ℕ, _+_, _*_, _≤_, _<_}
 use native.Mathlib.Omega.{arith}
-use mathlib.Core.Path.{_≡_, refl, sym, ap, subst, _∙_}
-use mathlib.Core.Bool.{Bool, true, false, cond, _&&_, false≢true}
+use mathlib.Core.Path.{_≡_, refl, sym, subst, _∙_}
+use mathlib.Core.Bool.{Bool, true, false, cond, false≢true}
 use mathlib.Core.List.{List, [], _∷_, _++_, map, append-nil}
-use lib.ListN.{length, take, drop, replicate, length-append, length-drop}
-use lib.Seq.{take-add, append-snoc}
+use lib.ListN.{length, length-append}
+use lib.Seq.{append-snoc}
 use lib.Dec.{ltb, eqb}
 use borrow.Author.Tests.{leb-true, ltb-true, eqb-true, eqb-false}
 use Rattle.csv.specs.Reading.{Records, records, Ending, all-read, at-malformed, at-limit}
@@ -13,12 +13,10 @@ use Rattle.rows.specs.Limits.{PROCESSES, ROWS, FILES, MESSAGES, OFFSET-MAX}
 use Rattle.rows.specs.declared.Row.{Row}
 use Rattle.trace.specs.Rows.{kindOf, usedBy, isPlain, value, valueFrom, isNumber, field, rowOf}
 use Rattle.rows.specs.Kinds.{KINDS}
-use Rattle.rows.specs.Rows.{numbers, six, rowHere, rowsIn}
-use Rattle.trace.specs.Questions.{callQuestions, isHeader, kindKnown, asUsed, filledAsUsed, numberIf, OFFSETS, numbersInRange, endInRange, messageQuestions, fieldQuestions, recordQuestions, rowQuestions, Outcome, refused, accepted, judgeRows, judgeHeader, readTrace, checkTrace, rowsLeft}
-use Rattle.rows.specs.Questions.{Question, firstNo}
+use Rattle.trace.specs.Questions.{callQuestions, isHeader, kindKnown, asUsed, filledAsUsed, numberIf, OFFSETS, numbersInRange, endInRange, messageQuestions, fieldQuestions, recordQuestions, rowQuestions, Outcome, refused, accepted, judgeRows, judgeHeader, readTrace, checkTrace}
+use Rattle.rows.specs.Questions.{firstNo}
 use Rattle.rows.proofs.Bools.{and-out}
 use Rattle.rows.proofs.Asking.{no-from, all-yes, none-appended}
-use Rattle.rows.proofs.Slices.{rows-back}
 
 -- the number of a field that is not used is 0
 abbrev pub Unless : Bool → ℕ → Type 0
@@ -275,9 +273,3 @@ accepted-passed text header model R P limit a b rows e = go (eqb first 0) refl e
         Legal header model R P a b × (readTrace header R P (records text limit) ≡ accepted rows)
     go true q e = (legal header model R P a b (eqb-true first 0 q), e)
     go false q e = let z : _≡_ {A = ℕ} 0 1 = cc in absurd (omega arith)
-
--- ---- Rows and their numbers
-
--- the slice that the call leaves holds the rows of an accepted trace
-pub rows-left-back : (rows : List Row) (xs : List ℕ) → rowsIn (length rows) (rowsLeft (accepted rows) xs) ≡ rows
-rows-left-back rows xs = rows-back rows (replicate (length xs - 6 * length rows) 0)

@@ -1,5 +1,6 @@
 pub mod Laws
 pub mod Asking
+pub mod Turns
 pub mod Going
 pub mod Whole
 pub mod Accepting

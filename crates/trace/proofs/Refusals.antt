@@ -17,12 +17,12 @@ use Rattle.trace.proofs.Laws.{legal}
 use Rattle.rows.proofs.Asking.{all-yes, no-from}
 
 -- no question has a number past m
-abbrev UpTo : ℕ → List Question → Type 0
+abbrev pub UpTo : ℕ → List Question → Type 0
 UpTo m [] = Unit {0}
 UpTo m (q ∷ qs) = (q .number ≤ m) × UpTo m qs
 
 -- the first No has no number past m
-no-most : (m : ℕ) (qs : List Question) → UpTo m qs → firstNo qs ≤ m
+pub no-most : (m : ℕ) (qs : List Question) → UpTo m qs → firstNo qs ≤ m
 unfolding firstNo
 no-most m [] u = omega arith
 no-most m (q ∷ qs) u = go (q .yes) (no-most m qs (u .1))

@@ -1,5 +1,5 @@
--- The contracts of private functions: what the parts of the reading answer, put together from the questions. specs/Questions.antt says what
--- the whole call answers; the crate `trace_fields` defines what the fields of one record answer.
+-- The contracts of the parts of the reading: what each answers, put together from the questions. specs/Questions.antt says what the whole
+-- call answers; the crate `trace_fields` defines what the fields of one record answer.
 use Prim.Native.Nat.{ℕ, suc}
 use mathlib.Core.Bool.{Bool, cond, _&&_}
 use mathlib.Core.List.{List, [], _++_}

@@ -5,12 +5,13 @@ ghost use mathlib.Core.Path.{_≡_};
 ghost use Prim.Native.Nat.{_≤_, _*_};
 ghost use lib.ListN.{length, replicate};
 ghost use Rattle.csv.specs.Reading.{records};
-ghost use Rattle.trace.specs.Questions.{callQuestions, readTrace, checkTrace, checkedOf, Holds, Leaves};
+ghost use Rattle.trace.specs.Questions.{callQuestions, recordQuestions, readTrace, checkTrace, checkedOf, Holds, Leaves};
 ghost use Rattle.rows.specs.Questions.{firstNo};
-ghost use Rattle.trace.specs.Reads.{fieldsOf, headed};
+ghost use Rattle.trace.specs.Reads.{fieldsOf, headed, judgedBy};
 use csv::Status;
 use csv_field::Span;
 use rows::refusal;
+use trace_numbers::ReadRow;
 ghost use Rattle.rows.specs.Limits.{ROWS, PROCESSES};
 
 // The numbers of a call: the header word, the model, and the limits of rows, processes and bytes.
@@ -68,7 +69,7 @@ pub fn check_trace(text: &[u8], call: Call, rows: &mut [u32], counts: &mut [u16]
 }
 
 // Puts the questions 1 to 3 to a call: answers the number of the first No, and 0 where there is none.
-fn ask_call(
+pub fn ask_call(
     header: u32,
     model: u32,
     row_limit: u32,
@@ -137,8 +138,8 @@ fn read_trace(
     }
 }
 
-// Whether the record has the six names of the header in order.
-fn is_header(text: &[u8], count: usize, spans: [Span; 6]) -> bool
+// Whether the record has the six names of the header in order: question 5.
+pub fn is_header(text: &[u8], count: usize, spans: [Span; 6]) -> bool
     ensures { λ r. ⌜ r ≡ headed count (fieldsOf (now (text .entry)) spans) ⌝ }
 {
     if count != rows::FIELDS {
@@ -160,4 +161,24 @@ fn is_header(text: &[u8], count: usize, spans: [Span; 6]) -> bool
         return false;
     }
     csv_content::is_word(text, spans[rows::MESSAGE_AT], b"message")
+}
+
+// Puts the questions 6 to 11 to a record behind n rows: answers its row, or the number of the first No.
+pub fn judge_record(
+    text: &[u8],
+    count: usize,
+    spans: [Span; 6],
+    n: usize,
+    row_limit: u32,
+    process_limit: u32,
+) -> ReadRow
+    ensures { λ r. ⌜ r ≡ judgedBy (firstNo (recordQuestions «row_limit» «process_limit» n count (fieldsOf (now (text .entry)) spans))) (fieldsOf (now (text .entry)) spans) ⌝ }
+{
+    if row_limit as usize <= n {
+        return ReadRow::No(refusal::ROW_LIMIT);
+    }
+    if count == rows::FIELDS {
+        return trace_fields::judge_fields(text, spans, process_limit);
+    }
+    ReadRow::No(refusal::SIX_FIELDS)
 }

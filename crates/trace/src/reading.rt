@@ -5,6 +5,7 @@ ghost use lib.ListN.{length};
 ghost use Rattle.trace.specs.Questions.{checkedOf, Holds};
 ghost use Rattle.trace.specs.Reads.{fieldsOf, judgedRow, tableLeft, judgeFrom};
 use crate::Checked;
+use crate::judge_record;
 use csv::Status;
 use csv_field::Span;
 use rows::refusal;
@@ -24,13 +25,7 @@ fn judge_row(
     ensures answer { λ r. ⌜ r ≡ judgedRow «row_limit» «process_limit» n (now (table .entry)) count (fieldsOf (now (text .entry)) spans) ⌝ }
     ensures left { λ r. ⌜ now (table .exit) ≡ tableLeft «row_limit» «process_limit» n (now (table .entry)) count (fieldsOf (now (text .entry)) spans) ⌝ }
 {
-    if row_limit as usize <= n {
-        return ReadRow::No(refusal::ROW_LIMIT);
-    }
-    if count != rows::FIELDS {
-        return ReadRow::No(refusal::SIX_FIELDS);
-    }
-    match trace_fields::judge_fields(text, spans, process_limit) {
+    match judge_record(text, count, spans, n, row_limit, process_limit) {
         ReadRow::No(k) => ReadRow::No(k),
         ReadRow::Kept(row) => {
             let no = messages::put(table, row);

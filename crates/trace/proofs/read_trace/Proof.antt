@@ -1,15 +1,12 @@
 -- `trace::read_trace` meets its contract.
 use borrow.Author.Needs.{needs}
-use Rattle.trace.proofs.Whole.{no-header, header-missing, header-malformed, header-over, header-record, headed-same}
-use Rattle.trace.proofs.Going.{refusal}
-use Rattle.trace.specs.Reads.{fieldsOf, headed, judgeFrom}
+use Rattle.trace.proofs.Whole.{heads-trace, no-header, header-read}
+use Rattle.trace.proofs.Turns.{header-missing, header-malformed, header-over, refusal}
 use Rattle.trace.specs.Questions.{checkedOf}
 use Rattle.csv.proofs.Answers.{tells}
-use Rattle.csv_field.specs.declared.Span.{Span}
 use Rattle.csv.specs.Reading.{readAt}
 use denote.Ref.{now}
 use borrow.Author.Tests.{not-true, not-false}
-use mathlib.Core.List.{List}
 use mathlib.Core.Path.{sym, ap, _∙_}
 use Rattle.trace.proofs.read_trace.Statement.{statement}
 use Rattle.trace.proofs.read_trace.Tie as tie
@@ -47,17 +44,12 @@ is-header-requires c κs = search needs
 returns-2 : tie.Need-returns-2
 returns-2 c =
     let a = c .before .before .before .before .before .before .before .before .before .args in
-    let rows = now (a .rows) in
-    let text = now (a .text) in
-    let a = a in
-    let t = tells (readAt text 0 (a .byte-limit)) (c .before .before .before .before .before .read-record .result)
-    (c .before .before .before .before .before .read-record .ensures) (c .before .before .before .enum-told4 .given .1) in
-    let h = sym (headed-same text (t .spans) (c .before .before .before .before .before .read-record .result .count) (t .count)) ∙ sym
-    (ap (λ (l : List Span). headed (c .before .before .before .before .before .read-record .result .count) (fieldsOf text l)) (t .kept))
-    ∙ sym (c .before .is-header .ensures) in
-    refusal rows rows
-    (header-record (a .row-limit) (a .process-limit) text (a .byte-limit) (a .header) (t .spans) (t .end) (t .next)
-    (c .before .before .before .before .before .before .if1 .left) (t .is-found) (h ∙ not-true (c .before .is-header .result) (c .if2 .taken)))
+    let read = c .before .before .before .before .before .read-record .ensures in
+    let told = c .before .before .before .enum-told4 .given .1 in
+    let some = c .before .before .before .before .before .before .if1 .left in
+    let other = not-true (c .before .is-header .result) (c .if2 .taken) in
+    refusal (now (a .rows)) (now (a .rows))
+    (header-read (a .row-limit) (a .process-limit) (now (a .text)) (a .byte-limit) (a .header) some read told (c .before .is-header .ensures) other)
 
 read-rows-requires-2 : tie.Need-read-rows-requires-2
 read-rows-requires-2 c κs = c .before .before .before .before .before .before .before .before .before .before .pre
@@ -67,7 +59,7 @@ returns-3 c =
     let a = c .before .before .before .before .before .before .args in
     let rows = now (a .rows) in
     let text = now (a .text) in
-    refusal rows rows (header-missing (a .row-limit) (a .process-limit) text (a .byte-limit) (a .header)
+    refusal rows rows (header-missing (heads-trace (a .row-limit) (a .process-limit)) text (a .byte-limit) (a .header)
     (c .before .before .before .if1 .left) (tells (readAt text 0 (a .byte-limit)) (c .before .before .read-record .result)
     (c .before .before .read-record .ensures) (c .enum-told .given .1)))
 
@@ -76,7 +68,7 @@ returns-4 c =
     let a = c .before .before .before .before .before .before .args in
     let rows = now (a .rows) in
     let text = now (a .text) in
-    refusal rows rows (header-malformed (a .row-limit) (a .process-limit) text (a .byte-limit) (a .header)
+    refusal rows rows (header-malformed (heads-trace (a .row-limit) (a .process-limit)) text (a .byte-limit) (a .header)
     (c .before .before .before .if1 .left) (tells (readAt text 0 (a .byte-limit)) (c .before .before .read-record .result)
     (c .before .before .read-record .ensures) (c .enum-told2 .given .1)))
 
@@ -85,7 +77,7 @@ returns-5 c =
     let a = c .before .before .before .before .before .before .args in
     let rows = now (a .rows) in
     let text = now (a .text) in
-    refusal rows rows (header-over (a .row-limit) (a .process-limit) text (a .byte-limit) (a .header)
+    refusal rows rows (header-over (heads-trace (a .row-limit) (a .process-limit)) text (a .byte-limit) (a .header)
     (c .before .before .before .if1 .left) (tells (readAt text 0 (a .byte-limit)) (c .before .before .read-record .result)
     (c .before .before .read-record .ensures) (c .enum-told3 .given .1)))
 
@@ -95,14 +87,12 @@ same-length-2 c = search needs
 returns-6 : tie.Need-returns-6
 returns-6 c =
     let a = c .before .before .before .before .before .before .before .before .before .before .before .before .before .args in
-    let text = now (a .text) in
-    let a = a in
-    let t = tells (readAt text 0 (a .byte-limit)) (c .before .before .before .before .before .before .before .before .before .read-record .result) (c .before .before .before .before .before .before .before .before .before .read-record .ensures) (c .before .before .before .before .before .before .before .enum-told4 .given .1) in
-    let h = sym (headed-same text (t .spans) (c .before .before .before .before .before .before .before .before .before .read-record .result .count) (t .count)) ∙ sym (ap (λ (l : List Span). headed (c .before .before .before .before .before .before .before .before .before .read-record .result .count) (fieldsOf text l)) (t .kept)) ∙ sym (c .before .before .before .before .before .is-header .ensures) in
-    let e = header-record (a .row-limit) (a .process-limit) text (a .byte-limit) (a .header) (t .spans) (t .end) (t .next)
-    (c .before .before .before .before .before .before .before .before .before .before .if1 .left) (t .is-found)
-    (h ∙ not-false (c .before .before .before .before .before .is-header .result) (c .before .before .before .before .if2 .left)) in
-    let p = e ∙ ap (judgeFrom (a .row-limit) (a .process-limit) text (a .byte-limit)) (sym (t .place)) in
+    let read = c .before .before .before .before .before .before .before .before .before .read-record .ensures in
+    let told = c .before .before .before .before .before .before .before .enum-told4 .given .1 in
+    let some = c .before .before .before .before .before .before .before .before .before .before .if1 .left in
+    let header = c .before .before .before .before .before .is-header in
+    let named = not-false (header .result) (c .before .before .before .before .if2 .left) in
+    let p = header-read (a .row-limit) (a .process-limit) (now (a .text)) (a .byte-limit) (a .header) some read told (header .ensures) named in
     (c .before .before .read-rows2 .ensures .0 ∙ ap checkedOf (sym p), rw p (c .before .before .read-rows2 .ensures .1))
 
 pub read-trace-spec : {M : Type 1} → statement M

@@ -1,6 +1,7 @@
 -- `trace::reading::read_rows` meets its contract.
 use borrow.Author.Needs.{needs}
-use Rattle.trace.proofs.Going.{Going, begin, at-end, end-held, at-malformed, at-limit, refusal, no-row, row-room, next-row, onward}
+use Rattle.trace.proofs.Going.{WithTable, judges-rows, begin, no-row, row-room, next-row}
+use Rattle.trace.proofs.Turns.{at-end, end-held, malformed-here, limit-here, refusal, onward}
 use Rattle.rows.proofs.Slices.{with-room}
 use Rattle.csv.proofs.Answers.{tells}
 use Rattle.csv.specs.Reading.{readAt}
@@ -15,7 +16,7 @@ use Rattle.trace.proofs.reading.read_rows.Tie as tie
 -- The outcome is that of the records from `at` on behind the n rows read so far, the slice holds those rows, and the table tells of them.
 abbrev Inv-loop : tie.InvT-loop
 Inv-loop text start row-limit process-limit byte-limit rows₀ table₀ at₀ n₀ rows table at n =
-    Going row-limit process-limit text byte-limit start rows₀ at n rows table × (length rows ≡ length rows₀)
+    WithTable row-limit process-limit text byte-limit start rows₀ at n rows table × (length rows ≡ length rows₀)
 
 abbrev μ-loop : tie.MeasureT-loop
 μ-loop text start row-limit process-limit byte-limit rows₀ table₀ at₀ n₀ rows table at n = length text - at
@@ -29,16 +30,16 @@ read-record-requires : tie.Need-read-record-requires Inv-loop μ-loop
 read-record-requires c κs = search needs
 
 cast-place : tie.Need-cast-place Inv-loop μ-loop
-cast-place c = omega (arith, c .before .loop .inv .0 .few, c .before .before .before .before .pre .0)
+cast-place c = omega (arith, c .before .loop .inv .0 .going .few, c .before .before .before .before .pre .0)
 
 add-place : tie.Need-add-place Inv-loop μ-loop
-add-place c = omega (arith, c .before .loop .inv .0 .few, c .before .before .before .before .pre .0)
+add-place c = omega (arith, c .before .loop .inv .0 .going .few, c .before .before .before .before .pre .0)
 
 enum-told : tie.Need-enum-told Inv-loop μ-loop
 enum-told c = search needs
 
 cast-t17 : tie.Need-cast-t17 Inv-loop μ-loop
-cast-t17 c = omega (arith, c .before .before .before .loop .inv .0 .few, c .before .before .before .before .before .before .pre .0)
+cast-t17 c = omega (arith, c .before .before .before .loop .inv .0 .going .few, c .before .before .before .before .before .before .pre .0)
 
 same-length : tie.Need-same-length Inv-loop μ-loop
 same-length c = c .before .before .before .loop .inv .1
@@ -48,7 +49,7 @@ returns c =
     let a = c .before .before .before .before .before .before .args in
     let l = c .before .before .before .loop in
     let found = tells (readAt (now (a .text)) (l .at) (a .byte-limit)) (c .before .before .read-record .result) (c .before .before .read-record .ensures) (c .enum-told .given .1) in
-    (at-end (l .inv .0) found, end-held (l .inv .0) found)
+    (at-end (judges-rows _ _) (l .inv .0 .going) found, end-held (judges-rows _ _) (l .inv .0 .going) found)
 
 enum-told-2 : tie.Need-enum-told-2 Inv-loop μ-loop
 enum-told-2 c = search needs
@@ -61,7 +62,7 @@ returns-2 c =
     let a = c .before .before .before .before .before .before .args in
     let l = c .before .before .before .loop in
     let found = tells (readAt (now (a .text)) (l .at) (a .byte-limit)) (c .before .before .read-record .result) (c .before .before .read-record .ensures) (c .enum-told2 .given .1) in
-    refusal (now (a .rows)) (l .rows) (at-malformed (l .inv .0) found)
+    refusal (now (a .rows)) (l .rows) (malformed-here (judges-rows _ _) (l .inv .0 .going) found)
 
 enum-told-3 : tie.Need-enum-told-3 Inv-loop μ-loop
 enum-told-3 c = search needs
@@ -74,7 +75,7 @@ returns-3 c =
     let a = c .before .before .before .before .before .before .args in
     let l = c .before .before .before .loop in
     let found = tells (readAt (now (a .text)) (l .at) (a .byte-limit)) (c .before .before .read-record .result) (c .before .before .read-record .ensures) (c .enum-told3 .given .1) in
-    refusal (now (a .rows)) (l .rows) (at-limit (l .inv .0) found)
+    refusal (now (a .rows)) (l .rows) (limit-here (judges-rows _ _) (l .inv .0 .going) found)
 
 enum-told-4 : tie.Need-enum-told-4 Inv-loop μ-loop
 enum-told-4 c = search needs
@@ -102,10 +103,15 @@ put-row-requires : tie.Need-put-row-requires Inv-loop μ-loop
 put-row-requires c κs = search needs
 
 add-n : tie.Need-add-n Inv-loop μ-loop
-add-n c = omega (arith, c .before .before .before .before .before .before .before .before .before .before .before .before .before .loop .inv .0 .few, c .before .before .before .before .before .before .before .before .before .before .before .before .before .before .before .before .pre .0)
+add-n c = omega (arith, c .before .before .before .before .before .before .before .before .before .before .before .before .before .loop .inv .0 .going .few, c .before .before .before .before .before .before .before .before .before .before .before .before .before .before .before .before .pre .0)
 
 loop-less : tie.Need-loop-less Inv-loop μ-loop
-loop-less c = omega (arith, onward (c .before .before .before .before .before .before .before .before .before .before .before .before .before .loop .inv .0) (c .before .before .before .before .before .before .before .before .before .before .before .before .read-record .ensures) (c .before .before .before .before .before .before .before .before .before .before .enum-told4 .given .1))
+loop-less c =
+    let l = c .before .before .before .before .before .before .before .before .before .before .before .before .before .loop in
+    let text = now (c .before .before .before .before .before .before .before .before .before .before .before .before .before .before .before .before .args .text) in
+    let limit = c .before .before .before .before .before .before .before .before .before .before .before .before .before .before .before .before .args .byte-limit in
+    let read = tells (readAt text (l .at) limit) _ (c .before .before .before .before .before .before .before .before .before .before .before .before .read-record .ensures) (c .before .before .before .before .before .before .before .before .before .before .enum-told4 .given .1) in
+    omega (arith, onward text (l .at) limit read)
 
 loop-again : tie.Need-loop-again Inv-loop μ-loop
 loop-again c =
