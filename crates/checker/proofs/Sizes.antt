@@ -10,7 +10,7 @@ use Rattle.trace.specs.Questions.{Outcome, refused, accepted, checkTrace}
 use Rattle.trace.proofs.Laws.{accepted-passed, accepted-sound}
 use Rattle.trace.proofs.Refusals.{Bounded, refusal-bounded}
 use Rattle.races_meaning.specs.Races.{Verdict, free, racing, verdictOf}
-use Rattle.races_meaning.proofs.Verdicts.{race-out, racing-iff}
+use Rattle.races_meaning.proofs.Verdicts.{racing-within}
 use Rattle.checker.specs.declared.Judged.{Judged}
 use Rattle.checker.specs.declared.Judged.the-variants.{Free, Race, Refused}
 use Rattle.checker.specs.Judging.{judgedRows, judgedOf}
@@ -28,9 +28,8 @@ verdict-small rows model h = go (verdictOf rows model) refl
     go : (v : Verdict) → verdictOf rows model ≡ v → Small (judgedRows (length rows) v)
     go free e = h
     go (racing earlier later) e =
-        let (x, y, p, q, f) = racing-iff rows model earlier later .0 e in
-        let o = race-out rows model x y (f .is-race) in
-        (h, omega arith, omega arith)
+        let w = racing-within rows model e in
+        (h, w .1, w .2)
 
 -- every answer of the whole call is small
 pub judged-small : (text : List ℕ) (header model R P limit a b : ℕ) → Small (judgedOf model (checkTrace text header model R P limit a b))

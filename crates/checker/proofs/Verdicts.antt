@@ -4,8 +4,8 @@ use native.Mathlib.Omega.{arith}
 use native.Mathlib.Nat.{mul-le-mul-right}
 use mathlib.Core.Path.{_≡_, refl, sym, ap, _∙_}
 use mathlib.Core.List.{List, _++_}
-use lib.ListN.{length, replicate, length-append, length-replicate}
-use Rattle.rows.specs.Limits.{MODELS}
+use lib.ListN.{length, replicate, length-replicate}
+use Rattle.rows.specs.Limits.{MODELS, ROWS}
 use Rattle.csv.specs.Reading.{records}
 use Rattle.rows.specs.declared.Row.{Row}
 use Rattle.trace.specs.declared.Checked.{Checked}
@@ -13,18 +13,17 @@ use Rattle.trace.specs.declared.Checked.the-variants as checked
 use Rattle.rows.specs.Rows.{numbers, rowsIn, rowAt}
 use Rattle.trace.specs.Questions.{Outcome, accepted, checkTrace, rowsLeft, countsLeft, Leaves}
 use Rattle.rows.specs.Questions.{firstNo}
-use Rattle.trace.proofs.Laws.{accepted-passed, accepted-sound, rows-left-back}
-use Rattle.rows.proofs.Slices.{length-numbers, row-in}
+use Rattle.trace.proofs.Laws.{Legal, Sound, accepted-passed, accepted-sound}
 use Rattle.trace.proofs.Whole.{accepted-told, refused-told}
 use Rattle.happens_before.specs.Order.{countsOf}
 use Rattle.happens_before.specs.Filling.{fillQuestions, filledLeft}
-use Rattle.happens_before.proofs.Asking.{all-asked}
 use Rattle.trace.proofs.Sounds.{sound-row}
 use Rattle.races.specs.declared.Found.{Found}
 use Rattle.races.specs.declared.Found.the-variants as found
 use Rattle.races_meaning.specs.Races.{Verdict, free, racing, verdictOf}
 use Rattle.races.specs.Answers.{judgeQuestions, verdictFound, foundOf}
 use Rattle.races.proofs.Whole.{same-first}
+use Rattle.races.proofs.Held.{rows-held, held-passes, held-found, held-counts}
 use Rattle.checker.specs.declared.Judged.{Judged}
 use Rattle.checker.specs.declared.Judged.the-variants.{Free, Race, Refused}
 use Rattle.checker.specs.Judging.{judgedRows, Decides}
@@ -72,42 +71,47 @@ module _ (text : List ℕ) (header model R P limit : ℕ) (xs us : List ℕ) whe
     pub told : (rows : List Row) × (outcome ≡ accepted rows) × (n ≡ length rows)
     told = accepted-told outcome (sym q ∙ l .answered)
 
+    -- what stands behind the accepted rows
+    behind : List ℕ
+    behind = replicate (length xs - 6 * length (told .0)) 0
+
     -- the rows' slice holds the accepted rows, then 0
-    rows-there : ys ≡ rowsLeft (accepted (told .0)) xs
+    rows-there : ys ≡ numbers (told .0) ++ behind
+    unfolding behind
     rows-there = l .rows-left ∙ ap (λ (o : Outcome). rowsLeft o xs) (told .1)
 
     -- the first n rows of the slice are the accepted rows
     pub rows-again : rowsIn n ys ≡ told .0
-    rows-again = (λ i. rowsIn (told .2 i) (rows-there i)) ∙ rows-left-back (told .0) xs
+    rows-again = rows-held (told .0) behind (told .2) rows-there
 
-    -- the accepted rows pass the questions of the verdict
-    passes-left : firstNo (judgeQuestions n P model ys (length us)) ≡ 0
-    passes-left =
-        let rows = told .0 in
-        let size : n ≡ length rows = told .2 in
-        let z : List ℕ = replicate (length xs - 6 * length rows) 0 in
-        let p = accepted-passed text header model R P limit (length xs) (length us) rows (told .1) in
-        let s = accepted-sound header R P (records text limit) rows (p .1) in
-        let few : n ≤ R = omega (arith, s .0) in
-        sym (same-first n P model ys (length us) (p .0 .known-model))
-        ∙ all-asked
-        (record {
-          rows-fit = omega (arith, ap length rows-there, length-append (numbers rows) z, length-numbers rows);
-          counts-fit = omega (arith, mul-le-mul-right P few, p .0 .counts-fit);
-          few-rows = omega (arith, p .0 .few-rows);
-          some-processes = p .0 .some-processes;
-          few-processes = p .0 .few-processes;
-          below =
-              λ k h. rw (sym (row-in n k ys h) ∙ ap (λ (x : List Row). rowAt x k) rows-again) (sound-row (s .1) k (omega arith) .process);
-        })
+    -- what the call asked of its numbers and slices
+    passed : Legal header model R P (length xs) (length us)
+    passed = accepted-passed text header model R P limit (length xs) (length us) (told .0) (told .1) .0
+
+    -- at most as many rows as the row limit, and each is well formed
+    fair : (length (told .0) ≤ R) × Sound P (told .0)
+    fair = accepted-sound header R P (records text limit) (told .0) (accepted-passed text header model R P limit (length xs) (length us) (told .0) (told .1) .1)
+
+    -- the row count is within the largest row limit
+    few : n ≤ ROWS
+    few = omega (arith, fair .0, told .2, passed .few-rows)
+
+    -- each row has its process below the process limit
+    below : (k : ℕ) → k < length (told .0) → rowAt (told .0) k .process < P
+    below k h = sound-row (fair .1) k h .process
 
     -- the counts' slice keeps its length
     counts-length : length vs ≡ length us
     counts-length = ap length (l .counts-left ∙ ap (λ (o : Outcome). countsLeft o us) (told .1)) ∙ length-replicate (length us) 0
 
+    -- the counts' slice has room for the rows
+    room : n * P ≤ length vs
+    room = let few : n ≤ R = omega (arith, fair .0, told .2) in omega (arith, mul-le-mul-right P few, passed .counts-fit, counts-length)
+
     -- the accepted rows pass the questions of the verdict with the counts' slice as check_trace leaves it
     pub passes-again : firstNo (judgeQuestions n P model ys (length vs)) ≡ 0
-    passes-again = rw counts-length passes-left
+    passes-again =
+        held-passes (told .0) behind (told .2) rows-there P model (passed .known-model) few room (passed .some-processes) (passed .few-processes) below
 
     -- the whole call answers and leaves what the verdict answers and leaves
     pub decides : {f g : Found} {ws : List ℕ} →
@@ -118,12 +122,13 @@ module _ (text : List ℕ) (header model R P limit : ℕ) (xs us : List ℕ) whe
     decides {f} {g} {ws} e h =
         let rows = told .0 in
         let answer : g ≡ verdictFound (verdictOf rows model) =
-        sym h ∙ e .0 ∙ ap (λ (first : ℕ). foundOf first ys n model) passes-again ∙ ap (λ (x : List Row). verdictFound (verdictOf x model)) rows-again in
+        sym h
+        ∙ held-found rows behind (told .2) rows-there P model (passed .known-model) few room (passed .some-processes) (passed .few-processes) below (e .0) in
         rw (told .1)
         (record {
           answered = (λ i. judgedAs (told .2 i) (answer i)) ∙ judged-found (length rows) (verdictOf rows model);
-          rows-left = rows-there;
+          rows-left = l .rows-left ∙ ap (λ (o : Outcome). rowsLeft o xs) (told .1);
           counts-left =
-              e .1 ∙ ap (λ (first : ℕ). filledLeft first n P ys vs) passes-again
-              ∙ (λ i. countsOf P (rows-again i) ++ replicate (counts-length i - told .2 i * P) 0);
+              held-counts rows behind (told .2) rows-there P model (passed .known-model) few room (passed .some-processes) (passed .few-processes) below vs (e .1)
+              ∙ ap (λ (m : ℕ). countsOf P rows ++ replicate (m - length rows * P) 0) counts-length;
         })

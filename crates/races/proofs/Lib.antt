@@ -1,3 +1,4 @@
 pub mod Cells
 pub mod Passes
 pub mod Whole
+pub mod Held

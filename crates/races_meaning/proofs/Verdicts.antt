@@ -150,3 +150,11 @@ racing-iff rows model earlier later = go (verdictOf rows model) (told rows model
             let d = g .least-earlier x (rw s at (f .is-race)) in
             let t : x ≡ x′ = omega arith in
             cc
+
+-- The rows that a verdict names are rows of the trace, the earlier one first.
+pub racing-within : (rows : List Row) (model : ℕ) {earlier later : ℕ} → verdictOf rows model ≡ racing earlier later →
+    (0 < earlier) × (earlier < later) × (later ≤ length rows)
+racing-within rows model {earlier} {later} e =
+    let (x, y, p, q, f) = racing-iff rows model earlier later .0 e in
+    let o = race-out rows model x y (f .is-race) in
+    (omega arith, omega arith, omega arith)
