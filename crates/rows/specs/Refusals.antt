@@ -72,3 +72,11 @@ ANSWER-SPACE = 17
 -- Does the text fit the lent slice behind the place?
 abbrev pub TEXT-SPACE : ℕ
 TEXT-SPACE = 18
+
+-- Has each process rows in one of two joined files alone?
+abbrev pub SHARED-PROCESS : ℕ
+SHARED-PROCESS = 19
+
+-- Can the next row of one of two joined files be taken?
+abbrev pub STUCK : ℕ
+STUCK = 20

@@ -36,3 +36,7 @@ pub const MAP_SPACE: u32 = 16;
 pub const ANSWER_SPACE: u32 = 17;
 // Does the text fit the lent slice behind the place?
 pub const TEXT_SPACE: u32 = 18;
+// Has each process rows in one of two joined files alone?
+pub const SHARED_PROCESS: u32 = 19;
+// Can the next row of one of two joined files be taken?
+pub const STUCK: u32 = 20;
