@@ -1,0 +1,12 @@
+pub mod Ahead
+pub mod Parts
+pub mod Merging
+pub mod Tests
+pub mod Taking
+pub mod Places
+pub mod Verdicts
+pub mod Exchange
+pub mod Finding
+pub mod Accepted
+pub mod Refusals
+pub mod Alone
