@@ -1,0 +1,4 @@
+pub mod Choosing
+pub mod Taking
+pub mod Sharing
+pub mod Leaving
