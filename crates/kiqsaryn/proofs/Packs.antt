@@ -31,9 +31,14 @@ use Rattle.machine_state.specs.Makes.{madeOf}
 use Rattle.machine_state.specs.Replays.{Replay, Replays}
 use Rattle.writer.specs.declared.Written.{Written}
 use Rattle.writer.specs.Writing.{Writing, Writes}
-use Rattle.kiqsaryn.specs.Packing.{Gives, JudgeGives, Fills, Judges, Makes, packedStep, StepGives, ReplayGives, WriteGives}
-use Rattle.kiqsaryn_packing.specs.Packing.{UPPER, packed, FitsWords, packedWords, packedJudged, packedFound, packedWritten}
-use Rattle.kiqsaryn_packing.proofs.Packs.{small-fits, words-packed}
+use Rattle.kiqsaryn.specs.Packing.{Gives, JudgeGives, FileGives, JoinGives, Fills, Judges, Makes, packedStep, StepGives, ReplayGives, WriteGives}
+use Rattle.kiqsaryn_packing.specs.Packing.{UPPER, packed, FitsWords, packedWords, packedJudged, FitsJoinWords, packedJoinWords, packedJoin, packedFound, packedWritten}
+use Rattle.join_meaning.specs.Joining.{joinTraces}
+use Rattle.join_reading.specs.Reading.{ReadsFile}
+use Rattle.join_checker.specs.declared.JudgedJoin.{JudgedJoin}
+use Rattle.join_checker.specs.Judging as joins
+use Rattle.join_checker.proofs.Sizes.{join-small}
+use Rattle.kiqsaryn_packing.proofs.Packs.{small-fits, words-packed, small-join-fits, join-words-packed}
 
 -- A packed answer of a check, with what the check leaves.
 pub packs : {o : Outcome} {a : Checked} {r : ℕ} {rows rows′ counts counts′ : List ℕ} → Leaves o a rows rows′ counts counts′ → r ≡ packed a →
@@ -51,6 +56,24 @@ packs-judged text header model R P limit xs us {a} l e =
       answered = e ∙ words-packed a (subst FitsWords (sym (l .answered)) fits) ∙ ap packedJudged (l .answered);
       rows-left = l .rows-left;
       counts-left = l .counts-left;
+    }
+
+-- A packed answer of one file, with what the reading leaves.
+pub packs-file : {o : Outcome} {a : Checked} {r : ℕ} {rows rows′ : List ℕ} → ReadsFile o a rows rows′ → r ≡ packed a → FileGives o r rows rows′
+packs-file l e = record { answered = e ∙ ap packed (l .answered); rows-left = l .rows-left }
+
+-- A packed answer of the whole call on two files, with what the call leaves.
+pub packs-join : (first second : List ℕ) (h₁ h₂ model R P : ℕ) (xs us ps : List ℕ) {a : JudgedJoin} {r : ℕ} {ys vs qs : List ℕ} →
+    joins.Decides model P (joinTraces first second h₁ h₂ model R P (length xs) (length us) (length ps)) a xs ys us vs ps qs → r ≡ packedJoinWords a →
+    JoinGives model P (joinTraces first second h₁ h₂ model R P (length xs) (length us) (length ps)) r xs ys us vs ps qs
+packs-join first second h₁ h₂ model R P xs us ps {a} l e =
+    let o = joinTraces first second h₁ h₂ model R P (length xs) (length us) (length ps) in
+    let fits = small-join-fits (joins.judgedOf model o) (join-small first second h₁ h₂ model R P (length xs) (length us) (length ps)) in
+    record {
+      answered = e ∙ join-words-packed a (subst FitsJoinWords (sym (l .answered)) fits) ∙ ap packedJoin (l .answered);
+      rows-left = l .rows-left;
+      counts-left = l .counts-left;
+      parts-left = l .parts-left;
     }
 
 -- The answer of filling the counts as a number: that of a refusal, 0 for none.

@@ -12,8 +12,11 @@ use Rattle.machine_meaning.specs.States.{Header}
 use Rattle.machine_meaning.specs.Steps as steps
 use Rattle.machine_meaning.specs.Steps.{Step, madeTo}
 use Rattle.machine_state.specs.Replays.{Replay}
+use Rattle.join_meaning.specs.Joining.{Joining}
+use Rattle.join.specs.Leaving as joined
+use Rattle.join_checker.specs.Judging as joins
 use Rattle.writer.specs.Writing.{Writing, writtenOf, outLeft}
-use Rattle.kiqsaryn_packing.specs.Packing.{UPPER, packed, packedJudged, packedFound, packedWritten}
+use Rattle.kiqsaryn_packing.specs.Packing.{UPPER, packed, packedJudged, packedJoin, packedFound, packedWritten}
 
 -- What a check answers and leaves.
 pub record Gives (o : Outcome) (answer : ℕ) (rows rows′ counts counts′ : List ℕ) : Type 0 where
@@ -26,6 +29,18 @@ pub record JudgeGives (model processLimit : ℕ) (o : Outcome) (answer : ℕ) (r
   pub answered : answer ≡ packedJudged (judgedOf model o)
   pub rows-left : rows′ ≡ rowsLeft o rows
   pub counts-left : counts′ ≡ countsKept processLimit o counts
+
+-- What reading one file of a join by itself answers and leaves.
+pub record FileGives (o : Outcome) (answer : ℕ) (rows rows′ : List ℕ) : Type 0 where
+  pub answered : answer ≡ packed (checkedOf o)
+  pub rows-left : rows′ ≡ rowsLeft o rows
+
+-- What the whole call on two files answers and leaves.
+pub record JoinGives (model processLimit : ℕ) (o : Joining) (answer : ℕ) (rows rows′ counts counts′ parts parts′ : List ℕ) : Type 0 where
+  pub answered : answer ≡ packedJoin (joins.judgedOf model o)
+  pub rows-left : rows′ ≡ joined.rowsLeft o rows
+  pub counts-left : counts′ ≡ joins.countsKept processLimit o counts
+  pub parts-left : parts′ ≡ joined.partsLeft o parts
 
 -- What filling the counts answers and leaves: the first No, 0 for none, and the counts.
 pub record Fills (questions : List Question) (n processLimit answer : ℕ) (rows counts counts′ : List ℕ) : Type 0 where

@@ -8,10 +8,13 @@ ghost use Rattle.races.specs.Answers.{judgeQuestions};
 ghost use Rattle.checker.specs.Report.{reportLength, reportIn};
 ghost use Rattle.machine_meaning.specs.Steps.{makingQuestions, plainMakingQuestions, stepOf, plainStepOf};
 ghost use Rattle.machine_state.specs.Replays.{replayOf, plainReplayOf};
+ghost use Rattle.join_reading.specs.Reading.{checkFile};
+ghost use Rattle.join_meaning.specs.Joining.{joinTraces};
 ghost use Rattle.writer.specs.Writing.{writeTrace};
-ghost use Rattle.kiqsaryn.specs.Packing.{Gives, JudgeGives, Fills, Judges, NO-MODEL, headerFrom, rowFrom, Makes, StepGives, ReplayGives, WriteGives};
+ghost use Rattle.kiqsaryn.specs.Packing.{Gives, JudgeGives, FileGives, JoinGives, Fills, Judges, NO-MODEL, headerFrom, rowFrom, Makes, StepGives, ReplayGives, WriteGives};
 use extents::Answer;
 use happens_before::Filled;
+use join::JoinCall;
 use kiqsaryn_packing::UPPER;
 use machine::Made;
 use machine_state::Machine;
@@ -76,6 +79,55 @@ pub extern "C" fn kiqsaryn_judge(
     };
     let answer = checker::judge(text, call, rows, counts);
     kiqsaryn_packing::pack_judged(answer)
+}
+
+// Reads one file of a join by itself, as join_reading::read_file does: the questions 1 to 11. The answer is the row count of an accepted file, below
+// 2^32, and of a refusal its number times 2^32 plus its place.
+#[no_mangle]
+pub extern "C" fn kiqsaryn_read_file(
+    text: &[u8],
+    header: u32,
+    row_limit: u32,
+    process_limit: u32,
+    rows: &mut [u32],
+) -> u64
+    ensures { λ r. ⌜ FileGives (checkFile (now (text .entry)) header «row_limit» «process_limit» (length (now (rows .entry)))) r (now (rows .entry)) (now (rows .exit)) ⌝ }
+{
+    let answer = join_reading::read_file(text, header, row_limit, process_limit, rows);
+    kiqsaryn_packing::pack_checked(answer)
+}
+
+// Makes the whole call on the traces of two controllers, as join_checker::judge_join does: the joined rows, their counts, for each row three numbers in
+// parts (the file that holds its record, and where the record starts and ends there), and the verdict under the model. The answer is four words of
+// 16 bits. Of an accepted join, from the lowest: the row count, the later and the earlier row of the first race, both 0 for free, and 0. Of a refusal:
+// its place, its file, 0, and its number in the highest.
+#[no_mangle]
+pub extern "C" fn kiqsaryn_join<'a>(
+    first: &'a [u8],
+    first_header: u32,
+    second: &'a [u8],
+    second_header: u32,
+    model: u32,
+    row_limit: u32,
+    process_limit: u32,
+    rows: &mut [u32],
+    counts: &mut [u16],
+    parts: &mut [u64],
+) -> u64
+    ensures { λ r. ⌜ JoinGives model «process_limit»
+        (joinTraces (now (first .entry)) (now (second .entry)) «first_header» «second_header» model «row_limit» «process_limit»
+        (length (now (rows .entry))) (length (now (counts .entry))) (length (now (parts .entry))))
+        r (now (rows .entry)) (now (rows .exit)) (now (counts .entry)) (now (counts .exit)) (now (parts .entry)) (now (parts .exit)) ⌝ }
+{
+    let call = JoinCall {
+        first_header,
+        second_header,
+        model,
+        row_limit,
+        process_limit,
+    };
+    let answer = join_checker::judge_join(first, second, call, rows, counts, parts);
+    kiqsaryn_packing::pack_join(answer)
 }
 
 // Fills the happens-before counts of the first n rows, as happens_before::fill_counts does. The answer is 0, and the number of a refusal.

@@ -12,7 +12,7 @@ use Rattle.rows.specs.Rows.{rowsIn}
 use Rattle.rows.specs.declared.Row.{Row}
 use Rattle.rows.proofs.Slices.{length-rows}
 use Rattle.races_meaning.specs.Races.{Verdict, free, racing, verdictOf}
-use Rattle.races_meaning.proofs.Verdicts.{race-out, racing-iff}
+use Rattle.races_meaning.proofs.Verdicts.{racing-within}
 use Rattle.races.specs.declared.Found.{Found}
 use Rattle.races.specs.declared.Found.the-variants as found
 use Rattle.races.specs.Answers.{judgeQuestions, verdictFound, foundOf}
@@ -23,11 +23,17 @@ use Rattle.checker.specs.declared.Judged.the-variants as judged
 use Rattle.checker.specs.Judging.{judgedOf}
 use Rattle.checker.proofs.Sizes as judging
 use Rattle.checker.proofs.Sizes.{judged-small}
+use Rattle.join_meaning.specs.Joining.{joinTraces}
+use Rattle.join_checker.specs.declared.JudgedJoin.{JudgedJoin}
+use Rattle.join_checker.specs.declared.JudgedJoin.the-variants as join
+use Rattle.join_checker.specs.Judging as judging-joins
+use Rattle.join_checker.proofs.Sizes as joining
+use Rattle.join_checker.proofs.Sizes.{join-small}
 use Rattle.writer.specs.declared.Written.{Written}
 use Rattle.writer.specs.declared.Written.the-variants as written
 use Rattle.writer.specs.Writing.{writeTrace, writtenOf}
 use Rattle.writer.proofs.Sizes.{Small, written-small}
-use Rattle.kiqsaryn_packing.specs.Packing.{UPPER, WORD, WORD-3, WORD-4, packedJudged, packedWords, FitsWords, unpackedJudged, packedFound, unpackedFound, packedWritten, unpackedWritten}
+use Rattle.kiqsaryn_packing.specs.Packing.{UPPER, WORD, WORD-3, WORD-4, packedJudged, packedWords, FitsWords, unpackedJudged, packedJoin, packedJoinWords, FitsJoinWords, unpackedJoin, packedFound, unpackedFound, packedWritten, unpackedWritten}
 
 -- ---- The whole call
 
@@ -88,6 +94,67 @@ pub judged-back : (text : List ℕ) (header model R P limit a b : ℕ) →
     unpackedJudged (packedJudged (judgedOf model (checkTrace text header model R P limit a b))) ≡ judgedOf model (checkTrace text header model R P limit a b)
 judged-back text header model R P limit a b = read-back _ (judged-small text header model R P limit a b)
 
+-- ---- The whole call on two files
+
+-- A small answer has 16 bits in every number.
+pub small-join-fits : (j : JudgedJoin) → joining.Small j → FitsJoinWords j
+small-join-fits (join.Free n) s = omega arith
+small-join-fits (join.Race n earlier later) s = (omega arith, omega arith, omega arith)
+small-join-fits (join.Refused number place file) s = (omega (arith, s .few), omega (arith, s .placed), omega (arith, s .filed))
+
+-- The words of an answer whose numbers have 16 bits are its number.
+pub join-words-packed : (j : JudgedJoin) → FitsJoinWords j → packedJoinWords j ≡ packedJoin j
+join-words-packed (join.Free n) f = omega arith
+join-words-packed (join.Race n earlier later) f = omega arith
+join-words-packed (join.Refused number place file) f = omega arith
+
+-- The words of a free join's answer.
+pub packs-join-free : {j : JudgedJoin} {n a : ℕ} → j ≡ join.Free n → a ≡ n % WORD → a ≡ packedJoinWords j
+packs-join-free q d = d ∙ sym (ap packedJoinWords q)
+
+-- The words of a race's answer.
+pub packs-join-race : {j : JudgedJoin} {n earlier later a b c : ℕ} → j ≡ join.Race n earlier later → a ≡ n % WORD → b ≡ later % WORD →
+    c ≡ earlier % WORD → a + b * WORD + c * WORD-3 ≡ packedJoinWords j
+packs-join-race {j} {n} {earlier} {later} {a} {b} {c} q d e h =
+    let s : a + b * WORD + c * WORD-3 ≡ n % WORD + (later % WORD) * WORD + (earlier % WORD) * WORD-3 = omega arith in
+    s ∙ sym (ap packedJoinWords q)
+
+-- The words of a refusal's answer.
+pub packs-join-refused : {j : JudgedJoin} {number place file a b c : ℕ} → j ≡ join.Refused number place file → a ≡ number % WORD → b ≡ file % WORD →
+    c ≡ place % WORD → a * WORD-4 + b * WORD + c ≡ packedJoinWords j
+packs-join-refused {j} {number} {place} {file} {a} {b} {c} q d e h =
+    let s : a * WORD-4 + b * WORD + c ≡ (number % WORD) * WORD-4 + (file % WORD) * WORD + place % WORD = omega arith in
+    s ∙ sym (ap packedJoinWords q)
+
+-- Four words of 16 bits in one number are read back.
+join-words : (low second third number answer : ℕ) → answer ≡ low + second * WORD + third * WORD-3 + number * WORD-4 → low < WORD → second < WORD →
+    third < WORD →
+    unpackedJoin answer
+    ≡ cond (eqb number 0) (cond (eqb second 0) (join.Free low) (join.Race low third second)) (join.Refused number low second)
+join-words low second third number answer e h i j =
+    let a : answer / WORD-4 ≡ number = omega arith in
+    let b : answer / WORD-3 % WORD ≡ third = omega arith in
+    let c : answer / WORD % WORD ≡ second = omega arith in
+    let d : answer % WORD ≡ low = omega arith in
+    λ k. cond (eqb (a k) 0) (cond (eqb (c k) 0) (join.Free (d k)) (join.Race (d k) (b k) (c k))) (join.Refused (a k) (d k) (c k))
+
+-- A small answer is read back from its number.
+join-read-back : (j : JudgedJoin) → joining.Small j → unpackedJoin (packedJoin j) ≡ j
+join-read-back (join.Free n) s = join-words n 0 0 0 n (omega arith) (omega arith) (omega arith) (omega arith)
+join-read-back (join.Race n earlier later) s =
+    join-words n later earlier 0 (n + later * WORD + earlier * WORD-3) (omega arith) (omega arith) (omega arith) (omega arith)
+    ∙ rw (ne-eqb later 0 (λ z. omega arith))
+join-read-back (join.Refused number place file) s =
+    let some = s .some in
+    join-words place file 0 number (number * WORD-4 + file * WORD + place) (omega arith) (omega (arith, s .placed)) (omega (arith, s .filed)) (omega arith)
+    ∙ rw (ne-eqb number 0 (λ z. omega arith))
+
+-- Every answer of the whole call on two files is read back from its number.
+pub join-back : (first second : List ℕ) (h₁ h₂ model R P a b c : ℕ) →
+    unpackedJoin (packedJoin (judging-joins.judgedOf model (joinTraces first second h₁ h₂ model R P a b c)))
+    ≡ judging-joins.judgedOf model (joinTraces first second h₁ h₂ model R P a b c)
+join-back first second h₁ h₂ model R P a b c = join-read-back _ (join-small first second h₁ h₂ model R P a b c)
+
 -- ---- Verdicts
 
 -- Two halves of 32 bits in one number are read back.
@@ -106,8 +173,7 @@ verdict-back rows model h = go (verdictOf rows model) refl
     go : (v : Verdict) → verdictOf rows model ≡ v → unpackedFound (packedFound (verdictFound v)) ≡ verdictFound v
     go free e = refl
     go (racing earlier later) e =
-        let (x, y, p, q, f) = racing-iff rows model earlier later .0 e in
-        let o = race-out rows model x y (f .is-race) in
+        let w = racing-within rows model e in
         halves earlier later (earlier * UPPER + later) refl (omega arith) ∙ rw (ne-eqb later 0 (λ z. omega arith))
 
 -- Every answer of a verdict is read back from its number.

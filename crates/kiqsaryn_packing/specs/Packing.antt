@@ -1,4 +1,4 @@
--- How the answers of a check, of a whole call, of a verdict and of writing are packed into one number each, and read back.
+-- How the answers of a check, of a whole call on one trace or on two files, of a verdict and of writing are packed into one number each, and read back.
 use Prim.Native.Nat.{ℕ, _+_, _*_, _/_, _%_, _<_}
 use mathlib.Core.Bool.{cond}
 use lib.Dec.{eqb}
@@ -8,6 +8,8 @@ use Rattle.trace.specs.declared.Checked.{Checked}
 use Rattle.trace.specs.declared.Checked.the-variants as checked
 use Rattle.checker.specs.declared.Judged.{Judged}
 use Rattle.checker.specs.declared.Judged.the-variants as judged
+use Rattle.join_checker.specs.declared.JudgedJoin.{JudgedJoin}
+use Rattle.join_checker.specs.declared.JudgedJoin.the-variants as join
 use Rattle.writer.specs.declared.Written as writer
 use Rattle.writer.specs.declared.Written.the-variants as written
 
@@ -59,6 +61,34 @@ unpackedJudged answer =
     let later = answer / WORD % WORD in
     let low = answer % WORD in
     cond (eqb number 0) (cond (eqb later 0) (judged.Free low) (judged.Race low earlier later)) (judged.Refused number low)
+
+-- The answer of the whole call on two files, in four words of 16 bits. Of an accepted join, from the lowest: the row count, the later and the
+-- earlier row of the first race, both 0 for free, and 0. Of a refusal: its place, its file, 0, and its number in the highest.
+abbrev pub packedJoin : JudgedJoin → ℕ
+packedJoin (join.Free n) = n
+packedJoin (join.Race n earlier later) = n + later * WORD + earlier * WORD-3
+packedJoin (join.Refused number place file) = number * WORD-4 + file * WORD + place
+
+-- The number of any such answer: the words hold the lowest 16 bits of each of its numbers. The answers of the whole call have no more bits.
+abbrev pub packedJoinWords : JudgedJoin → ℕ
+packedJoinWords (join.Free n) = n % WORD
+packedJoinWords (join.Race n earlier later) = n % WORD + (later % WORD) * WORD + (earlier % WORD) * WORD-3
+packedJoinWords (join.Refused number place file) = (number % WORD) * WORD-4 + (file % WORD) * WORD + place % WORD
+
+-- Every number of the answer has 16 bits.
+abbrev pub FitsJoinWords : JudgedJoin → Type 0
+FitsJoinWords (join.Free n) = n < WORD
+FitsJoinWords (join.Race n earlier later) = (n < WORD) × (earlier < WORD) × (later < WORD)
+FitsJoinWords (join.Refused number place file) = (number < WORD) × (place < WORD) × (file < WORD)
+
+-- The answer that such a number tells. The number of a refusal and the later row of a race are not 0.
+abbrev pub unpackedJoin : ℕ → JudgedJoin
+unpackedJoin answer =
+    let number = answer / WORD-4 in
+    let third = answer / WORD-3 % WORD in
+    let second = answer / WORD % WORD in
+    let low = answer % WORD in
+    cond (eqb number 0) (cond (eqb second 0) (join.Free low) (join.Race low third second)) (join.Refused number low second)
 
 -- A verdict: 0 for free, the earlier row's number in the upper half and the later row's in the lower for a race, and of a refusal its number in
 -- the upper half.

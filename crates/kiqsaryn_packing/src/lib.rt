@@ -1,8 +1,9 @@
-// Packs the answers of a check, of a whole call, of a verdict and of writing into one number each, for C.
+// Packs the answers of a check, of a whole call on one trace or on two files, of a verdict and of writing into one number each, for C.
 ghost use mathlib.Core.Path.{_≡_};
 ghost use Prim.Native.Nat.{_%_};
-ghost use Rattle.kiqsaryn_packing.specs.Packing.{WORD, packed, packedWords, packedFound, packedWritten};
+ghost use Rattle.kiqsaryn_packing.specs.Packing.{WORD, packed, packedWords, packedJoinWords, packedFound, packedWritten};
 use checker::Judged;
+use join_checker::JudgedJoin;
 use races::Found;
 use trace::Checked;
 use writer::Written;
@@ -44,6 +45,23 @@ pub fn pack_judged(answer: Judged) -> u64
         Judged::Free(n) => word(n),
         Judged::Race(n, earlier, later) => { word(n) + word(later) * WORD + word(earlier) * WORD_3 }
         Judged::Refused(number, place) => word(number) * WORD_4 + word(place),
+    }
+}
+
+// Packs what the whole call on two files answers into four words of 16 bits. Of an accepted join, from the lowest: the row count, the later and the
+// earlier row of the first race, both 0 for free, and 0. Of a refusal: its place, its file, 0, and its number in the highest. A word holds the
+// lowest 16 bits of its number; the numbers of the whole call have no more.
+pub fn pack_join(answer: JudgedJoin) -> u64
+    ensures { λ r. ⌜ r ≡ packedJoinWords answer ⌝ }
+{
+    match answer {
+        JudgedJoin::Free(n) => word(n),
+        JudgedJoin::Race(n, earlier, later) => {
+            word(n) + word(later) * WORD + word(earlier) * WORD_3
+        }
+        JudgedJoin::Refused(number, place, file) => {
+            word(number) * WORD_4 + word(file) * WORD + word(place)
+        }
     }
 }
 
