@@ -1,5 +1,5 @@
 /* Trace B through the library for C: in one call, then from its text to the verdicts, its rows written as text again, and its read replayed on a
- * machine for session and on the plain file. */
+ * machine for session and on the plain file. Then the same rows as two controllers record them, joined. */
 #include "kiqsaryn.h"
 #include <stdio.h>
 #include <string.h>
@@ -27,6 +27,46 @@ static void print_written(const uint32_t *rows, uint32_t n, size_t out_len, cons
     else
         printf("written into a slice of %u: %u bytes, %s\n", (unsigned)out_len, (unsigned)written,
                written == strlen(text) && memcmp(out, text, strlen(text)) == 0 ? "the text that was read" : "another text");
+}
+
+static void print_join(const char *name, uint64_t joined) {
+    if (kiqsaryn_joined_refusal(joined))
+        printf("joined, %s: refused %u at %u of file %u\n", name, (unsigned)kiqsaryn_joined_refusal(joined),
+               (unsigned)kiqsaryn_joined_place(joined), (unsigned)kiqsaryn_joined_file(joined));
+    else if (kiqsaryn_joined_later(joined))
+        printf("joined, %s: %u rows, race %u %u\n", name, (unsigned)kiqsaryn_joined_rows(joined), (unsigned)kiqsaryn_joined_earlier(joined),
+               (unsigned)kiqsaryn_joined_later(joined));
+    else
+        printf("joined, %s: %u rows, free\n", name, (unsigned)kiqsaryn_joined_rows(joined));
+}
+
+/* Joins two files, of which the first has a header, under a model, and prints the answer and the records of an accepted join. */
+static void join_files(const char *name, const char *first, const char *second, uint32_t model) {
+    uint32_t rows[6 * ROWS];
+    uint16_t counts[ROWS * PROCESSES];
+    uint64_t parts[3 * ROWS];
+    const char *files[] = {first, second};
+    uint64_t joined = kiqsaryn_join((const uint8_t *)first, strlen(first), 1, (const uint8_t *)second, strlen(second), 0, model, ROWS, PROCESSES,
+                                    rows, 6 * ROWS, counts, ROWS * PROCESSES, parts, 3 * ROWS);
+    print_join(name, joined);
+    for (const uint64_t *part = parts; part < parts + 3 * kiqsaryn_joined_rows(joined); part += 3)
+        printf("  file %u: %.*s\n", (unsigned)part[0], (int)(part[2] - part[1]), files[part[0] - 1] + part[1]);
+}
+
+/* Trace B as two controllers record it: process 0 in the first file, and process 1 in the second. */
+static int join_two(void) {
+    const char *first = "process,kind,file,offset,length,message\r\n0,write,1,0,10,\r\n0,commit,1,,,\r\n0,send,,,,7\r\n";
+    const char *second = "1,recv,,,,7\r\n1,read,1,5,10,\r\n";
+    uint32_t rows[6 * ROWS];
+    uint64_t read = kiqsaryn_read_file((const uint8_t *)second, strlen(second), 0, ROWS, PROCESSES, rows, 6 * ROWS);
+    if (read >> 32)
+        return 2;
+    printf("second file: %u rows\n", (unsigned)read);
+    join_files(names[1], first, second, 1);
+    join_files(names[2], first, second, 2);
+    join_files("a message that nobody sends", first, "1,recv,,,,8\r\n", 1);
+    join_files("a record of five fields", first, "1,recv,,,,7\r\n1,read,1,5,10\r\n", 1);
+    return 0;
 }
 
 int main(void) {
@@ -70,5 +110,5 @@ int main(void) {
         return 2;
     for (uint32_t i = 0; i < seen[4]; i++)
         printf("plain: %u bytes from %u are of row %u\n", (unsigned)pieces[3 * i + 1], (unsigned)pieces[3 * i], (unsigned)pieces[3 * i + 2]);
-    return 0;
+    return join_two();
 }

@@ -5,8 +5,8 @@
  * writing must not overlap another one of the call. The contracts stand in crates/kiqsaryn/src/lib.rt.
  *
  * Stack: kiqsaryn_check_trace, kiqsaryn_judge, kiqsaryn_report and kiqsaryn_write take up to 140 KB of stack, for a table by message;
- * kiqsaryn_fill_counts and kiqsaryn_verdict up to 18 KB, for tables of earlier rows; every other call less than 4 KB. There is no heap and no
- * state between calls.
+ * kiqsaryn_fill_counts and kiqsaryn_verdict up to 18 KB, for tables of earlier rows; kiqsaryn_join up to 150 KB, for both; every other call less
+ * than 4 KB. There is no heap and no state between calls.
  *
  * Models: 0 POSIX, 1 commit, 2 session, 3 MPI-IO. Kinds: 0 read, 1 write, 2 commit, 3 open, 4 close, 5 sync, 6 send, 7 recv. A row is six
  * numbers: process, kind, file, offset, length, message. A piece is three: start, length, row number (0 for unwritten bytes). A run is four:
@@ -19,6 +19,7 @@
  *   4 record well formed         10 numbers plain and in range      16 every map fits its space
  *   5 the header's six names     11 offset + length                 17 the pieces fit the answer slice
  *   6 row and byte limit         12 messages in order               18 the text fits its slice from its place on
+ * and of a join: 19 no process has rows in both files, 20 a next row can be taken.
  */
 #ifndef KIQSARYN_H
 #define KIQSARYN_H
@@ -85,6 +86,51 @@ size_t kiqsaryn_report(const uint8_t *text, size_t text_len, uint8_t *out, size_
  * keep their values, and a refusal changes nothing. */
 uint64_t kiqsaryn_write(const uint32_t *rows, size_t rows_len, uint32_t n, uint32_t header, uint32_t process_limit, uint8_t *out,
                         size_t out_len, size_t place);
+
+/* Reads one file of a join by itself into `rows`, six numbers each. It asks as kiqsaryn_check_trace does, without a byte limit and without
+ * question 12, since a message may be sent in the other file. The answer is the row count, below 2^32, or a refusal's number times 2^32 plus the
+ * record's place. `rows` takes 6 * row_limit numbers. Refusals 1 to 3 keep it; later ones fill it with 0; an accepted file clears what lies
+ * behind its rows. */
+uint64_t kiqsaryn_read_file(const uint8_t *text, size_t text_len, uint32_t header, uint32_t row_limit, uint32_t process_limit, uint32_t *rows,
+                            size_t rows_len);
+
+/* Joins the files of two controllers into one trace, fills its counts and judges it under the model. The next record comes from the first file,
+ * unless that file is at its end or its next row waits: it receives a message that no joined row has sent. Then it comes from the second on the
+ * same condition. The verdict is free exactly where that on every other allowed merging of the two files is.
+ *
+ * `rows` takes 6 * row_limit numbers, `counts` row_limit * process_limit, and `parts` 3 * row_limit: for each joined row the file that holds its
+ * record, 1 or 2, where the record starts in that file, and where it ends, before its line end. Behind the joined rows an accepted join clears
+ * all three. The first No decides: 1 to 3 (1 also of `parts`, 3 of both header words); 4 to 11 of the first file, then of the second; 19 where
+ * a process has rows in both; then of each joined row 6 and 12, or 20 where both next rows wait, or one waits and the other file is at its end.
+ * Refusals 1 to 3 keep the three slices; any other fills them with 0.
+ *
+ * The answer is four words of 16 bits. Of an accepted join, from the lowest: the row count, the later and the earlier row of the first race,
+ * both 0 for free, and 0. Of a refusal: its place, the file whose place it is (0 for the place of a joined row, and for none), 0, and its
+ * number. */
+uint64_t kiqsaryn_join(const uint8_t *first, size_t first_len, uint32_t first_header, const uint8_t *second, size_t second_len,
+                       uint32_t second_header, uint32_t model, uint32_t row_limit, uint32_t process_limit, uint32_t *rows, size_t rows_len,
+                       uint16_t *counts, size_t counts_len, uint64_t *parts, size_t parts_len);
+
+/* The parts of that answer: the number of a refusal, 0 for none, its place and its file; else the row count, and the rows of the first race, both
+ * 0 for free. A part that the answer does not have is 0. */
+static inline uint32_t kiqsaryn_joined_refusal(uint64_t joined) {
+    return (uint32_t)(joined >> 48);
+}
+static inline uint32_t kiqsaryn_joined_place(uint64_t joined) {
+    return joined >> 48 ? (uint32_t)(joined & 0xffff) : 0;
+}
+static inline uint32_t kiqsaryn_joined_file(uint64_t joined) {
+    return joined >> 48 ? (uint32_t)(joined >> 16 & 0xffff) : 0;
+}
+static inline uint32_t kiqsaryn_joined_rows(uint64_t joined) {
+    return joined >> 48 ? 0 : (uint32_t)(joined & 0xffff);
+}
+static inline uint32_t kiqsaryn_joined_earlier(uint64_t joined) {
+    return joined >> 48 ? 0 : (uint32_t)(joined >> 32 & 0xffff);
+}
+static inline uint32_t kiqsaryn_joined_later(uint64_t joined) {
+    return joined >> 48 ? 0 : (uint32_t)(joined >> 16 & 0xffff);
+}
 
 /* Makes a machine over 4 * map_space * (process_limit + 1) numbers, or a plain file over 4 * map_space: 0 everywhere in its maps; what lies
  * behind them is not touched. The answer is 0, or the number of a refusal (1, 2 or 10), which changes nothing. */

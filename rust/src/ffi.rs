@@ -55,6 +55,34 @@ extern "C" {
         place: usize,
     ) -> u64;
 
+    pub fn kiqsaryn_read_file(
+        text: *const u8,
+        text_len: usize,
+        header: u32,
+        row_limit: u32,
+        process_limit: u32,
+        rows: *mut u32,
+        rows_len: usize,
+    ) -> u64;
+
+    pub fn kiqsaryn_join(
+        first: *const u8,
+        first_len: usize,
+        first_header: u32,
+        second: *const u8,
+        second_len: usize,
+        second_header: u32,
+        model: u32,
+        row_limit: u32,
+        process_limit: u32,
+        rows: *mut u32,
+        rows_len: usize,
+        counts: *mut u16,
+        counts_len: usize,
+        parts: *mut u64,
+        parts_len: usize,
+    ) -> u64;
+
     pub fn kiqsaryn_make(model: u32, process_limit: u32, file: u32, map_space: u32, maps: *mut u32, maps_len: usize) -> u32;
 
     pub fn kiqsaryn_make_plain(process_limit: u32, file: u32, map_space: u32, map: *mut u32, map_len: usize) -> u32;

@@ -101,13 +101,26 @@ pub struct Settings {
 
 /// The refusal of a number that the library answers; it answers no other.
 fn refused(number: u32) -> Refusal {
-    Refusal::from_number(number).expect("the library's refusals have a number from 1 to 18")
+    Refusal::from_number(number).expect("the library's refusals have a number from 1 to 20")
+}
+
+/// The row count, or a refusal's number times 2^32 plus its place.
+fn checked(answer: u64) -> Checked {
+    match ((answer >> 32) as u32, answer as u32) {
+        (0, rows) => Checked::Accepted(rows),
+        (number, place) => Checked::Refused { refusal: refused(number), place },
+    }
+}
+
+/// The four words of 16 bits of an answer, from the lowest.
+fn words(answer: u64) -> [u32; 4] {
+    [0, 16, 32, 48].map(|bits| (answer >> bits) as u32 & 0xffff)
 }
 
 /// Reads a trace into the lent rows, six numbers each. Refusals 1 to 3 keep both slices, 4 to 12 fill them with 0.
 pub fn check_trace(text: &[u8], s: Settings, rows: &mut [u32], counts: &mut [u16]) -> Checked {
     // The three slices are live for the call, and the two lent for writing are borrowed by it alone.
-    let answer = unsafe {
+    checked(unsafe {
         ffi::kiqsaryn_check_trace(
             text.as_ptr(),
             text.len(),
@@ -121,13 +134,7 @@ pub fn check_trace(text: &[u8], s: Settings, rows: &mut [u32], counts: &mut [u16
             counts.as_mut_ptr(),
             counts.len(),
         )
-    };
-    let (number, value) = ((answer >> 32) as u32, answer as u32);
-    if number == 0 {
-        Checked::Accepted(value)
-    } else {
-        Checked::Refused { refusal: refused(number), place: value }
-    }
+    })
 }
 
 /// What a trace comes to in one call.
@@ -159,11 +166,10 @@ pub fn judge(text: &[u8], s: Settings, rows: &mut [u32], counts: &mut [u16]) -> 
             counts.len(),
         )
     };
-    let word = |k: u32| (answer >> (16 * k)) as u32 & 0xffff;
-    match (word(3), word(1)) {
-        (0, 0) => Judged::Free { rows: word(0) },
-        (0, later) => Judged::Race { rows: word(0), earlier: word(2), later },
-        (number, _) => Judged::Refused { refusal: refused(number), place: word(0) },
+    match words(answer) {
+        [rows, 0, _, 0] => Judged::Free { rows },
+        [rows, later, earlier, 0] => Judged::Race { rows, earlier, later },
+        [place, _, _, number] => Judged::Refused { refusal: refused(number), place },
     }
 }
 
@@ -242,6 +248,91 @@ pub fn write(rows: &[u32], n: u32, header: u32, process_limit: u32, out: &mut [u
     match ((answer >> 32) as u32, answer as u32) {
         (0, length) => Written::Length(length as usize),
         (number, place) => Written::Refused { refusal: refused(number), place },
+    }
+}
+
+// ---- Two files joined
+
+/// How two files are to be joined.
+#[derive(Clone, Copy, Debug)]
+pub struct JoinSettings {
+    /// For each file, 0: its first record is its row 1. 1: it is its header.
+    pub headers: [u32; 2],
+    pub model: u32,
+    pub row_limit: u32,
+    pub process_limit: u32,
+}
+
+/// Reads one file of a join by itself into the lent rows, six numbers each. It asks as `check_trace` does, without a byte limit and without
+/// question 12, since a message may be sent in the other file. Refusals 1 to 3 keep the slice, and later ones fill it with 0.
+pub fn read_file(text: &[u8], header: u32, row_limit: u32, process_limit: u32, rows: &mut [u32]) -> Checked {
+    // Both slices are live for the call, and the one lent for writing is borrowed by it alone.
+    checked(unsafe { ffi::kiqsaryn_read_file(text.as_ptr(), text.len(), header, row_limit, process_limit, rows.as_mut_ptr(), rows.len()) })
+}
+
+/// Where the record of a joined row stands.
+#[derive(Clone, Copy, Debug, PartialEq, Eq)]
+pub struct Part {
+    /// 1 for the first file, 2 for the second.
+    pub file: u64,
+    /// Where the record starts in that file, and where it ends, before its line end.
+    pub start: u64,
+    pub end: u64,
+}
+
+impl Part {
+    /// The part at a place of a slice with three numbers for each joined row.
+    pub fn at(parts: &[u64], k: usize) -> Option<Part> {
+        match parts.get(k.checked_mul(3)?..)? {
+            [file, start, end, ..] => Some(Part { file: *file, start: *start, end: *end }),
+            _ => None,
+        }
+    }
+}
+
+/// What a join comes to.
+#[derive(Clone, Copy, Debug, PartialEq, Eq)]
+pub enum Joined {
+    /// The number of joined rows, of which no two race.
+    Free { rows: u32 },
+    /// The number of joined rows, and the row numbers in the join of the first race.
+    Race { rows: u32, earlier: u32, later: u32 },
+    /// The question that was answered No and the record's place, in the file of that number, or in the join where the file is 0; both are 0
+    /// where the refusal is about no record.
+    Refused { refusal: Refusal, place: u32, file: u32 },
+}
+
+/// Joins two files into one trace, fills its counts and judges it under the model. The next record comes from the first file, unless that
+/// file is at its end or its next row waits: it receives a message that no joined row has sent. Then it comes from the second on the same
+/// condition. `rows` takes the joined rows, six numbers each, `counts` their counts, and `parts` for each where its record stands, three numbers;
+/// behind them all three are cleared. The questions: 1 to 3 (1 also asks for three numbers a row in `parts`), 4 to 11 of the first file, then of
+/// the second, 19, then 6 and 12 of each joined row, and 20 where each next row waits. Refusals 1 to 3 keep the slices, and any other fills
+/// them with 0.
+pub fn join(first: &[u8], second: &[u8], s: JoinSettings, rows: &mut [u32], counts: &mut [u16], parts: &mut [u64]) -> Joined {
+    // The five slices are live for the call, and the three lent for writing are borrowed by it alone.
+    let answer = unsafe {
+        ffi::kiqsaryn_join(
+            first.as_ptr(),
+            first.len(),
+            s.headers[0],
+            second.as_ptr(),
+            second.len(),
+            s.headers[1],
+            s.model,
+            s.row_limit,
+            s.process_limit,
+            rows.as_mut_ptr(),
+            rows.len(),
+            counts.as_mut_ptr(),
+            counts.len(),
+            parts.as_mut_ptr(),
+            parts.len(),
+        )
+    };
+    match words(answer) {
+        [rows, 0, _, 0] => Joined::Free { rows },
+        [rows, later, earlier, 0] => Joined::Race { rows, earlier, later },
+        [place, file, _, number] => Joined::Refused { refusal: refused(number), place, file },
     }
 }
 

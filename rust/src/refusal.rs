@@ -21,10 +21,12 @@ pub enum Refusal {
     MapSpace,
     AnswerSpace,
     TextSpace,
+    SharedProcess,
+    Stuck,
 }
 
 impl Refusal {
-    pub const ALL: [Refusal; 18] = [
+    pub const ALL: [Refusal; 20] = [
         Refusal::ShortSlice,
         Refusal::Limits,
         Refusal::HeaderWord,
@@ -43,6 +45,8 @@ impl Refusal {
         Refusal::MapSpace,
         Refusal::AnswerSpace,
         Refusal::TextSpace,
+        Refusal::SharedProcess,
+        Refusal::Stuck,
     ];
 
     /// The number that the documents give it, from 1.
@@ -80,6 +84,8 @@ impl Refusal {
             Refusal::MapSpace => "Does every map after the row fit its space?",
             Refusal::AnswerSpace => "Does the read's list of pieces fit the lent answer slice?",
             Refusal::TextSpace => "Does the text fit the lent slice from its place on?",
+            Refusal::SharedProcess => "Does every process have its rows in one of the two files alone?",
+            Refusal::Stuck => "Can one of the next rows be taken: is it no recv, or a recv of a message that a taken row has sent?",
         }
     }
 }
