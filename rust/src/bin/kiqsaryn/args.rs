@@ -11,6 +11,7 @@ pub enum Topic {
     Replay,
     Diagram,
     Write,
+    Join,
 }
 
 pub enum Source {
@@ -18,11 +19,38 @@ pub enum Source {
     Path(PathBuf),
 }
 
-/// What every command is told of a trace.
-pub struct Common {
-    pub trace: Source,
+/// A trace, and whether its first record is a header.
+pub struct Input {
+    pub source: Source,
     pub header: bool,
+}
+
+/// One trace, or two that are joined.
+pub enum Inputs {
+    One(Input),
+    Two([Input; 2]),
+}
+
+impl Inputs {
+    pub fn all(&self) -> &[Input] {
+        match self {
+            Inputs::One(input) => std::slice::from_ref(input),
+            Inputs::Two(inputs) => inputs,
+        }
+    }
+}
+
+/// What every command is told of its traces.
+pub struct Common {
+    pub inputs: Inputs,
     pub processes: u32,
+}
+
+/// Where `join` writes the joined trace.
+pub enum Output {
+    Nowhere,
+    Standard,
+    File(PathBuf),
 }
 
 /// What is to be done. An `output` of none is standard output.
@@ -33,13 +61,15 @@ pub enum Request {
     Replay { common: Common, file: u32, model: Model },
     Diagram { common: Common, model: Model, output: Option<PathBuf> },
     Write { common: Common, out_header: bool, output: Option<PathBuf> },
+    Join { common: Common, models: Vec<Model>, csv: bool, out_header: bool, output: Output },
 }
 
 /// The options as they were given, not yet held against the command.
 #[derive(Default)]
 struct Given {
-    trace: Option<OsString>,
+    traces: Vec<OsString>,
     header: Option<OsString>,
+    headers: Option<OsString>,
     out_header: Option<OsString>,
     processes: Option<OsString>,
     model: Option<OsString>,
@@ -49,11 +79,17 @@ struct Given {
     help: bool,
 }
 
-const WHY_HEADER: &str = "say --header yes or --header no
+const WHY_HEADER: &str = "
   yes: the first record holds the names process,kind,file,offset,length,message
   no:  the first record is row 1
 It is never guessed: a first row taken for a header would be lost, and a
 header taken for a row would be refused or shift every row number.";
+const SAY_HEADER: &str = "say --header yes or --header no";
+const SAY_HEADERS: &str = "say --headers with yes or no for each trace, the first one's first: --headers yes,no";
+const HEADER_IS_FOR_ONE: &str = "--header is for one trace; for two say --headers with a word for each: --headers yes,no";
+const HEADERS_IS_FOR_TWO: &str = "--headers is for two traces; for one say --header yes or --header no";
+const JOIN_TAKES_TWO: &str = "join takes two traces, FIRST and SECOND";
+const STANDARD_TWICE: &str = "standard input can be one of the two traces, not both";
 
 /// Splits `--name=value`; a name alone has no value yet.
 fn split(arg: &str) -> (&str, Option<OsString>) {
@@ -63,14 +99,16 @@ fn split(arg: &str) -> (&str, Option<OsString>) {
     }
 }
 
-fn gather(mut args: impl Iterator<Item = OsString>, allowed: &[&str]) -> Result<Given, String> {
+/// Takes up the arguments of a command with these options and at most so many traces.
+fn gather(mut args: impl Iterator<Item = OsString>, allowed: &[&str], most: usize) -> Result<Given, String> {
     let mut given = Given::default();
     let mut only_paths = false;
     while let Some(arg) = args.next() {
         let is_option = !only_paths && arg != "-" && arg.as_encoded_bytes().first() == Some(&b'-');
         if !is_option {
-            if given.trace.replace(arg).is_some() {
-                return Err("more than one TRACE is given".to_string());
+            given.traces.push(arg);
+            if given.traces.len() > most {
+                return Err(if most == 1 { "more than one TRACE is given" } else { "more than two traces are given" }.to_string());
             }
             continue;
         }
@@ -127,11 +165,18 @@ fn yes_or_no(value: &OsString) -> Option<bool> {
     }
 }
 
+/// The answers for two traces, with a comma between.
+fn yes_or_no_twice(value: &OsString) -> Option<[bool; 2]> {
+    let (first, second) = value.to_str()?.split_once(',')?;
+    Some([yes_or_no(&first.into())?, yes_or_no(&second.into())?])
+}
+
 impl Given {
     /// Where the value of an option is kept.
     fn slot(&mut self, name: &str) -> &mut Option<OsString> {
         match name {
             "--header" => &mut self.header,
+            "--headers" => &mut self.headers,
             "--out-header" => &mut self.out_header,
             "--processes" => &mut self.processes,
             "--model" => &mut self.model,
@@ -145,15 +190,61 @@ impl Given {
         self.output.take().filter(|o| o != "-").map(PathBuf::from)
     }
 
-    fn common(&mut self) -> Result<Common, String> {
-        let trace = match self.trace.take() {
-            None => return Err("no TRACE is given".to_string()),
-            Some(t) if t == "-" => Source::Standard,
-            Some(t) => Source::Path(PathBuf::from(t)),
-        };
-        let header = self.header.as_ref().and_then(yes_or_no).ok_or_else(|| WHY_HEADER.to_string())?;
+    /// The traces and their header words.
+    fn inputs(&mut self, topic: Topic) -> Result<Inputs, String> {
+        let mut traces = std::mem::take(&mut self.traces).into_iter();
+        match (traces.next(), traces.next()) {
+            (Some(first), Some(second)) => self.two_inputs(first, second),
+            _ if topic == Topic::Join => Err(JOIN_TAKES_TWO.to_string()),
+            (Some(_), None) if self.headers.is_some() => Err(HEADERS_IS_FOR_TWO.to_string()),
+            (Some(trace), None) => {
+                let header = self.header.as_ref().and_then(yes_or_no).ok_or_else(|| [SAY_HEADER, WHY_HEADER].concat())?;
+                Ok(Inputs::One(Input { source: source(trace), header }))
+            }
+            (None, _) => Err("no TRACE is given".to_string()),
+        }
+    }
+
+    fn two_inputs(&self, first: OsString, second: OsString) -> Result<Inputs, String> {
+        if self.header.is_some() {
+            return Err(HEADER_IS_FOR_ONE.to_string());
+        }
+        if first == "-" && second == "-" {
+            return Err(STANDARD_TWICE.to_string());
+        }
+        let [header, other] = self.headers.as_ref().and_then(yes_or_no_twice).ok_or_else(|| [SAY_HEADERS, WHY_HEADER].concat())?;
+        Ok(Inputs::Two([Input { source: source(first), header }, Input { source: source(second), header: other }]))
+    }
+
+    fn common(&mut self, topic: Topic) -> Result<Common, String> {
+        let inputs = self.inputs(topic)?;
         let processes = self.processes.as_ref().map_or(Ok(PROCESSES), |v| number("--processes", v, 1, PROCESSES))?;
-        Ok(Common { trace, header, processes })
+        Ok(Common { inputs, processes })
+    }
+
+    /// The models of `--model`: one, or all.
+    fn models(&self) -> Result<Vec<Model>, String> {
+        match &self.model {
+            None => Ok(Model::ALL.to_vec()),
+            Some(word) if word == "all" => Ok(Model::ALL.to_vec()),
+            Some(word) => Ok(vec![one_model(word).map_err(|e| e.replace("posix,", "all, posix,"))?]),
+        }
+    }
+
+    /// Whether the text that is written has a header: as `--out-header` says, or as the first trace has one.
+    fn out_header(&self, common: &Common) -> Result<bool, String> {
+        match &self.out_header {
+            None => Ok(common.inputs.all()[0].header),
+            Some(word) => yes_or_no(word).ok_or_else(|| format!("--out-header is yes or no, not {word:?}")),
+        }
+    }
+}
+
+fn source(trace: OsString) -> Source {
+    if trace == "-" {
+        Source::Standard
+    } else {
+        Source::Path(PathBuf::from(trace))
     }
 }
 
@@ -170,38 +261,35 @@ pub fn parse(args: impl Iterator<Item = OsString>) -> Result<Request, (String, T
         Some("replay") => Topic::Replay,
         Some("diagram") => Topic::Diagram,
         Some("write") => Topic::Write,
+        Some("join") => Topic::Join,
         _ => return Err((format!("there is no command {command:?}"), Topic::All)),
     };
     request(topic, args).map_err(|e| (e, topic))
 }
 
-/// The options that a command has besides `--help`.
-fn allowed(topic: Topic) -> &'static [&'static str] {
+/// The options that a command has besides `--help`, and how many traces it takes at most. `--header` and `--headers` are known everywhere, so that
+/// the one in the place of the other is told.
+fn allowed(topic: Topic) -> (&'static [&'static str], usize) {
     match topic {
-        Topic::All => &[],
-        Topic::Check => &["--header", "--processes", "--model", "--csv"],
-        Topic::Replay => &["--header", "--processes", "--model", "--file"],
-        Topic::Diagram => &["--header", "--processes", "--model", "-o"],
-        Topic::Write => &["--header", "--out-header", "--processes", "-o"],
+        Topic::All => (&[], 0),
+        Topic::Check => (&["--header", "--headers", "--processes", "--model", "--csv"], 2),
+        Topic::Replay => (&["--header", "--headers", "--processes", "--model", "--file"], 2),
+        Topic::Diagram => (&["--header", "--headers", "--processes", "--model", "-o"], 2),
+        Topic::Write => (&["--header", "--headers", "--out-header", "--processes", "-o"], 1),
+        Topic::Join => (&["--header", "--headers", "--out-header", "--processes", "--model", "--csv", "-o"], 2),
     }
 }
 
 fn request(topic: Topic, args: impl Iterator<Item = OsString>) -> Result<Request, String> {
-    let mut given = gather(args, allowed(topic))?;
+    let (options, most) = allowed(topic);
+    let mut given = gather(args, options, most)?;
     if given.help {
         return Ok(Request::Help(topic));
     }
-    let common = given.common()?;
+    let common = given.common(topic)?;
     match topic {
         Topic::All => Ok(Request::Help(topic)),
-        Topic::Check => {
-            let models = match &given.model {
-                None => Model::ALL.to_vec(),
-                Some(word) if word == "all" => Model::ALL.to_vec(),
-                Some(word) => vec![one_model(word).map_err(|e| e.replace("posix,", "all, posix,"))?],
-            };
-            Ok(Request::Check { common, models, csv: given.csv })
-        }
+        Topic::Check => Ok(Request::Check { common, models: given.models()?, csv: given.csv }),
         Topic::Replay => {
             let Some(file) = &given.file else {
                 return Err("say which file: --file 0 to --file 63".to_string());
@@ -215,12 +303,19 @@ fn request(topic: Topic, args: impl Iterator<Item = OsString>) -> Result<Request
             let model = given.model.as_ref().map_or(Ok(Model::Commit), one_model)?;
             Ok(Request::Diagram { common, model, output: given.output() })
         }
-        Topic::Write => {
-            let out_header = match &given.out_header {
-                None => common.header,
-                Some(word) => yes_or_no(word).ok_or_else(|| format!("--out-header is yes or no, not {word:?}"))?,
-            };
-            Ok(Request::Write { common, out_header, output: given.output() })
-        }
+        Topic::Write => Ok(Request::Write { out_header: given.out_header(&common)?, common, output: given.output() }),
+        Topic::Join => join_request(given, common),
     }
+}
+
+fn join_request(mut given: Given, common: Common) -> Result<Request, String> {
+    if given.out_header.is_some() && given.output.is_none() {
+        return Err("--out-header goes with -o".to_string());
+    }
+    let (models, csv, out_header) = (given.models()?, given.csv, given.out_header(&common)?);
+    let output = match given.output.is_some() {
+        false => Output::Nowhere,
+        true => given.output().map_or(Output::Standard, Output::File),
+    };
+    Ok(Request::Join { common, models, csv, out_header, output })
 }

@@ -1,18 +1,20 @@
 //! `check`: what was read, the verdicts, and why rows race.
 
 use crate::explain::explain;
-use crate::input::Trace;
+use crate::input::{short_names, Join, Recorded, Trace};
+use crate::recording::Recording;
 use crate::text::{counted, describe, escape, labelled, size};
 use crate::words::words;
-use kiqsaryn::{verdict, Model, Verdict, RECV, SEND};
+use kiqsaryn::{verdict, Model, Row, Verdict, RECV, SEND};
 use std::collections::BTreeMap;
 
 /// The verdicts under the models, in their order. An error is a sentence.
 pub fn judge(trace: &Trace, models: &[Model]) -> Result<Vec<(Model, Verdict)>, String> {
+    let rows = trace.rows();
     let mut counts = vec![0; trace.counts.len()];
     let mut all = Vec::new();
     for model in models {
-        match verdict(&trace.rows, trace.n, trace.processes, model.number(), &mut counts) {
+        match verdict(rows.rows, rows.n, rows.processes, model.number(), &mut counts) {
             Verdict::Refused(_) => return Err(format!("there is no verdict under {}; please report this trace", model.name())),
             v => all.push((*model, v)),
         }
@@ -36,36 +38,33 @@ pub fn csv(verdicts: &[(Model, Verdict)]) -> String {
     s
 }
 
-/// A record as it stands behind a label, and what it says.
-fn shown(trace: &Trace, label: &str, number: u32) -> String {
+/// A record as it stands behind a label, what it says, and where it comes from if that is known.
+fn shown(label: &str, record: &[u8], row: Option<Row>, own: Option<String>) -> String {
     let label = format!("  {label}: ");
-    let mut s = format!("{label}{}\n", escape(trace.record(number), 400));
-    if let Some(row) = trace.rows().row(number) {
-        s.push_str(&format!("{}{}\n", " ".repeat(label.len()), describe(row)));
+    let mut s = format!("{label}{}\n", escape(record, 400));
+    for line in row.map(describe).into_iter().chain(own) {
+        s.push_str(&format!("{}{line}\n", " ".repeat(label.len())));
     }
     s
 }
 
-/// What was read, to hold against the recorder.
-pub fn what_was_read(trace: &Trace) -> String {
-    let rows = trace.rows();
-    let mut s = format!("Trace: {}\n\nRead, to hold against the recorder:\n", trace.name);
-    s.push_str(&size(trace.text.len(), trace.header, trace.n));
-    if trace.n > 0 {
-        s.push_str(&shown(trace, "first row", 1));
-    }
-    if trace.n > 1 {
-        s.push_str(&shown(trace, "last row", trace.n));
-    }
+/// A row of a trace, shown under its number.
+fn shown_row(trace: &Trace, number: u32) -> String {
+    shown(&format!("row {number}"), trace.record(number), trace.rows().row(number), trace.own_name(number))
+}
+
+/// How many rows each process has, each file, and the messages.
+fn tallies(recording: &Recording) -> String {
     let (mut processes, mut files) = (BTreeMap::new(), BTreeMap::new());
     let mut messages = 0;
-    for (_, row) in rows.all() {
+    for (_, row) in recording.all() {
         *processes.entry(row.process).or_insert(0) += 1;
         match row.kind {
             SEND | RECV => messages += 1,
             _ => *files.entry(row.file).or_insert(0) += 1,
         }
     }
+    let mut s = String::new();
     for (p, n) in processes {
         s.push_str(&format!("  process {p}: {}\n", counted(n, "row")));
     }
@@ -78,16 +77,44 @@ pub fn what_was_read(trace: &Trace) -> String {
     s
 }
 
+/// What was read of one trace, to hold against the recorder.
+fn what_was_read(label: &str, recording: &Recording) -> String {
+    let n = recording.n;
+    let mut s = format!("{label}: {}\n\nRead, to hold against the recorder:\n", recording.name);
+    s.push_str(&size(recording.text.len(), recording.header, n));
+    if n > 0 {
+        s.push_str(&shown("first row", recording.record(1), recording.row(1), None));
+    }
+    if n > 1 {
+        s.push_str(&shown("last row", recording.record(n), recording.row(n), None));
+    }
+    s.push_str(&tallies(recording));
+    s
+}
+
+/// What was read of two traces.
+pub fn what_was_read_of_two(recordings: &[Recording; 2]) -> String {
+    [what_was_read("First trace", &recordings[0]), what_was_read("Second trace", &recordings[1])].join("\n")
+}
+
+/// How many rows a join has, and how many of each trace.
+pub fn what_was_joined(join: &Join) -> String {
+    let names = short_names(&join.recordings);
+    let [first, second] = [0, 1].map(|k| format!("{} of {}", join.recordings[k].n, names[k]));
+    labelled("Joined: ", &format!("{}, {first} and {second}", counted(u64::from(join.n), "row")))
+}
+
 /// Both rows of a race, the bytes they share, and for each model what is missing between them.
 fn race(trace: &Trace, models: &[Model], earlier: u32, later: u32) -> String {
     let rows = trace.rows();
     let names: Vec<&str> = models.iter().map(|m| m.name()).collect();
     let mut s = format!("\nRace of row {earlier} and row {later} under {}\n", names.join(", "));
-    s.push_str(&shown(trace, &format!("row {earlier}"), earlier));
-    s.push_str(&shown(trace, &format!("row {later}"), later));
+    s.push_str(&shown_row(trace, earlier));
+    s.push_str(&shown_row(trace, later));
     let mut shared = None;
     for model in models {
-        let words = explain(&rows, *model, earlier, later).and_then(|e| words(&e, &rows));
+        let name = &mut trace.naming(&[earlier, later]);
+        let words = explain(&rows, *model, earlier, later).and_then(|e| words(&e, &rows, name));
         if let (None, Some(w)) = (&shared, &words) {
             s.push_str(&labelled("  shared: ", &w.shared));
             shared = Some(());
@@ -101,9 +128,9 @@ fn race(trace: &Trace, models: &[Model], earlier: u32, later: u32) -> String {
     s
 }
 
-pub fn report(trace: &Trace, verdicts: &[(Model, Verdict)]) -> String {
-    let mut s = what_was_read(trace);
-    s.push_str("\nVerdicts:\n");
+/// The verdicts, and why rows race.
+fn judged(trace: &Trace, verdicts: &[(Model, Verdict)]) -> String {
+    let mut s = "\nVerdicts:\n".to_string();
     let mut pairs: Vec<((u32, u32), Vec<Model>)> = Vec::new();
     for (model, v) in verdicts {
         let words = match v {
@@ -113,11 +140,11 @@ pub fn report(trace: &Trace, verdicts: &[(Model, Verdict)]) -> String {
                     Some((_, models)) => models.push(*model),
                     None => pairs.push((pair, vec![*model])),
                 }
-                format!("race, row {earlier} and row {later}")
+                format!("race, {} and {}", trace.row_name(*earlier), trace.row_name(*later))
             }
             _ => "free".to_string(),
         };
-        s.push_str(&format!("  {:8} {words}\n", model.name()));
+        s.push_str(&labelled(&format!("  {:8} ", model.name()), &words));
     }
     for ((earlier, later), models) in &pairs {
         s.push_str(&race(trace, models, *earlier, *later));
@@ -128,4 +155,12 @@ pub fn report(trace: &Trace, verdicts: &[(Model, Verdict)]) -> String {
         _ => "\nThese are the first races; there may be more. After a repair, check again.\n",
     });
     s
+}
+
+pub fn report(trace: &Trace, verdicts: &[(Model, Verdict)]) -> String {
+    let read = match &trace.source {
+        Recorded::Alone(recording) => what_was_read("Trace", recording),
+        Recorded::Joined(join) => [what_was_read_of_two(&join.recordings), what_was_joined(join)].join("\n"),
+    };
+    read + &judged(trace, verdicts)
 }

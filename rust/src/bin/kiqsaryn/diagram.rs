@@ -3,7 +3,8 @@
 
 use crate::check::judge;
 use crate::explain::explain;
-use crate::input::Trace;
+use crate::input::{Recorded, Trace};
+use crate::recording::Recording;
 use crate::text::{counted, describe, wrap};
 use crate::words::words;
 use kiqsaryn::{Model, Row, Verdict, KINDS, READ, RECV, SEND, WRITE};
@@ -17,8 +18,9 @@ const BOX: usize = 22;
 const GAP: usize = 50;
 const HEAD: usize = 34;
 const HEAD_EVERY: usize = 40;
-/// Bytes in a line of text above the lanes.
+/// Bytes in a line of text above the lanes, and in the longest line of the legend.
 const TEXT: usize = 100;
+const LEGEND: usize = TEXT + 6;
 
 const STYLE: &str = "text{font-family:monospace;font-size:12px;fill:#111}
 .big{font-size:15px;font-weight:bold}
@@ -72,8 +74,19 @@ fn short_name(name: &str) -> String {
     format!("...{}", name.chars().skip(count - most).collect::<String>())
 }
 
+/// The letters of the two traces of a join.
+const LETTERS: [char; 2] = ['A', 'B'];
+
+/// A joined row's letter, and its number in that trace.
+fn letter(trace: &Trace, number: u32) -> Option<(char, u32)> {
+    match &trace.source {
+        Recorded::Alone(_) => None,
+        Recorded::Joined(join) => join.origin(number).and_then(|o| Some((*LETTERS.get(o.recording)?, o.number))),
+    }
+}
+
 /// The short text in a row's box.
-fn label(number: u32, row: Row, received: bool) -> String {
+fn label(trace: &Trace, number: u32, row: Row, received: bool) -> String {
     let kind = KINDS.get(row.kind as usize).copied().unwrap_or("?");
     let rest = match row.kind {
         READ | WRITE => match row.length {
@@ -85,7 +98,10 @@ fn label(number: u32, row: Row, received: bool) -> String {
         SEND | RECV => format!("m{}", row.message),
         _ => format!("f{}", row.file),
     };
-    format!("{number} {kind} {rest}")
+    match letter(trace, number) {
+        None => format!("{number} {kind} {rest}"),
+        Some((letter, own)) => format!("{number} {letter}{own} {kind} {rest}"),
+    }
 }
 
 fn class(kind: u32) -> &'static str {
@@ -117,54 +133,77 @@ impl Shape {
     }
 }
 
-/// A lane: its left end and its width.
+/// A lane: its left end, its width, and the letter of its trace in a join.
 struct Lane {
     x: usize,
     width: usize,
+    letter: Option<char>,
 }
 
 /// The lanes by process, and where the last one ends.
-fn lanes(rows: &[(u32, Row, String)]) -> (BTreeMap<u32, Lane>, usize) {
-    let mut widths: BTreeMap<u32, usize> = BTreeMap::new();
-    for (_, row, label) in rows {
-        let w = widths.entry(row.process).or_insert(wide("process 63".len()));
-        *w = (*w).max(wide(label.len()) + 12);
+fn lanes(trace: &Trace, rows: &[(u32, Row, String)]) -> (BTreeMap<u32, Lane>, usize) {
+    let mut all: BTreeMap<u32, Lane> = BTreeMap::new();
+    for (number, row, label) in rows {
+        let letter = letter(trace, *number).map(|(letter, _)| letter);
+        let head = if letter.is_some() { "process 63 (B)" } else { "process 63" };
+        let lane = all.entry(row.process).or_insert(Lane { x: 0, width: wide(head.len()), letter });
+        lane.width = lane.width.max(wide(label.len()) + 12);
     }
     let mut x = MARGIN;
-    let mut all = BTreeMap::new();
-    for (process, width) in widths {
-        all.insert(process, Lane { x, width });
-        x += width + GAP;
+    for lane in all.values_mut() {
+        lane.x = x;
+        x += lane.width + GAP;
     }
     (all, x)
 }
 
 /// What is said above the lanes: a class and a line each.
-fn heading(trace: &Trace, model: Model, race: Option<(u32, u32)>) -> (Vec<(&'static str, String)>, Option<String>) {
-    let rows = trace.rows();
-    let mut lines = vec![("big", format!("{}: {}", short_name(&trace.name), counted(u64::from(trace.n), "row")))];
-    let mut shared = None;
-    match race {
-        None => lines.push(("free", format!("Free under {}: no two rows race.", model.name()))),
-        Some((earlier, later)) => {
-            lines.push(("race", format!("Race under {}: row {earlier} and row {later}.", model.name())));
-            match explain(&rows, model, earlier, later).and_then(|e| words(&e, &rows)) {
-                None => lines.push(("race", "no explanation found; please report this trace".to_string())),
-                Some(w) => {
-                    let mut say =
-                        |label: &str, text: &str| lines.extend(wrap(&format!("{label}: {text}"), TEXT).into_iter().map(|l| ("", l)));
-                    say("Shared", &format!("{}.", w.shared));
-                    w.lines.iter().for_each(|(label, line)| say(label, line));
-                    shared = Some(w.shared);
-                }
-            }
+type Lines = Vec<(&'static str, String)>;
+
+/// The traces and their rows.
+fn titles(trace: &Trace) -> Lines {
+    let rows = |n: u32| counted(u64::from(n), "row");
+    match &trace.source {
+        Recorded::Alone(recording) => vec![("big", format!("{}: {}", short_name(&recording.name), rows(recording.n)))],
+        Recorded::Joined(join) => {
+            let each = |r: &Recording, letter: char| ("", format!("{letter}: {}, {}", short_name(&r.name), rows(r.n)));
+            let [first, second] = &join.recordings;
+            vec![("big", format!("Two traces joined: {}", rows(join.n))), each(first, LETTERS[0]), each(second, LETTERS[1])]
         }
     }
-    (lines, shared)
+}
+
+/// The traces, the verdict, and why rows race; and the bytes that a racing pair shares.
+fn heading(trace: &Trace, model: Model, race: Option<(u32, u32)>) -> (Lines, Option<String>) {
+    let rows = trace.rows();
+    let mut lines = titles(trace);
+    let Some((earlier, later)) = race else {
+        lines.push(("free", format!("Free under {}: no two rows race.", model.name())));
+        return (lines, None);
+    };
+    let name = &mut trace.naming(&[]);
+    let verdict = format!("Race under {}: {} and {}.", model.name(), name(earlier), name(later));
+    lines.extend(wrap(&verdict, TEXT).into_iter().map(|l| ("race", l)));
+    let Some(w) = explain(&rows, model, earlier, later).and_then(|e| words(&e, &rows, name)) else {
+        lines.push(("race", "no explanation found; please report this trace".to_string()));
+        return (lines, None);
+    };
+    let mut say = |label: &str, text: &str| lines.extend(wrap(&format!("{label}: {text}"), TEXT).into_iter().map(|l| ("", l)));
+    say("Shared", &format!("{}.", w.shared));
+    w.lines.iter().for_each(|(label, line)| say(label, line));
+    (lines, Some(w.shared))
+}
+
+/// What stands in a box.
+fn in_a_box(trace: &Trace) -> &'static str {
+    match &trace.source {
+        Recorded::Alone(_) => "In a box: row number, kind, f file, first-last byte, m message. Rows go down in the order of the trace.",
+        Recorded::Joined(_) => "In a box: row, A or B and the row there, kind, f file, first-last byte, m message. Rows go down as joined.",
+    }
 }
 
 /// The legend, from a height on.
-fn legend(s: &mut String, y: usize) {
+fn legend(s: &mut String, trace: &Trace, y: usize) {
     let mut x = MARGIN;
     let samples = [("read", "read"), ("write", "write"), ("share", "commit open close sync"), ("message", "send recv")];
     for (class, words) in samples {
@@ -179,28 +218,28 @@ fn legend(s: &mut String, y: usize) {
     x += 42 + wide("message".len()) + 14;
     s.push_str(&format!("<rect class=\"paper racing\" x=\"{x}\" y=\"{y}\" width=\"34\" height=\"{BOX}\" rx=\"3\"/>\n"));
     write_text(s, "", x + 42, y + 15, "racing row");
-    let words = "In a box: row number, kind, f file, first-last byte, m message. Rows go down in the order of the trace.";
-    write_text(s, "", MARGIN, y + BOX + 18, words);
+    write_text(s, "", MARGIN, y + BOX + 18, in_a_box(trace));
 }
 
 /// The heads of the lanes.
 fn lane_heads(s: &mut String, lanes: &BTreeMap<u32, Lane>, y: usize) {
     for (process, lane) in lanes {
-        write_text(s, "head", lane.x + lane.width / 2, y, &format!("process {process}"));
+        let letter = lane.letter.map_or(String::new(), |letter| format!(" ({letter})"));
+        write_text(s, "head", lane.x + lane.width / 2, y, &format!("process {process}{letter}"));
     }
 }
 
 /// A bracket left of the lanes for the racing pair, and the shared bytes beside both rows.
-fn bracket(s: &mut String, a: &Shape, b: &Shape, shared: &str) {
+fn bracket(s: &mut String, trace: &Trace, a: &Shape, b: &Shape, shared: &str) {
     let (x, from, to) = (MARGIN / 2, a.middle(), b.middle());
     s.push_str(&format!("<path class=\"pair\" d=\"M{} {from}L{x} {from}L{x} {to}L{} {to}\"/>\n", a.x, b.x));
     for (row, other) in [(a, b), (b, a)] {
-        write_text(s, "race note", row.right() + 10, row.middle() + 4, &note(shared, other.number));
+        write_text(s, "race note", row.right() + 10, row.middle() + 4, &note(trace, shared, other));
     }
 }
 
-fn note(shared: &str, other: u32) -> String {
-    format!("shares {shared} with row {other}")
+fn note(trace: &Trace, shared: &str, other: &Shape) -> String {
+    format!("shares {shared} with {}", trace.row_name(other.number))
 }
 
 /// The arrows of the messages; `received` has the row that receives each.
@@ -214,14 +253,14 @@ fn arrows(s: &mut String, shapes: &[Shape], received: &BTreeMap<u32, u32>) {
 }
 
 /// The boxes of the rows, those of a racing pair framed.
-fn boxes(s: &mut String, shapes: &[Shape], lanes: &BTreeMap<u32, Lane>, race: Option<(u32, u32)>) {
+fn boxes(s: &mut String, trace: &Trace, shapes: &[Shape], lanes: &BTreeMap<u32, Lane>, race: Option<(u32, u32)>) {
     for (k, a) in shapes.iter().enumerate() {
         if k % HEAD_EVERY == 0 {
             lane_heads(s, lanes, a.y.saturating_sub(8));
         }
         let racing = if race.is_some_and(|(e, l)| a.number == e || a.number == l) { " racing" } else { "" };
         let (x, y, width, class) = (a.x, a.y, a.width, class(a.row.kind));
-        s.push_str(&format!("<g><title>row {}: {}</title>", a.number, xml(&describe(a.row))));
+        s.push_str(&format!("<g><title>{}: {}</title>", xml(&trace.row_name(a.number)), xml(&describe(a.row))));
         s.push_str(&format!("<rect class=\"{class}{racing}\" x=\"{x}\" y=\"{y}\" width=\"{width}\" height=\"{BOX}\" rx=\"3\"/>"));
         s.push_str(&format!("<text x=\"{}\" y=\"{}\">{}</text></g>\n", x + 6, y + 15, xml(&a.label)));
     }
@@ -232,19 +271,16 @@ fn shape(shapes: &[Shape], number: u32) -> Option<&Shape> {
     shapes.get((number as usize).checked_sub(1)?)
 }
 
-/// The whole picture. An error is a sentence.
-pub fn svg(trace: &Trace, model: Model) -> Result<String, String> {
-    let race = match judge(trace, &[model])?.first() {
-        Some((_, Verdict::Race { earlier, later })) => Some((*earlier, *later)),
-        _ => None,
-    };
-    let received: BTreeMap<u32, u32> = trace.rows().all().filter(|(_, r)| r.kind == RECV).map(|(k, r)| (r.message, k)).collect();
-    let rows: Vec<(u32, Row, String)> = trace.rows().all().map(|(k, r)| (k, r, label(k, r, received.contains_key(&r.message)))).collect();
-    let (lanes, lanes_end) = lanes(&rows);
-    let (lines, shared) = heading(trace, model, race);
+/// The title of the picture.
+fn title(trace: &Trace) -> String {
+    match &trace.source {
+        Recorded::Alone(recording) => recording.name.clone(),
+        Recorded::Joined(join) => join.recordings.each_ref().map(|r| r.name.as_str()).join(" and "),
+    }
+}
 
-    let legend_y = MARGIN + 20 * lines.len() + 10;
-    let top = legend_y + BOX + 18 + HEAD;
+/// The boxes of the rows in their lanes, from a height on.
+fn shapes(rows: Vec<(u32, Row, String)>, lanes: &BTreeMap<u32, Lane>, top: usize) -> Vec<Shape> {
     let mut shapes = Vec::new();
     for (k, (number, row, label)) in rows.into_iter().enumerate() {
         let Some(lane) = lanes.get(&row.process) else {
@@ -253,32 +289,57 @@ pub fn svg(trace: &Trace, model: Model) -> Result<String, String> {
         let y = top + k * LINE + (k / HEAD_EVERY) * HEAD + HEAD / 2;
         shapes.push(Shape { number, row, label, x: lane.x, y, width: lane.width });
     }
-    let pair = race.and_then(|(earlier, later)| Some((shape(&shapes, earlier)?, shape(&shapes, later)?))).zip(shared.as_deref());
-    let notes_end = pair.map_or(0, |((a, b), text)| a.right().max(b.right()) + 10 + wide(note(text, a.number.max(b.number)).len()));
-    let width = lanes_end.max(notes_end).max(MARGIN + wide(TEXT + 6)) + MARGIN;
-    let bottom = shapes.last().map_or(top, |s| s.y + BOX + 8);
-    let height = bottom + MARGIN;
+    shapes
+}
 
+/// What a picture of this size begins with.
+fn beginning(title: &str, width: usize, height: usize) -> String {
     let size = format!("width=\"{width}\" height=\"{height}\" viewBox=\"0 0 {width} {height}\"");
     let mut s = "<?xml version=\"1.0\" encoding=\"UTF-8\"?>\n".to_string();
     s.push_str(&format!("<svg xmlns=\"http://www.w3.org/2000/svg\" {size}>\n"));
-    s.push_str(&format!("<title>{}</title>\n<style>{STYLE}</style>\n", xml(&trace.name)));
+    s.push_str(&format!("<title>{}</title>\n<style>{STYLE}</style>\n", xml(title)));
     s.push_str("<defs><marker id=\"tip\" viewBox=\"0 0 8 8\" refX=\"8\" refY=\"4\" markerWidth=\"8\" markerHeight=\"8\" orient=\"auto\">");
     s.push_str("<path d=\"M0 0L8 4L0 8z\" fill=\"#333\"/></marker></defs>\n");
     s.push_str(&format!("<rect class=\"paper\" x=\"0\" y=\"0\" width=\"{width}\" height=\"{height}\"/>\n"));
+    s
+}
+
+/// The whole picture. An error is a sentence.
+pub fn svg(trace: &Trace, model: Model) -> Result<String, String> {
+    let race = match judge(trace, &[model])?.first() {
+        Some((_, Verdict::Race { earlier, later })) => Some((*earlier, *later)),
+        _ => None,
+    };
+    let received: BTreeMap<u32, u32> = trace.rows().all().filter(|(_, r)| r.kind == RECV).map(|(k, r)| (r.message, k)).collect();
+    let labelled = |(k, r): (u32, Row)| (k, r, label(trace, k, r, received.contains_key(&r.message)));
+    let rows: Vec<(u32, Row, String)> = trace.rows().all().map(labelled).collect();
+    let (lanes, lanes_end) = lanes(trace, &rows);
+    let (lines, shared) = heading(trace, model, race);
+
+    let legend_y = MARGIN + 20 * lines.len() + 10;
+    let top = legend_y + BOX + 18 + HEAD;
+    let shapes = shapes(rows, &lanes, top);
+    let pair = race.and_then(|(earlier, later)| Some((shape(&shapes, earlier)?, shape(&shapes, later)?))).zip(shared.as_deref());
+    let notes_end =
+        pair.map_or(0, |((a, b), text)| a.right().max(b.right()) + 10 + wide(note(trace, text, a).len().max(note(trace, text, b).len())));
+    let lines_end = MARGIN + wide(lines.iter().map(|(_, line)| line.len()).max().unwrap_or(0).max(LEGEND));
+    let width = lanes_end.max(notes_end).max(lines_end) + MARGIN;
+    let bottom = shapes.last().map_or(top, |s| s.y + BOX + 8);
+
+    let mut s = beginning(&title(trace), width, bottom + MARGIN);
     for (i, (class, line)) in lines.iter().enumerate() {
         write_text(&mut s, class, MARGIN, MARGIN + 20 * i + 8, line);
     }
-    legend(&mut s, legend_y);
+    legend(&mut s, trace, legend_y);
     for lane in lanes.values() {
         let x = lane.x + lane.width / 2;
         s.push_str(&format!("<path class=\"lane\" d=\"M{x} {top}L{x} {bottom}\"/>\n"));
     }
     arrows(&mut s, &shapes, &received);
     if let Some(((a, b), text)) = pair {
-        bracket(&mut s, a, b, text);
+        bracket(&mut s, trace, a, b, text);
     }
-    boxes(&mut s, &shapes, &lanes, race);
+    boxes(&mut s, trace, &shapes, &lanes, race);
     s.push_str("</svg>\n");
     Ok(s)
 }

@@ -9,6 +9,8 @@ const ALL: &str = "kiqsaryn - finds storage races in the trace of a storage shel
                                             what each read returned
   kiqsaryn diagram TRACE --header yes|no    the trace as a picture (SVG)
   kiqsaryn write TRACE --header yes|no      the trace as plain text, cleaned
+  kiqsaryn join FIRST SECOND --headers yes|no,yes|no
+                                            two controllers' traces as one
   kiqsaryn COMMAND --help                   the options of a command
   kiqsaryn --version
 
@@ -19,10 +21,13 @@ and lines that end in CR LF; - reads standard input. It has at most 4096 rows,
 --header says whether the first record holds these names (yes) or is row 1
 (no). It is always asked and never guessed.
 
+check, replay and diagram also take two traces, FIRST SECOND, with --headers in
+the place of --header, and work on their join.
+
 Exit status:
   0  free under every model asked for; replay, diagram or write done
   1  a race under at least one of them
-  2  the trace is refused
+  2  the trace, or the join of two, is refused
   3  the command line is wrong, or a file cannot be read or written
 
 Example:
@@ -30,16 +35,21 @@ Example:
 ";
 
 const CHECK: &str = "kiqsaryn check TRACE --header yes|no [--processes N] [--model NAME] [--csv]
+kiqsaryn check FIRST SECOND --headers yes|no,yes|no [--processes N]
+               [--model NAME] [--csv]
 
 Says what was read, to hold against the recorder, then the verdict under each
 model. For a race it shows both rows, the bytes they share, and what is missing
-between them.
+between them. Two traces are joined first (kiqsaryn join --help); each row is
+then shown with its own trace and its number there.
 
   --header yes|no   the first record holds the names (yes) or is row 1 (no)
+  --headers A,B     the same for two traces: A for the first, B for the second
   --processes N     process numbers are below N; 1 to 64, 64 if left out
   --model NAME      posix, commit, session, mpiio, or all; all if left out
   --csv             only the lines model,verdict,earlier,later (CR LF), or
-                    refused,NUMBER,PLACE
+                    refused,NUMBER,PLACE; of two traces their rows in the join,
+                    or refused,NUMBER,PLACE,TRACE (1 or 2, 0 for the join)
 
 A verdict names the first race: the one with the smallest later row, then the
 smallest earlier row. There may be more behind it; check again after a repair.
@@ -53,21 +63,27 @@ Examples:
   kiqsaryn check shelf.csv --header yes
   kiqsaryn check old-shelf.csv --header no --model commit
   kiqsaryn check - --header yes --csv < shelf.csv
+  kiqsaryn check left.csv right.csv --headers yes,no
 ";
 
 const REPLAY: &str = "kiqsaryn replay TRACE --header yes|no --file F --model M [--processes N]
+kiqsaryn replay FIRST SECOND --headers yes|no,yes|no --file F --model M
+                [--processes N]
 
 Puts the rows of one file, in the order of the trace, to the buffers of the
 model and to one plain file. For each read it lists the bytes and the row that
-wrote them, in both. STALE marks bytes where the two differ.
+wrote them, in both. STALE marks bytes where the two differ. Two traces are
+joined first; each row is then shown with its own trace and its number there.
 
   --header yes|no   the first record holds the names (yes) or is row 1 (no)
+  --headers A,B     the same for two traces: A for the first, B for the second
   --file F          the file, 0 to 63
   --model M         posix, commit, session or mpiio
   --processes N     process numbers are below N; 1 to 64, 64 if left out
 
 The last line counts the reads, the bytes read and the stale bytes.
-It shows the one order that was recorded; check judges every allowed order.
+It shows the one order that was recorded, of two traces the order of the join;
+check judges every allowed order.
 
 Exit status: 0 done, 2 refused, 3 wrong command line or file error.
 
@@ -76,13 +92,17 @@ Example:
 ";
 
 const DIAGRAM: &str = "kiqsaryn diagram TRACE --header yes|no [--model M] [--processes N] [-o FILE]
+kiqsaryn diagram FIRST SECOND --headers yes|no,yes|no [--model M]
+                 [--processes N] [-o FILE]
 
 Draws the trace as an SVG picture for a browser: a lane for each process, the
 rows from top to bottom in the order of the trace, messages as arrows. The
 first race under the model is framed in red, with the bytes that both rows
-touch and what is missing between them.
+touch and what is missing between them. Two traces are joined first; A and B
+then tell the trace of each row.
 
   --header yes|no   the first record holds the names (yes) or is row 1 (no)
+  --headers A,B     the same for two traces: A for the first, B for the second
   --model M         posix, commit, session or mpiio; commit if left out
   --processes N     process numbers are below N; 1 to 64, 64 if left out
   -o FILE           write to FILE; standard output if left out, or for -
@@ -90,7 +110,7 @@ touch and what is missing between them.
 FILE is replaced only once the picture is complete: it is written to a new file
 beside it, which then takes its name and keeps its mode. If FILE is a symbolic
 link, the file that it leads to is replaced; a pipe or a device is written to
-as it stands. FILE cannot be the trace, under whatever name.
+as it stands. FILE cannot be a trace that is read, under whatever name.
 
 Exit status: 0 done, 2 refused, 3 wrong command line or file error.
 
@@ -127,6 +147,45 @@ Examples:
   kiqsaryn write old-shelf.csv --header no --out-header yes > shelf.csv
 ";
 
+const JOIN: &str = "kiqsaryn join FIRST SECOND --headers yes|no,yes|no [--processes N]
+              [--model NAME] [--csv] [-o FILE [--out-header yes|no]]
+
+Joins the traces of two controllers, each of its own processes, into one trace.
+Says what was read of each, to hold against the recorders, then the verdict on
+the join under each model; each row of a race is shown with its own trace and
+its number there.
+
+The next row comes from FIRST, unless FIRST is at its end or its next row is a
+recv whose message no row taken so far has sent; then it comes from SECOND on
+the same condition. The verdict is free exactly where it is free for every
+other order that keeps the rows of each trace in order and each recv after its
+send.
+
+  --headers A,B        the first record holds the names (yes) or is row 1 (no):
+                       A for FIRST, B for SECOND
+  --processes N        process numbers are below N; 1 to 64, 64 if left out
+  --model NAME         posix, commit, session, mpiio, or all; all if left out
+  --csv                only the lines of check --csv
+  -o FILE              write the joined trace as plain text to FILE, as write
+                       does; to standard output for -
+  --out-header yes|no  write the names first (yes) or not (no); as FIRST has
+                       them if left out
+
+FIRST or SECOND, not both, can be - for standard input. Refused are also: two
+traces of which both have rows of one process (19), and two that wait for each
+other, or for a message that none sends (20). The join has at most 4096 rows.
+
+With -o, what is said comes once all is written: on standard output, or on
+standard error where the text went to standard output. FILE is replaced as by
+write, and cannot be one of the traces, under whatever name.
+
+Exit status: 0 free, 1 race, 2 refused, 3 wrong command line or file error.
+
+Examples:
+  kiqsaryn join left.csv right.csv --headers yes,yes
+  kiqsaryn join left.csv right.csv --headers yes,no --model commit -o both.csv
+";
+
 pub fn help(topic: Topic) -> &'static str {
     match topic {
         Topic::All => ALL,
@@ -134,6 +193,7 @@ pub fn help(topic: Topic) -> &'static str {
         Topic::Replay => REPLAY,
         Topic::Diagram => DIAGRAM,
         Topic::Write => WRITE,
+        Topic::Join => JOIN,
     }
 }
 
@@ -145,5 +205,6 @@ pub fn hint(topic: Topic) -> &'static str {
         Topic::Replay => "kiqsaryn replay --help shows the options.",
         Topic::Diagram => "kiqsaryn diagram --help shows the options.",
         Topic::Write => "kiqsaryn write --help shows the options.",
+        Topic::Join => "kiqsaryn join --help shows the options.",
     }
 }

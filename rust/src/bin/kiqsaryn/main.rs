@@ -1,4 +1,4 @@
-//! The command `kiqsaryn`: reads a trace, asks the proved library, and prints its answers in words.
+//! The command `kiqsaryn`: reads a trace, or two that it joins, asks the proved library, and prints its answers in words.
 
 mod args;
 mod check;
@@ -7,15 +7,18 @@ mod explain;
 mod help;
 mod input;
 mod output;
+mod recording;
 mod refused;
 mod replay;
 mod standard;
 mod text;
+mod turns;
 mod words;
 mod write;
 
-use args::{Common, Request};
+use args::{Common, Inputs, Output, Request};
 use input::{Loaded, Trace};
+use kiqsaryn::Model;
 use output::Place;
 use std::io::{self, Write};
 use std::path::PathBuf;
@@ -50,16 +53,22 @@ impl Outcome {
     }
 }
 
-/// Loads a trace and does the rest with it if it is accepted. Output to places of which one would overwrite the trace is not begun.
+/// Loads one trace or the join of two, and does the rest with it if it is accepted. Output to places of which one would overwrite a trace is not
+/// begun.
 fn with_trace(
     common: &Common,
     places: &[Place],
     refused: impl Fn(&input::Refused) -> Outcome,
     accepted: impl Fn(&Trace) -> Result<Outcome, String>,
 ) -> Outcome {
-    match places.iter().find(|place| output::overwrites(&common.trace, place)) {
-        Some(Place::File(_)) => return Outcome::failed("-o names the trace itself; nothing is written"),
-        Some(Place::Output) => return Outcome::failed("standard output is the trace itself; nothing is written"),
+    let trace = match &common.inputs {
+        Inputs::One(_) => "the trace itself",
+        Inputs::Two(_) => "one of the traces",
+    };
+    let overwrites = |place: &&Place| common.inputs.all().iter().any(|input| output::overwrites(&input.source, place));
+    match places.iter().find(overwrites) {
+        Some(Place::File(_)) => return Outcome::failed(&format!("-o names {trace}; nothing is written")),
+        Some(Place::Output) => return Outcome::failed(&format!("standard output is {trace}; nothing is written")),
         // A sentence on standard error would be written over the trace too.
         Some(Place::Error) => return Outcome::err(String::new(), WRONG),
         None => {}
@@ -76,16 +85,7 @@ fn run(request: Request) -> Outcome {
     match request {
         Request::Help(topic) => Outcome::out(help::help(topic).to_string(), FREE),
         Request::Version => Outcome::out(format!("kiqsaryn {}\n", env!("CARGO_PKG_VERSION")), FREE),
-        Request::Check { common, models, csv } => with_trace(
-            &common,
-            &[Place::Output],
-            |r| Outcome::out(if csv { refused::csv(r) } else { refused::report(r) }, REFUSED),
-            |trace| {
-                let verdicts = check::judge(trace, &models)?;
-                let out = if csv { check::csv(&verdicts) } else { check::report(trace, &verdicts) };
-                Ok(Outcome::out(out, if check::any_race(&verdicts) { RACE } else { FREE }))
-            },
-        ),
+        Request::Check { common, models, csv } => run_check(&common, &models, csv),
         Request::Replay { common, file, model } => with_trace(
             &common,
             &[Place::Output],
@@ -99,7 +99,63 @@ fn run(request: Request) -> Outcome {
             |trace| Ok(Outcome { file: output.clone(), ..Outcome::out(diagram::svg(trace, model)?, FREE) }),
         ),
         Request::Write { common, out_header, output } => run_write(&common, out_header, output),
+        Request::Join { common, models, csv, output: Output::Nowhere, .. } => run_check(&common, &models, csv),
+        Request::Join { common, models, csv, out_header, output: Output::Standard } => run_join(&common, &models, csv, out_header, None),
+        Request::Join { common, models, csv, out_header, output: Output::File(file) } => {
+            run_join(&common, &models, csv, out_header, Some(file))
+        }
     }
+}
+
+/// The verdicts in the form that is asked for, and the exit status.
+fn judged(trace: &Trace, models: &[Model], csv: bool) -> Result<(String, u8), String> {
+    let verdicts = check::judge(trace, models)?;
+    let words = if csv { check::csv(&verdicts) } else { check::report(trace, &verdicts) };
+    Ok((words, if check::any_race(&verdicts) { RACE } else { FREE }))
+}
+
+fn refused_words(r: &input::Refused, csv: bool) -> String {
+    if csv {
+        refused::csv(r)
+    } else {
+        refused::report(r)
+    }
+}
+
+fn run_check(common: &Common, models: &[Model], csv: bool) -> Outcome {
+    with_trace(
+        common,
+        &[Place::Output],
+        |r| Outcome::out(refused_words(r, csv), REFUSED),
+        |trace| judged(trace, models, csv).map(|(words, status)| Outcome::out(words, status)),
+    )
+}
+
+/// Writes the join of two traces as plain text, to a file or to standard output, and says then what `check` says and what was written: on standard
+/// output, or on standard error where standard output has the text.
+fn run_join(common: &Common, models: &[Model], csv: bool, header: bool, file: Option<PathBuf>) -> Outcome {
+    let to_standard = file.as_deref().is_none_or(output::is_standard);
+    with_trace(
+        common,
+        &[Place::Error, file.as_deref().map_or(Place::Output, Place::File), Place::Output],
+        |r| {
+            let words = refused_words(r, csv);
+            if to_standard {
+                Outcome::err(words, REFUSED)
+            } else {
+                Outcome::out(words, REFUSED)
+            }
+        },
+        |trace| {
+            let (mut after, status) = judged(trace, models, csv)?;
+            let text = write::text(trace, header)?;
+            if !csv {
+                let name = file.as_deref().map_or("standard output".to_string(), text::path_name);
+                after.push_str(&write::what_was_written(trace, header, &text, &name));
+            }
+            Ok(Outcome { file: file.clone(), after, ..Outcome::out(text, status) })
+        },
+    )
 }
 
 /// Writes a trace as plain text and says what was read and written: to a file or standard output, and to standard output or standard error.

@@ -1,6 +1,7 @@
 //! Where output goes. A file is written whole or not at all: the bytes go to a new file beside it, which takes its name at the end.
 
 use crate::args::Source;
+use crate::recording::{metadata, same_file};
 use crate::standard;
 use std::fs::{self, File, Metadata, OpenOptions, Permissions};
 use std::io::{self, ErrorKind, Write};
@@ -12,11 +13,6 @@ const LINKS: usize = 40;
 /// How many names for the new file are tried, where other files have them.
 const NAMES: usize = 1000;
 
-/// Whether both are one file, under whatever names.
-fn same_file(a: &Metadata, b: &Metadata) -> bool {
-    (a.dev(), a.ino()) == (b.dev(), b.ino())
-}
-
 /// Where a command writes.
 pub enum Place<'a> {
     Output,
@@ -26,16 +22,12 @@ pub enum Place<'a> {
 
 /// Whether output to this place would overwrite the trace. Terminals and pipes keep nothing to overwrite.
 pub fn overwrites(trace: &Source, place: &Place) -> bool {
-    let trace = match trace {
-        Source::Standard => standard::input().and_then(|f| f.metadata()),
-        Source::Path(trace) => fs::metadata(trace),
-    };
     let output = match place {
         Place::Output => standard::output().and_then(|f| f.metadata()),
         Place::Error => standard::error().and_then(|f| f.metadata()),
         Place::File(path) => fs::metadata(path),
     };
-    match (trace, output) {
+    match (metadata(trace), output) {
         (Ok(t), Ok(o)) => (o.is_file() || o.file_type().is_block_device()) && same_file(&t, &o),
         _ => false,
     }

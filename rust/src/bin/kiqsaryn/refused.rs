@@ -1,23 +1,51 @@
-//! A refused trace in words.
+//! A refused trace in words, and two traces whose join is refused.
 
-use crate::input::{byte_limit, Refused};
-use crate::text::{counted, escape, labelled};
-use kiqsaryn::{Refusal, ROWS};
+use crate::check::what_was_read_of_two;
+use crate::input::{row_of, short_names, JoinRefused, Refused, TraceRefused, Which};
+use crate::recording::{byte_limit, Recording};
+use crate::text::{counted, describe, escape, labelled};
+use crate::turns::{turns, Own, Turns};
+use kiqsaryn::{Refusal, RECV, ROWS, SEND};
+use std::collections::BTreeMap;
 
 /// The most bytes of a record that are shown.
 const SHOWN: usize = 200;
 
-/// The line that the program `verdict` prints.
+/// The line that the program `verdict` prints. Where two traces are joined it also has the number of the trace whose place it is.
 pub fn csv(r: &Refused) -> String {
-    format!("refused,{},{}\r\n", r.refusal.number(), r.place)
+    let (refusal, place, file) = match r {
+        Refused::Trace(r) => (r.refusal, r.place, Some(r.which)),
+        Refused::Join(r) => (r.refusal, r.place, None),
+    };
+    let file = match file {
+        Some(Which::Only) => "",
+        Some(Which::First) => ",1",
+        Some(Which::Second) => ",2",
+        None => ",0",
+    };
+    format!("refused,{},{place}{file}\r\n", refusal.number())
 }
 
 pub fn report(r: &Refused) -> String {
+    match r {
+        Refused::Trace(r) => trace_report(r),
+        Refused::Join(r) => join_report(r),
+    }
+}
+
+// ---- One trace
+
+fn trace_report(r: &TraceRefused) -> String {
     let place = match r.place {
         0 => "the header".to_string(),
         k => format!("row {k}"),
     };
-    let mut s = format!("Trace: {}\n\nRefused: number {}, at {place}. There is no verdict.\n", r.name, r.refusal.number());
+    let label = match r.which {
+        Which::Only => "Trace",
+        Which::First => "First trace",
+        Which::Second => "Second trace",
+    };
+    let mut s = format!("{label}: {}\n\nRefused: number {}, at {place}. There is no verdict.\n", r.name, r.refusal.number());
     s.push_str(&format!("  read:        {}, header {}\n", counted(r.bytes as u64, "byte"), if r.header { "yes" } else { "no" }));
     s.push_str(&labelled("  answered No: ", r.refusal.question()));
     s.push_str(&format!("  the record:  {}\n", shown(r)));
@@ -27,7 +55,7 @@ pub fn report(r: &Refused) -> String {
     s
 }
 
-fn shown(r: &Refused) -> String {
+fn shown(r: &TraceRefused) -> String {
     match (r.record.is_empty(), r.bytes) {
         (true, 0) => "none".to_string(),
         (true, _) => "empty".to_string(),
@@ -36,8 +64,13 @@ fn shown(r: &Refused) -> String {
 }
 
 /// Facts about the record that help to repair it.
-fn notes(r: &Refused) -> Vec<String> {
+fn notes(r: &TraceRefused) -> Vec<String> {
     let mut notes = Vec::new();
+    let of = match r.which {
+        Which::Only => "",
+        Which::First => " of the first trace",
+        Which::Second => " of the second trace",
+    };
     if r.stopped {
         let most = byte_limit(r.header);
         notes.push(format!("reading stopped after {most} bytes. No trace that can be accepted is longer."));
@@ -50,14 +83,114 @@ fn notes(r: &Refused) -> Vec<String> {
             notes.push("the record has a line feed (LF) with no carriage return (CR) before it. Records end in CR LF.".to_string());
         }
         Refusal::TooManyRows if r.place > ROWS => notes.push(format!("a trace has at most {ROWS} rows.")),
-        Refusal::Header => notes.push("--header yes says that the first record holds the names.".to_string()),
+        Refusal::Header => notes.push(format!("{} says that the first record{of} holds the names.", r.said)),
         Refusal::NumberRange => notes.push(format!(
             "process is 0 to {} (--processes {}), file 0 to 63, offset and length 0 to 4294967295, message 0 to 65535.",
             r.processes.saturating_sub(1),
             r.processes
         )),
-        _ if r.place == 1 && !r.header => notes.push("--header no says that the first record is row 1.".to_string()),
+        _ if r.place == 1 && !r.header => notes.push(format!("{} says that the first record{of} is row 1.", r.said)),
         _ => {}
     }
     notes
+}
+
+// ---- Two traces
+
+fn join_report(r: &JoinRefused) -> String {
+    let place = match r.place {
+        0 => String::new(),
+        k => format!(", at row {k} of the join"),
+    };
+    let mut s = what_was_read_of_two(&r.recordings);
+    s.push_str(&format!("\nRefused: number {}{place}. There is no verdict.\n", r.refusal.number()));
+    s.push_str(&labelled("  answered No: ", r.refusal.question()));
+    s.push_str(&match r.refusal {
+        Refusal::SharedProcess => in_both(&r.recordings),
+        Refusal::Stuck => waiting(&r.recordings),
+        _ => joined_row(r),
+    });
+    s
+}
+
+/// "row 3 of second.csv: 1,recv,,,,7".
+fn own_record(recordings: &[Recording; 2], own: &Own) -> String {
+    let record = recordings.get(own.recording).map_or(&[][..], |r| r.record(own.number));
+    format!("{}: {}", row_of(recordings, own.recording, own.number), escape(record, SHOWN))
+}
+
+/// The first row of each process.
+fn first_rows(recordings: &[Recording; 2], recording: usize) -> BTreeMap<u32, Own> {
+    let mut first = BTreeMap::new();
+    for (number, row) in recordings[recording].all() {
+        first.entry(row.process).or_insert(Own { recording, number, row });
+    }
+    first
+}
+
+/// 19: a process, a row of it in each trace, and the other processes that have rows in both.
+fn in_both(recordings: &[Recording; 2]) -> String {
+    let [first, second] = [0, 1].map(|k| first_rows(recordings, k));
+    let both: Vec<(&u32, &Own, &Own)> = first.iter().filter_map(|(p, a)| Some((p, a, second.get(p)?))).collect();
+    let mut s = String::new();
+    if let Some((process, a, b)) = both.first() {
+        s.push_str(&labelled(&format!("  {:13}", format!("process {process}:")), &own_record(recordings, a)));
+        s.push_str(&labelled(&" ".repeat(15), &own_record(recordings, b)));
+    }
+    if both.len() > 1 {
+        let all: Vec<String> = both.iter().map(|(p, _, _)| p.to_string()).collect();
+        s.push_str(&labelled("  note:        ", &format!("processes with rows in both traces: {}.", all.join(", "))));
+    }
+    s
+}
+
+/// 20: how many rows were taken, and of each trace the row that waits and its message, or that the trace is at its end.
+fn waiting(recordings: &[Recording; 2]) -> String {
+    let (turns, names) = (turns(recordings, usize::MAX), short_names(recordings));
+    let [first, second] = [0, 1].map(|k| {
+        let n = turns.taken.iter().filter(|own| own.recording == k).count();
+        format!("{} of {}", counted(n as u64, "row"), names[k])
+    });
+    let mut s = labelled("  taken:       ", &format!("{first}, {second}"));
+    for (k, label) in [(0, "  first:       "), (1, "  second:      ")] {
+        s.push_str(&match &turns.next[k] {
+            None => labelled(label, &format!("{} is at its end.", names[k])),
+            Some(own) => waiting_row(recordings, label, own),
+        });
+    }
+    s
+}
+
+/// A row that waits, and where its message is sent, if anywhere.
+fn waiting_row(recordings: &[Recording; 2], label: &str, own: &Own) -> String {
+    let message = own.row.message;
+    let mut s = labelled(label, &own_record(recordings, own));
+    let sends = |k: usize| recordings[k].all().find(|(_, r)| r.kind == SEND && r.message == message).map(|(number, _)| (k, number));
+    let sent = match sends(0).or(sends(1)) {
+        None => "no row of the two traces sends".to_string(),
+        Some((k, number)) => format!("{} sends, behind a row that waits", row_of(recordings, k, number)),
+    };
+    s.push_str(&labelled(&" ".repeat(label.len()), &format!("It waits for message {message}, which {sent}.")));
+    s
+}
+
+/// 6 and 12: the record, where it comes from, and the rows before it with its message.
+fn joined_row(r: &JoinRefused) -> String {
+    let Turns { taken, .. } = turns(&r.recordings, r.place as usize);
+    let Some((last, before)) = taken.split_last().filter(|_| taken.len() == r.place as usize) else {
+        return String::new();
+    };
+    let mut s = labelled("  the record:  ", &own_record(&r.recordings, last));
+    let names = short_names(&r.recordings);
+    if r.refusal == Refusal::TooManyRows {
+        let [first, second] = [0, 1].map(|k| format!("{} has {}", names[k], r.recordings[k].n));
+        s.push_str(&labelled("  note:        ", &format!("a trace has at most {ROWS} rows, and so has a join. {first}, {second}.")));
+        return s;
+    }
+    let talks = |o: &Own| [SEND, RECV].contains(&o.row.kind) && o.row.message == last.row.message;
+    for (own, number) in before.iter().zip(1..).filter(|(o, _)| talks(o)) {
+        let from = row_of(&r.recordings, own.recording, own.number);
+        s.push_str(&labelled("  before it:   ", &format!("row {number} ({from}): {}", describe(own.row))));
+    }
+    s
 }

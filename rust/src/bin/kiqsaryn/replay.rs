@@ -1,6 +1,7 @@
 //! `replay`: what each read of a file gets under a model, next to one plain file.
 
-use crate::input::Trace;
+use crate::input::{Recorded, Trace};
+use crate::recording::Recording;
 use crate::text::{bytes_of, counted, labelled, refusal_of_library};
 use kiqsaryn::{make, make_plain, replay, replay_plain, Header, Model, Refusal, Replayed, Row, READ, SEND, WRITE};
 use std::fmt::{self, Write};
@@ -43,12 +44,12 @@ impl<'a> Runner<'a> {
         };
         made.map_err(|r| refusal_of_library("the replay cannot start", r))?;
         let answer = (header.map_space as usize + 1).saturating_mul(3).max(ANSWER);
-        Ok(Runner { trace, model, header, maps, counts: vec![0; trace.n as usize], out: vec![0; answer], done: 0 })
+        Ok(Runner { trace, model, header, maps, counts: vec![0; trace.rows().n as usize], out: vec![0; answer], done: 0 })
     }
 
     /// Goes on up to row `n`, or until the answer slice is full, and takes out the reads on the way.
     fn go(&mut self, n: u32, reads: &mut Vec<Answered>) -> Result<(), String> {
-        let (first, rows) = (self.done, &self.trace.rows);
+        let (first, rows) = (self.done, self.trace.rows().rows);
         let Replayed { rows: reached, refusal } = match self.model {
             Some(m) => replay(m.number(), self.header, &mut self.maps, rows, first, n, &mut self.counts, &mut self.out),
             None => replay_plain(self.header, &mut self.maps, rows, first, n, &mut self.counts, &mut self.out),
@@ -105,77 +106,126 @@ fn pad(s: &mut String, line: usize, column: usize) {
 }
 
 /// The row that wrote a piece.
-fn push_writer(s: &mut String, row: u32) -> fmt::Result {
+fn writer(trace: &Trace, row: u32) -> String {
     match row {
-        0 => s.write_str("unwritten"),
-        _ => write!(s, "row {row}"),
+        0 => "unwritten".to_string(),
+        _ => trace.row_name(row),
     }
 }
 
-/// A read: its bytes, the row that wrote them under the model, and the one in the plain file.
-fn table(s: &mut String, read: (u32, Row), model: Model, ours: &[Piece], theirs: &[Piece], totals: &mut Totals) -> fmt::Result {
-    let (number, row) = read;
-    totals.reads += 1;
-    totals.bytes += u64::from(row.length);
-    writeln!(s, "Row {number}: process {} reads {}", row.process, bytes_of(row.offset, row.length))?;
-    let digits = (u64::from(row.offset) + u64::from(row.length)).to_string().len();
-    let first = "  bytes  ".len().max("   to   ".len() + 2 * digits);
-    let second = first + "unwritten  ".len();
-    let third = second + "plain file  ".len();
-    if row.length > 0 {
-        writeln!(s, "{:first$}{:11}plain file", "  bytes", model.name())?;
+/// A line of a table: the bytes, the row that wrote them under the model, and the one in the plain file.
+struct Line {
+    piece: Piece,
+    plain: u32,
+    writers: [String; 2],
+}
+
+impl Line {
+    fn is_stale(&self) -> bool {
+        self.piece.row != self.plain
     }
-    for (piece, plain) in joined(ours, theirs) {
-        let line = s.len();
-        write!(s, "  {}", piece.start)?;
-        if piece.length > 1 {
-            write!(s, " to {}", u64::from(piece.start) + u64::from(piece.length) - 1)?;
-        }
-        pad(s, line, first);
-        push_writer(s, piece.row)?;
-        pad(s, line, second);
-        push_writer(s, plain)?;
-        if piece.row != plain {
-            totals.stale += u64::from(piece.length);
-            pad(s, line, third);
-            s.push_str("STALE");
-        }
-        s.push('\n');
+}
+
+/// Puts a line, its entries at these columns.
+fn put_line(s: &mut String, line: &Line, [first, second, third]: [usize; 3]) -> fmt::Result {
+    let (at, piece) = (s.len(), line.piece);
+    write!(s, "  {}", piece.start)?;
+    if piece.length > 1 {
+        write!(s, " to {}", u64::from(piece.start) + u64::from(piece.length) - 1)?;
+    }
+    pad(s, at, first);
+    s.push_str(&line.writers[0]);
+    pad(s, at, second);
+    s.push_str(&line.writers[1]);
+    if line.is_stale() {
+        pad(s, at, third);
+        s.push_str("STALE");
     }
     s.push('\n');
     Ok(())
 }
 
+/// The columns behind the bytes start here: as far apart as their heads and their longest entries need.
+fn columns(row: Row, lines: &[Line]) -> [usize; 3] {
+    let digits = (u64::from(row.offset) + u64::from(row.length)).to_string().len();
+    let longest = |k: usize| lines.iter().map(|l| l.writers[k].len()).max().unwrap_or(0);
+    let first = "  bytes  ".len().max("   to   ".len() + 2 * digits);
+    let second = first + longest(0).max("unwritten".len()) + 2;
+    [first, second, second + longest(1).max("plain file".len()) + 2]
+}
+
+/// A read: its bytes, the row that wrote them under the model, and the one in the plain file.
+fn table(s: &mut String, trace: &Trace, model: Model, ours: &Answered, theirs: &Answered, totals: &mut Totals) -> fmt::Result {
+    let (number, row) = ours.read;
+    totals.reads += 1;
+    totals.bytes += u64::from(row.length);
+    let lines: Vec<Line> = joined(&ours.pieces, &theirs.pieces)
+        .into_iter()
+        .map(|(piece, plain)| Line { piece, plain, writers: [writer(trace, piece.row), writer(trace, plain)] })
+        .collect();
+    let [first, second, third] = columns(row, &lines);
+    writeln!(s, "Row {number}{}: process {} reads {}", trace.own_behind(number), row.process, bytes_of(row.offset, row.length))?;
+    if row.length > 0 {
+        writeln!(s, "{:first$}{:width$}plain file", "  bytes", model.name(), width = second - first)?;
+    }
+    for line in &lines {
+        put_line(s, line, [first, second, third])?;
+        totals.stale += if line.is_stale() { u64::from(line.piece.length) } else { 0 };
+    }
+    s.push('\n');
+    Ok(())
+}
+
+/// The traces and their rows, and the order in which the rows are put.
+fn heading(trace: &Trace) -> (String, &'static str) {
+    let line = |label: &str, r: &Recording| format!("{label}: {} ({})\n", r.name, counted(u64::from(r.n), "row"));
+    match &trace.source {
+        Recorded::Alone(recording) => (line("Trace", recording), "trace"),
+        Recorded::Joined(join) => {
+            let [first, second] = &join.recordings;
+            (line("First trace", first) + &line("Second trace", second), "join")
+        }
+    }
+}
+
+/// The last lines: what STALE means, which order this is, and the counts.
+fn ending(trace: &Trace, totals: &Totals) -> String {
+    let mut s = String::new();
+    if totals.stale > 0 {
+        s.push_str(&labelled("", "STALE: the read does not get the bytes that one plain file would give it."));
+    }
+    let order = match &trace.source {
+        Recorded::Alone(_) => "recorded order",
+        Recorded::Joined(_) => "joined order",
+    };
+    s.push_str(&labelled("", &format!("This is the {order} alone. 'kiqsaryn check' judges every allowed order.")));
+    s.push_str(&format!("Reads: {}, bytes read: {}, stale bytes: {}\n", totals.reads, totals.bytes, totals.stale));
+    s
+}
+
 /// The whole replay. An error is a sentence.
 pub fn report(trace: &Trace, file: u32, model: Model) -> Result<String, String> {
-    let of_file = || trace.rows().all().filter(move |(_, r)| r.kind < SEND && r.file == file);
+    let rows = trace.rows();
+    let of_file = || rows.all().filter(move |(_, r)| r.kind < SEND && r.file == file);
     let writes = of_file().filter(|(_, r)| r.kind == WRITE).count();
     let map_space = u32::try_from(writes).ok().and_then(|w| w.checked_mul(2)).ok_or("too many writes")?.max(1);
-    let header = Header { process_limit: trace.processes, file, map_space };
+    let header = Header { process_limit: rows.processes, file, map_space };
     let mut under = Runner::new(trace, Some(model), header)?;
     let mut plain = Runner::new(trace, None, header)?;
 
-    let mut s = format!("Trace: {} ({})\n", trace.name, counted(u64::from(trace.n), "row"));
-    s.push_str(&format!(
-        "File {file} under {}: {} of this file, in the order of the trace\n\n",
-        model.name(),
-        counted(of_file().count() as u64, "row")
-    ));
+    let (mut s, order) = heading(trace);
+    let of_this = counted(of_file().count() as u64, "row");
+    s.push_str(&format!("File {file} under {}: {of_this} of this file, in the order of the {order}\n\n", model.name()));
     let mut totals = Totals::default();
-    while under.done < trace.n {
+    while under.done < rows.n {
         let (mut ours, mut theirs) = (Vec::new(), Vec::new());
-        under.go(trace.n, &mut ours)?;
+        under.go(rows.n, &mut ours)?;
         while plain.done < under.done {
             plain.go(under.done, &mut theirs)?;
         }
         for (a, b) in ours.iter().zip(&theirs) {
-            table(&mut s, a.read, model, &a.pieces, &b.pieces, &mut totals).map_err(|e| e.to_string())?;
+            table(&mut s, trace, model, a, b, &mut totals).map_err(|e| e.to_string())?;
         }
     }
-    if totals.stale > 0 {
-        s.push_str(&labelled("", "STALE: the read does not get the bytes that one plain file would give it."));
-    }
-    s.push_str(&labelled("", "This is the recorded order alone. 'kiqsaryn check' judges every allowed order."));
-    s.push_str(&format!("Reads: {}, bytes read: {}, stale bytes: {}\n", totals.reads, totals.bytes, totals.stale));
-    Ok(s)
+    Ok(s + &ending(trace, &totals))
 }

@@ -26,63 +26,77 @@ fn which(rows: &Rows, number: u32, kinds: &[u32]) -> Option<String> {
     Some(if kinds.len() > 1 { format!(" ({})", kind_name(row)) } else { String::new() })
 }
 
-fn needed(e: &Explanation, rows: &Rows) -> Option<String> {
+/// How a sentence names a row, by its number. It is asked once for each mention, in their order.
+pub type Naming<'a> = dyn FnMut(u32) -> String + 'a;
+
+fn needed(e: &Explanation, rows: &Rows, name: &mut Naming) -> Option<String> {
     let (x, y) = (rows.row(e.earlier)?, rows.row(e.later)?);
     let (p, q, f) = (x.process, y.process, e.file);
-    let (a, b) = (e.earlier, e.later);
+    let (a, b) = (name(e.earlier), name(e.later));
     if x.kind == READ {
-        return Some(format!("row {a}, a read, happens before row {b}, a write."));
+        return Some(format!("{a}, a read, happens before {b}, a write."));
     }
     Some(match e.model {
-        Model::Posix => format!("row {a} happens before row {b}."),
-        Model::Commit => format!("process {p} commits file {f} after row {a}, and that commit happens before row {b}."),
+        Model::Posix => format!("{a} happens before {b}."),
+        Model::Commit => format!("process {p} commits file {f} after {a}, and that commit happens before {b}."),
         Model::Session => {
-            let rows = format!("process {p} closes file {f} after row {a}, process {q} opens it before row {b}");
+            let rows = format!("process {p} closes file {f} after {a}, process {q} opens it before {b}");
             format!("{rows}, and that close happens before that open.")
         }
         Model::MpiIo => {
-            let rows = format!("process {p} closes or syncs file {f} after row {a}, process {q} opens or syncs it before row {b}");
+            let rows = format!("process {p} closes or syncs file {f} after {a}, process {q} opens or syncs it before {b}");
             format!("{rows}, and the first of these happens before the second.")
         }
     })
 }
 
+/// That a row does not happen before another, and why.
+fn not_before(from: u32, to: u32, rows: &Rows, name: &mut Naming) -> Option<String> {
+    let no = format!("{} does not happen before {}", name(from), name(to));
+    if from > to {
+        return Some(format!("{no}: it stands behind it in the trace."));
+    }
+    let (p, q) = (rows.row(from)?.process, rows.row(to)?.process);
+    let path = format!("no message that process {p} sends after {} reaches process {q} before {}", name(from), name(to));
+    Some(format!("{no}: {path}, directly or through other processes."))
+}
+
 /// A claim as a sentence.
-fn sentence(claim: &Claim, e: &Explanation, rows: &Rows) -> Option<(&'static str, String)> {
+fn sentence(claim: &Claim, e: &Explanation, rows: &Rows, name: &mut Naming) -> Option<(&'static str, String)> {
     let f = e.file;
     let (publish, refresh) = (one_of(publishing(e.model)), one_of(refreshing(e.model)));
     Some(match *claim {
-        Claim::NoPublish { process, after } => ("Missing", format!("process {process} has no {publish} of file {f} after row {after}.")),
+        Claim::NoPublish { process, after } => {
+            ("Missing", format!("process {process} has no {publish} of file {f} after {}.", name(after)))
+        }
         Claim::FirstPublish { process, after, row } => {
             let kind = which(rows, row, publishing(e.model))?;
-            ("Found", format!("process {process}'s first {publish} of file {f} after row {after} is row {row}{kind}."))
+            let (after, row) = (name(after), name(row));
+            ("Found", format!("process {process}'s first {publish} of file {f} after {after} is {row}{kind}."))
         }
-        Claim::NoRefresh { process, before } => ("Missing", format!("process {process} has no {refresh} of file {f} before row {before}.")),
+        Claim::NoRefresh { process, before } => {
+            ("Missing", format!("process {process} has no {refresh} of file {f} before {}.", name(before)))
+        }
         Claim::LastRefresh { process, before, row } => {
             let kind = which(rows, row, refreshing(e.model))?;
-            ("Found", format!("process {process}'s last {refresh} of file {f} before row {before} is row {row}{kind}."))
+            let (before, row) = (name(before), name(row));
+            ("Found", format!("process {process}'s last {refresh} of file {f} before {before} is {row}{kind}."))
         }
-        Claim::NotBefore { from, to } if from > to => {
-            ("Missing", format!("row {from} does not happen before row {to}: it stands behind it in the trace."))
-        }
-        Claim::NotBefore { from, to } => {
-            let (p, q) = (rows.row(from)?.process, rows.row(to)?.process);
-            let path = format!("no message that process {p} sends after row {from} reaches process {q} before row {to}");
-            ("Missing", format!("row {from} does not happen before row {to}: {path}, directly or through other processes."))
-        }
-        Claim::LastBefore { process, row, last: None } => ("Order", format!("no row of process {process} happens before row {row}.")),
+        Claim::NotBefore { from, to } => ("Missing", not_before(from, to, rows, name)?),
+        Claim::LastBefore { process, row, last: None } => ("Order", format!("no row of process {process} happens before {}.", name(row))),
         Claim::LastBefore { process, row, last: Some(last) } => {
             let r = rows.row(last)?;
             let what = if r.kind == SEND { format!("send of message {}", r.message) } else { kind_name(r).to_string() };
-            ("Order", format!("the last row of process {process} that happens before row {row} is row {last} ({what})."))
+            let (row, last) = (name(row), name(last));
+            ("Order", format!("the last row of process {process} that happens before {row} is {last} ({what})."))
         }
     })
 }
 
-pub fn words(e: &Explanation, rows: &Rows) -> Option<Words> {
-    let mut lines = vec![("Needed", needed(e, rows)?)];
+pub fn words(e: &Explanation, rows: &Rows, name: &mut Naming) -> Option<Words> {
+    let mut lines = vec![("Needed", needed(e, rows, name)?)];
     for claim in &e.claims {
-        lines.push(sentence(claim, e, rows)?);
+        lines.push(sentence(claim, e, rows, name)?);
     }
     let (first, last) = e.shared;
     let n = u64::from(last.checked_sub(first)?) + 1;

@@ -1,13 +1,14 @@
-//! `write`: the rows of a trace as plain text, and what is said of it.
+//! The rows of a trace as plain text, and what `write` says of it.
 
-use crate::input::Trace;
+use crate::input::{Recorded, Trace};
 use crate::text::{refusal_of_library, size};
 use kiqsaryn::{write, Written, HEADER_LINE, LONGEST_LINE};
 
 /// The rows as plain text, behind the names where a header is asked for. An error is a sentence.
 pub fn text(trace: &Trace, header: bool) -> Result<String, String> {
-    let mut out = vec![0; HEADER_LINE + LONGEST_LINE * trace.n as usize];
-    match write(&trace.rows, trace.n, u32::from(header), trace.processes, &mut out, 0) {
+    let rows = trace.rows();
+    let mut out = vec![0; HEADER_LINE + LONGEST_LINE * rows.n as usize];
+    match write(rows.rows, rows.n, u32::from(header), rows.processes, &mut out, 0) {
         Written::Length(length) => {
             out.truncate(length);
             String::from_utf8(out).map_err(|_| "the text is not plain; please report this trace".to_string())
@@ -17,11 +18,17 @@ pub fn text(trace: &Trace, header: bool) -> Result<String, String> {
     }
 }
 
+/// What was written to a place of this name.
+pub fn what_was_written(trace: &Trace, header: bool, text: &str, output: &str) -> String {
+    format!("\nWritten to {output}:\n{}", size(text.len(), header, trace.rows().n))
+}
+
 /// What was read, and what was written to a place of this name.
 pub fn report(trace: &Trace, header: bool, text: &str, output: &str) -> String {
-    let mut s = format!("Trace: {}\n\nRead, to hold against the recorder:\n", trace.name);
-    s.push_str(&size(trace.text.len(), trace.header, trace.n));
-    s.push_str(&format!("\nWritten to {output}:\n"));
-    s.push_str(&size(text.len(), header, trace.n));
-    s
+    let mut s = String::new();
+    if let Recorded::Alone(recording) = &trace.source {
+        s.push_str(&format!("Trace: {}\n\nRead, to hold against the recorder:\n", recording.name));
+        s.push_str(&size(recording.text.len(), recording.header, recording.n));
+    }
+    s + &what_was_written(trace, header, text, output)
 }
