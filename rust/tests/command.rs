@@ -15,6 +15,8 @@ mod args;
 mod explain;
 #[path = "../src/bin/kiqsaryn/input.rs"]
 mod input;
+#[path = "../src/bin/kiqsaryn/recording.rs"]
+mod recording;
 #[path = "../src/bin/kiqsaryn/replay.rs"]
 mod replay;
 mod running;
@@ -26,6 +28,7 @@ mod text;
 mod words;
 
 use explain::{explain, Claim, Explanation, Rows};
+use running::picture::well_formed;
 use running::{err, example_traces, examples, feed, out, run, status, words_of, EXE};
 
 const NAMES: &str = "process,kind,file,offset,length,message\r\n";
@@ -242,7 +245,7 @@ fn longest(header: bool) -> Vec<u8> {
 fn the_longest_acceptable_trace_is_read_whole_and_one_byte_more_is_not() {
     for (header, word) in [(true, "yes"), (false, "no")] {
         let mut text = longest(header);
-        assert_eq!(text.len(), input::byte_limit(header));
+        assert_eq!(text.len(), recording::byte_limit(header));
         let o = run(&["check", "-", "--header", word], &text);
         assert_eq!(status(&o), 0, "{}", out(&o));
         assert!(out(&o).contains(&format!("  {} bytes\n", text.len())) && out(&o).contains("  4096 rows\n"));
@@ -676,7 +679,7 @@ fn every_claim_of_every_explanation_holds() {
                         }] += 1;
                     }
                     assert!(naive.settles(&e), "trace {k}: {e:?}: {text}");
-                    let w = words::words(&e, &given).expect("words");
+                    let w = words::words(&e, &given, &mut |k| format!("row {k}")).expect("words");
                     assert_eq!(w.lines.len(), e.claims.len() + 1);
                     races += 1;
                 }
@@ -695,7 +698,7 @@ fn sentences() {
     let given = Rows { rows: &numbers, n, processes: 3, counts: &counts };
     let say = |model, earlier, later| {
         let e = explain(&given, model, earlier, later).expect("a race");
-        let w = words::words(&e, &given).expect("words");
+        let w = words::words(&e, &given, &mut |k| format!("row {k}")).expect("words");
         let lines: Vec<String> = w.lines.iter().map(|(label, line)| format!("{label}: {line}")).collect();
         (w.shared, lines.join("\n"))
     };
@@ -777,8 +780,8 @@ fn replays_count_stale_bytes() {
         let rows = random_rows(&mut dice, 24, 3);
         let text = csv_of(&rows);
         let (numbers, n, counts) = read_rows(&text, 3);
-        let trace =
-            input::Trace { name: "x".into(), text: text.clone().into_bytes(), header: false, processes: 3, n, rows: numbers, counts };
+        let recording = recording::Recording { name: "x".into(), text: text.clone().into_bytes(), header: false, n, rows: numbers };
+        let trace = input::Trace { source: input::Recorded::Alone(recording), processes: 3, counts };
         for model in Model::ALL {
             let report = replay::report(&trace, 1, model).expect("a replay");
             let (reads, bytes, stale) = naive_replay(&rows, 1, model, 3);
@@ -812,48 +815,6 @@ fn replays_of_many_pieces() {
 }
 
 // ---- Pictures
-
-/// Well-formed XML as far as these pictures use it: tags in pairs, attributes in quotes, no bare & or <, and nothing from elsewhere.
-fn well_formed(text: &str) {
-    let body = text.strip_prefix("<?xml version=\"1.0\" encoding=\"UTF-8\"?>\n").expect("the first line");
-    assert!(text.chars().all(|c| c == '\n' || (' '..='~').contains(&c)), "plain text");
-    let entities = |s: &str| {
-        for part in s.split('&').skip(1) {
-            assert!(["amp;", "lt;", "gt;", "quot;"].iter().any(|e| part.starts_with(e)), "&{part}");
-        }
-    };
-    let mut open = Vec::new();
-    let mut roots = 0;
-    let mut rest = body;
-    while let Some(at) = rest.find('<') {
-        entities(&rest[..at]);
-        assert!(!open.is_empty() || rest[..at].trim().is_empty(), "text outside");
-        let end = rest[at..].find('>').expect("a tag's end") + at;
-        let tag = &rest[at + 1..end];
-        rest = &rest[end + 1..];
-        if let Some(name) = tag.strip_prefix('/') {
-            assert_eq!(open.pop(), Some(name), "a closing tag");
-            continue;
-        }
-        let (tag, closed) = tag.strip_suffix('/').map_or((tag, false), |t| (t, true));
-        let mut parts = tag.splitn(2, ' ');
-        let name = parts.next().expect("a name");
-        let attributes: Vec<&str> = parts.next().unwrap_or("").split('"').collect();
-        assert!(attributes.len() % 2 == 1 && attributes.last() == Some(&""), "{tag}");
-        for pair in attributes.chunks_exact(2) {
-            let attribute = pair[0].trim_start().strip_suffix('=').expect("an attribute");
-            assert!(!attribute.contains("href") && !attribute.contains("src"), "{tag}");
-            assert!(!pair[1].contains("http") || attribute == "xmlns", "{tag}");
-            entities(pair[1]);
-        }
-        roots += u32::from(open.is_empty());
-        if !closed {
-            open.push(name);
-        }
-    }
-    assert!(open.is_empty() && roots == 1 && rest.trim().is_empty());
-    assert!(body.starts_with("<svg "));
-}
 
 #[test]
 fn a_picture_shows_every_row_and_message() {

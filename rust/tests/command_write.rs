@@ -9,6 +9,8 @@ mod explain;
 #[path = "../src/bin/kiqsaryn/input.rs"]
 mod input;
 mod naive;
+#[path = "../src/bin/kiqsaryn/recording.rs"]
+mod recording;
 mod running;
 #[path = "../src/bin/kiqsaryn/standard.rs"]
 mod standard;
@@ -147,14 +149,9 @@ fn the_longest_trace() {
 /// The library never refuses rows that it has read. If it did, the command would say so.
 #[test]
 fn a_refusal_of_the_writer_is_told_as_an_error() {
-    let trace = |n: u32, rows: &[u32]| input::Trace {
-        name: "x".to_string(),
-        text: Vec::new(),
-        header: false,
-        processes: 2,
-        n,
-        rows: rows.to_vec(),
-        counts: Vec::new(),
+    let trace = |n: u32, rows: &[u32]| {
+        let recording = recording::Recording { name: "x".to_string(), text: Vec::new(), header: false, n, rows: rows.to_vec() };
+        input::Trace { source: input::Recorded::Alone(recording), processes: 2, counts: Vec::new() }
     };
     for (n, rows, words) in [
         (2, &[0, COMMIT, 1, 0, 0, 0][..], "the text cannot be written: refusal 1, Are the lent slices long enough?"),

@@ -13,7 +13,11 @@ static uint8_t text[TEXT], out[TEXT];
 static size_t text_len;
 static uint32_t rows[6 * ROWS], maps[MAPS], pieces[3 * ROWS], of_rows[ROWS];
 static uint16_t counts[ROWS * PROCESSES];
+static uint64_t parts[3 * ROWS];
 static uint32_t n;
+
+/* A second file for the trace, whose processes have no rows there. */
+static const uint8_t second[] = "63,write,1,0,9,\r\n63,send,,,,65535\r\n62,recv,,,,65535\r\n62,read,1,0,9,\r\n";
 
 /* A call that refuses goes less deep than one that does its work. */
 static void expect(int works) {
@@ -44,6 +48,14 @@ static void fill_counts(void) { expect(kiqsaryn_fill_counts(rows, 6 * ROWS, n, P
 
 static void verdict(void) { expect(kiqsaryn_verdict(rows, 6 * ROWS, n, PROCESSES, 1, counts, ROWS * PROCESSES) == 0); }
 
+static void read_file(void) { expect(kiqsaryn_read_file(text, text_len, 1, ROWS, PROCESSES, rows, 6 * ROWS) == n); }
+
+static void join(void) {
+    uint64_t answer = kiqsaryn_join(text, text_len, 1, second, sizeof second - 1, 0, 1, ROWS, PROCESSES, rows, 6 * ROWS, counts,
+                                    ROWS * PROCESSES, parts, 3 * ROWS);
+    expect(kiqsaryn_joined_rows(answer) == n + 4);
+}
+
 static void make(void) { expect(kiqsaryn_make(1, PROCESSES, 1, SPACE, maps, MAPS) == 0); }
 
 static void replay(void) {
@@ -64,8 +76,8 @@ static const struct {
     const char *name;
     void (*call)(void);
 } calls[] = {{"none", none}, {"check_trace", check_trace}, {"judge", judge}, {"report", report}, {"write", write_rows},
-             {"fill_counts", fill_counts}, {"verdict", verdict}, {"make", make}, {"replay", replay}, {"step", step}, {"make_plain", make_plain},
-             {"replay_plain", replay_plain}, {"step_plain", step_plain}};
+             {"fill_counts", fill_counts}, {"verdict", verdict}, {"read_file", read_file}, {"make", make}, {"replay", replay}, {"step", step},
+             {"make_plain", make_plain}, {"replay_plain", replay_plain}, {"step_plain", step_plain}, {"join", join}};
 
 static void *run(void *call) {
     (*(void (**)(void))call)();

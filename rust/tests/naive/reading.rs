@@ -12,6 +12,13 @@ enum Record {
     Unread,
 }
 
+/// A record and where it stands in its text: from its start to its end, which is before its line end.
+struct Placed {
+    record: Record,
+    start: usize,
+    end: usize,
+}
+
 #[derive(Clone, Copy, PartialEq)]
 enum At {
     Byte(u8),
@@ -23,8 +30,8 @@ fn textdata(b: u8) -> bool {
     matches!(b, 0x20..=0x21 | 0x23..=0x2B | 0x2D..=0x7E)
 }
 
-/// The record that starts at a place, and the place behind it.
-fn record(at: &impl Fn(usize) -> At, mut i: usize) -> (Record, usize) {
+/// The record that starts at a place, the place where it ends, and the place behind its line end.
+fn record(at: &impl Fn(usize) -> At, mut i: usize) -> (Record, usize, usize) {
     let mut fields = Vec::new();
     loop {
         let mut content = Vec::new();
@@ -41,8 +48,8 @@ fn record(at: &impl Fn(usize) -> At, mut i: usize) -> (Record, usize) {
                         content.push(b);
                         i += 1;
                     }
-                    At::Byte(_) | At::End => return (Record::Malformed, i),
-                    At::Past => return (Record::Unread, i),
+                    At::Byte(_) | At::End => return (Record::Malformed, i, i),
+                    At::Past => return (Record::Unread, i, i),
                 }
             }
             i += 1;
@@ -58,31 +65,31 @@ fn record(at: &impl Fn(usize) -> At, mut i: usize) -> (Record, usize) {
         fields.push(content);
         match (at(i), at(i + 1)) {
             (At::Byte(b','), _) => i += 1,
-            (At::Byte(b'\r'), At::Byte(b'\n')) => return (Record::Fields(fields), i + 2),
-            (At::End, _) => return (Record::Fields(fields), i),
-            (At::Past, _) | (At::Byte(b'\r'), At::Past) => return (Record::Unread, i),
-            _ => return (Record::Malformed, i),
+            (At::Byte(b'\r'), At::Byte(b'\n')) => return (Record::Fields(fields), i, i + 2),
+            (At::End, _) => return (Record::Fields(fields), i, i),
+            (At::Past, _) | (At::Byte(b'\r'), At::Past) => return (Record::Unread, i, i),
+            _ => return (Record::Malformed, i, i),
         }
     }
 }
 
 /// All records up to the first that is not well formed or not read.
-fn records(text: &[u8], byte_limit: usize) -> Vec<Record> {
+fn records(text: &[u8], byte_limit: usize) -> Vec<Placed> {
     let at = |i: usize| match text.get(i) {
         None => At::End,
         Some(_) if i >= byte_limit => At::Past,
         Some(b) => At::Byte(*b),
     };
     let mut all = Vec::new();
-    let mut i = 0;
-    while i < text.len() {
-        let (next, behind) = record(&at, i);
-        let whole = matches!(next, Record::Fields(_));
-        all.push(next);
+    let mut start = 0;
+    while start < text.len() {
+        let (record, end, behind) = record(&at, start);
+        let whole = matches!(record, Record::Fields(_));
+        all.push(Placed { record, start, end });
         if !whole {
             break;
         }
-        i = behind;
+        start = behind;
     }
     all
 }
@@ -152,13 +159,49 @@ pub fn faults(row: Row, rows: &[Row]) -> Vec<Fault> {
 
 /// All faults of the row at the place that a trace is refused for with 12.
 pub fn faults_at(text: &[u8], s: Settings, place: u32) -> Vec<Fault> {
-    let fields = |record| match record {
+    let fields = |placed: Placed| match placed.record {
         Record::Fields(fields) => Some(fields),
         _ => None,
     };
     let records = records(text, s.byte_limit).into_iter().skip(s.header as usize).map_while(fields);
     let rows: Vec<Row> = records.map_while(|fields| row(&fields, s.process_limit).ok()).take(place as usize).collect();
     faults(rows[place as usize - 1], &rows[..place as usize - 1])
+}
+
+/// A row, and where its record stands in its text: from its start to its end, which is before its line end.
+#[derive(Clone, Copy, Debug, PartialEq, Eq)]
+pub struct Entry {
+    pub row: Row,
+    pub start: usize,
+    pub end: usize,
+}
+
+/// The entries of a text, or the number and place of its refusal by the questions 4 to 11 and those that `more` puts to a row behind the
+/// rows before it, by the number of the first No.
+pub fn entries(text: &[u8], s: Settings, more: impl Fn(Row, &[Row]) -> Option<u32>) -> Result<Vec<Entry>, (u32, u32)> {
+    let mut records = records(text, s.byte_limit).into_iter();
+    if s.header == 1 {
+        match records.next().map(|placed| placed.record) {
+            Some(Record::Malformed) => return Err((4, 0)),
+            Some(Record::Fields(fields)) if fields == NAMES => {}
+            _ => return Err((5, 0)),
+        }
+    }
+    let (mut rows, mut entries) = (Vec::new(), Vec::new());
+    for (Placed { record, start, end }, place) in records.zip(1..) {
+        let row = match record {
+            Record::Malformed => return Err((4, place)),
+            Record::Unread => return Err((6, place)),
+            Record::Fields(_) if place > s.row_limit => return Err((6, place)),
+            Record::Fields(fields) => row(&fields, s.process_limit).map_err(|number| (number, place))?,
+        };
+        if let Some(number) = more(row, &rows) {
+            return Err((number, place));
+        }
+        rows.push(row);
+        entries.push(Entry { row, start, end });
+    }
+    Ok(entries)
 }
 
 /// The rows of a trace, or the number and place of its refusal.
@@ -173,28 +216,8 @@ pub fn check(text: &[u8], s: Settings, rows_len: usize, counts_len: usize) -> Re
     if s.header > 1 {
         return Err((3, 0));
     }
-    let mut records = records(text, s.byte_limit).into_iter();
-    if s.header == 1 {
-        match records.next() {
-            Some(Record::Malformed) => return Err((4, 0)),
-            Some(Record::Fields(fields)) if fields == NAMES => {}
-            _ => return Err((5, 0)),
-        }
-    }
-    let mut rows = Vec::new();
-    for (record, place) in records.zip(1..) {
-        match record {
-            Record::Malformed => return Err((4, place)),
-            Record::Unread => return Err((6, place)),
-            Record::Fields(_) if place > s.row_limit => return Err((6, place)),
-            Record::Fields(fields) => match row(&fields, s.process_limit) {
-                Err(number) => return Err((number, place)),
-                Ok(row) if !faults(row, &rows).is_empty() => return Err((12, place)),
-                Ok(row) => rows.push(row),
-            },
-        }
-    }
-    Ok(rows)
+    let entries = entries(text, s, |row, rows| (!faults(row, rows).is_empty()).then_some(12))?;
+    Ok(entries.into_iter().map(|entry| entry.row).collect())
 }
 
 /// What the program `verdict` prints.

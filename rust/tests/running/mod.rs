@@ -1,6 +1,8 @@
 //! Programs run as a user runs them.
 
 pub mod folder;
+pub mod pair;
+pub mod picture;
 
 use std::io::Write;
 use std::path::PathBuf;

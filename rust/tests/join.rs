@@ -1,0 +1,457 @@
+//! Every vector of `vectors/join.txt`: the answer and the three lent slices whole, by the library and by the naive version. Then calls whose
+//! numbers do not fit, which row is taken next, which question comes first, and the limits; and one file of a join by itself.
+
+#[allow(dead_code)]
+mod naive;
+#[allow(dead_code)]
+mod vectors;
+
+use kiqsaryn::{join, read_file, Checked, JoinSettings, Joined, Part, Refusal, Row, PROCESSES, ROWS};
+use naive::joining::{self, Lent};
+
+fn refused(number: u32, place: u32, file: u32) -> Joined {
+    Joined::Refused { refusal: Refusal::from_number(number).expect("a refusal"), place, file }
+}
+
+/// Slices of these lengths for rows, counts and parts, with `fill` everywhere.
+fn lent([rows, counts, parts]: [usize; 3], fill: u32) -> Lent {
+    Lent { rows: vec![fill; rows], counts: vec![fill as u16; counts], parts: vec![u64::from(fill); parts] }
+}
+
+fn call(texts: [&[u8]; 2], s: JoinSettings, lent: &mut Lent) -> Joined {
+    join(texts[0], texts[1], s, &mut lent.rows, &mut lent.counts, &mut lent.parts)
+}
+
+// ---- Vectors
+
+/// A slice that holds these numbers, then 0.
+fn padded<T: TryFrom<u32> + Clone + Default>(front: &[u32], len: usize) -> Vec<T> {
+    let mut all: Vec<T> = front.iter().map(|x| T::try_from(*x).unwrap_or_else(|_| panic!("{x} is too large"))).collect();
+    all.resize(len, T::default());
+    all
+}
+
+/// The answer of a line `A`.
+fn answer_of(line: &vectors::Line) -> Joined {
+    let v = |k: usize| line.number(k);
+    match line.words[..] {
+        ["A", "refused", _, _, _] => refused(v(2), v(3), v(4)),
+        ["A", "accepted", _, "free"] => Joined::Free { rows: v(2) },
+        ["A", "accepted", _, "race", _, _] => Joined::Race { rows: v(2), earlier: v(4), later: v(5) },
+        _ => panic!("{line}: no answer"),
+    }
+}
+
+#[test]
+fn every_join_vector() {
+    let text = vectors::text("join.txt");
+    let mut lines = vectors::lines(&text);
+    let mut run = 0;
+    while let Some(line) = lines.next() {
+        line.kind(&[("J", 12)]);
+        let n = |k: usize| line.number(k);
+        let s = JoinSettings { headers: [n(2), n(3)], model: n(4), row_limit: n(5), process_limit: n(6) };
+        let (rows_len, counts_len, fill) = (n(7) as usize, n(8) as usize, n(9));
+        let (first, second) = (line.bytes(10), line.bytes(11));
+        let want = answer_of(&lines.next().expect("an answer"));
+        let told = match want {
+            Joined::Refused { .. } => None,
+            _ => Some(["R", "C", "H"].map(|kind| lines.next().expect("numbers").numbers(kind))),
+        };
+        // Where so many numbers are more than those lent for rows, too few are lent for rows.
+        let enough = (3 * s.row_limit as usize).min(rows_len);
+        for parts_len in [enough, enough + 1, enough + 5] {
+            let lengths = [rows_len, counts_len, parts_len];
+            let left = match (&told, want) {
+                (Some([rows, counts, parts]), _) => {
+                    Lent { rows: padded(rows, rows_len), counts: padded(counts, counts_len), parts: padded(parts, parts_len) }
+                }
+                (_, Joined::Refused { refusal, .. }) if refusal.number() <= 3 => lent(lengths, fill),
+                _ => lent(lengths, 0),
+            };
+            let [mut ours, mut naive] = [lent(lengths, fill), lent(lengths, fill)];
+            assert_eq!(call([&first, &second], s, &mut ours), want, "{line}");
+            assert!(ours == left, "the slices after {line}: {ours:?}");
+            assert_eq!(joining::join([&first, &second], s, &mut naive), want, "the naive version on {line}");
+            assert!(naive == left, "the naive version's slices after {line}: {naive:?}");
+        }
+        run += 1;
+    }
+    vectors::all_run("join.txt", &text, &["J"], run);
+}
+
+// ---- Calls whose numbers do not fit
+
+const NAMES: &str = "process,kind,file,offset,length,message\r\n";
+
+/// Two files that are joined into four rows: the second waits for the first.
+const SENDS: &str = "0,write,1,0,10,\r\n0,send,,,,7\r\n";
+const RECEIVES: &str = "1,recv,,,,7\r\n1,read,1,5,10,\r\n";
+
+/// Settings for two files without headers.
+const PLAIN: JoinSettings = JoinSettings { headers: [0, 0], model: 1, row_limit: 4, process_limit: 2 };
+/// Just enough for them.
+const ENOUGH: [usize; 3] = [24, 8, 12];
+
+#[test]
+fn calls_that_do_not_fit_are_refused() {
+    let [rows, counts, parts] = ENOUGH;
+    let limits = |row_limit: u32, process_limit: u32| JoinSettings { row_limit, process_limit, ..PLAIN };
+    let headers = |first: u32, second: u32| JoinSettings { headers: [first, second], ..PLAIN };
+    let wild = [
+        // 1: a slice is too short, whatever else is wrong
+        (PLAIN, [rows - 1, counts, parts], 1),
+        (PLAIN, [rows, counts - 1, parts], 1),
+        (PLAIN, [rows, counts, parts - 1], 1),
+        (PLAIN, [0, 0, 0], 1),
+        (limits(5, 2), ENOUGH, 1),
+        (limits(u32::MAX, u32::MAX), ENOUGH, 1),
+        (limits(u32::MAX, 0), ENOUGH, 1),
+        (limits(0, u32::MAX), [0, 0, 0], 2),                          // no row needs a number
+        (limits(0x2AAA_AAAB, 1), [rows, usize::MAX >> 40, parts], 1), // 6 times as many are 2 in 32 bits
+        (limits(0x5555_5556, 1), [rows, usize::MAX >> 40, parts], 1), // 3 times as many are 2 in 32 bits
+        (limits(0x8000_0000, 2), [rows, 0, parts], 1),                // 2 times as many are 0 in 32 bits
+        (JoinSettings { model: 4, headers: [2, 2], ..limits(5, 65) }, ENOUGH, 1),
+        // 2: the model or a limit is out of its range
+        (JoinSettings { model: 4, ..PLAIN }, ENOUGH, 2),
+        (JoinSettings { model: u32::MAX, headers: [2, 0], ..PLAIN }, ENOUGH, 2),
+        (limits(0, 2), ENOUGH, 2),
+        (limits(4, 0), ENOUGH, 2),
+        (limits(ROWS + 1, 1), [6 * 4097, 4097, 3 * 4097], 2),
+        (limits(1, PROCESSES + 1), [6, 65, 3], 2),
+        // 3: a header word is neither 0 nor 1
+        (headers(2, 0), ENOUGH, 3),
+        (headers(0, 2), ENOUGH, 3),
+        (headers(u32::MAX, u32::MAX), ENOUGH, 3),
+    ];
+    for (s, lengths, number) in wild {
+        // Files that would be refused too.
+        for texts in [[SENDS, RECEIVES], ["x", "\""]] {
+            let mut slices = lent(lengths, 7);
+            assert_eq!(call(texts.map(str::as_bytes), s, &mut slices), refused(number, 0, 0), "{s:?}, {lengths:?}");
+            assert!(slices == lent(lengths, 7), "{s:?}, {lengths:?}");
+        }
+    }
+}
+
+#[test]
+fn what_fits_exactly_is_joined() {
+    let mut slices = lent(ENOUGH, 7);
+    assert_eq!(call([SENDS.as_bytes(), RECEIVES.as_bytes()], PLAIN, &mut slices), Joined::Race { rows: 4, earlier: 1, later: 4 });
+    assert_eq!(slices.rows, [[0, 1, 1, 0, 10, 0], [0, 6, 0, 0, 0, 7], [1, 7, 0, 0, 0, 7], [1, 0, 1, 5, 10, 0]].concat());
+    assert_eq!(slices.counts, [1, 0, 2, 0, 2, 1, 2, 2]);
+    assert_eq!(slices.parts, [[1, 0, 15], [1, 17, 28], [2, 0, 11], [2, 13, 27]].concat());
+    let s = JoinSettings { model: 0, ..PLAIN };
+    assert_eq!(call([SENDS.as_bytes(), RECEIVES.as_bytes()], s, &mut slices), Joined::Free { rows: 4 });
+    assert_eq!(call([b"", b""], PLAIN, &mut slices), Joined::Free { rows: 0 });
+    assert!(slices == lent(ENOUGH, 0));
+}
+
+// ---- Which row is taken next
+
+/// The joined rows of two files without headers, each by its file and its number there, or the refusal.
+fn turns(first: &str, second: &str) -> Result<Vec<(u64, usize)>, Joined> {
+    let s = JoinSettings { headers: [0, 0], model: 0, row_limit: 20, process_limit: 4 };
+    let mut slices = lent([120, 80, 60], 7);
+    let n = match call([first.as_bytes(), second.as_bytes()], s, &mut slices) {
+        Joined::Free { rows } | Joined::Race { rows, .. } => rows as usize,
+        refused => return Err(refused),
+    };
+    let part = |k: usize| Part::at(&slices.parts, k).expect("a part");
+    Ok((0..n).map(|k| (part(k).file, (0..=k).filter(|i| part(*i).file == part(k).file).count())).collect())
+}
+
+/// One file from short words: `0w` is a write of process 0, `1s7` its send of message 7, and `1r7` its recv.
+fn file(words: &str) -> String {
+    let record = |word: &str| {
+        let (process, rest) = word.split_at(1);
+        match rest.split_at(1) {
+            ("s", message) => format!("{process},send,,,,{message}\r\n"),
+            ("r", message) => format!("{process},recv,,,,{message}\r\n"),
+            _ => format!("{process},write,{process},0,1,\r\n"),
+        }
+    };
+    words.split_whitespace().map(record).collect()
+}
+
+#[test]
+fn the_first_file_goes_on_until_it_waits_or_ends() {
+    let stuck = Err(refused(20, 0, 0));
+    for (first, second, want) in [
+        ("", "", Ok("")),
+        ("0w 0w", "", Ok("a a")),
+        ("", "1w 1w", Ok("b b")),
+        ("0w 0w", "1w 1w", Ok("a a b b")),
+        ("0s7 0w", "1r7 1w", Ok("a a b b")),
+        // the first file waits, and goes on at once when its message is sent
+        ("0r7 0w", "1w 1s7 1w", Ok("b b a a b")),
+        ("0w 0r7 0s8 0w", "1s7 1r8 1w", Ok("a b a a a b b")),
+        ("0r1 0s2 0r3 0s4", "1s1 1r2 1s3 1r4", Ok("b a a b b a a b")),
+        // a message within a file, sent before it is received there
+        ("0s7 2r7 0w", "1w", Ok("a a a b")),
+        ("0w", "1s7 3r7", Ok("a b b")),
+        // a message that waits to be received, and one that is never received
+        ("0s7 0s8 0s9", "1r9 1r7", Ok("a a a b b")),
+        // one waits, and the other is at its end
+        ("0r7", "", stuck),
+        ("", "1r7", stuck),
+        ("0w 0w", "1w 1r7", stuck),
+        ("0w 0r7 0w", "1w 1s8", stuck),
+        // both wait, for each other or for messages that nobody sends
+        ("0r7 0s8", "1r8 1s7", stuck),
+        ("0w 0r7", "1w 1r8", stuck),
+        // received within a file before it is sent there: no order of the two helps
+        ("2r7 0s7", "1w", stuck),
+    ] {
+        let mut own = [0, 0];
+        let mut number = |word: &str| {
+            let k = usize::from(word == "b");
+            own[k] += 1;
+            (k as u64 + 1, own[k])
+        };
+        let want = want.map(|words| words.split_whitespace().map(&mut number).collect::<Vec<_>>());
+        assert_eq!(turns(&file(first), &file(second)), want, "{first} and {second}");
+    }
+}
+
+// ---- Which question comes first
+
+#[test]
+fn the_first_question_that_is_answered_no_decides() {
+    let good = file("0w");
+    let long = file("0w 0w 0w 0w");
+    for (first, second, number, place, file_number) in [
+        // a file's questions, the first file's before the second's, and both before 19
+        ("0,write,1,0,10\r\n", "x", 7, 1, 1),
+        (&good, "0,write,1,0,10,\r\n0,\"x", 4, 2, 2),
+        (&good, &(file("1w") + "0,work,1,0,10,\r\n"), 8, 2, 2),
+        (&(long.clone() + &file("1w")), &file("1w"), 6, 4, 1),
+        (&good, &long, 6, 4, 2),
+        // 19 before any joined row: both files' own rows would be too many, stand out of order, or wait
+        (&file("0w 0s7"), &file("0w 1s7"), 19, 0, 0),
+        (&file("0r7 2w"), &file("1w 2w"), 19, 0, 0),
+        (&file("1r7"), &file("1r8"), 19, 0, 0),
+        // 6 at a joined row before 12 there, and 12 at an earlier one
+        (&file("0w 0s7"), &file("1w 1s7"), 6, 4, 0),
+        (&file("0s7"), &file("1s7 1w 1w"), 12, 2, 0),
+        // 20 needs no place among the rows: it comes where the limit is reached too
+        (&file("0w 0w 0w"), &file("1r7"), 20, 0, 0),
+        (&file("0w 0w"), &file("1w 1r7"), 20, 0, 0),
+        // 12 before the next row waits
+        (&file("0s7 0s7"), &file("1r8"), 12, 2, 0),
+    ] {
+        let s = JoinSettings { row_limit: 3, process_limit: 3, ..PLAIN };
+        let mut slices = lent([20, 11, 10], 7);
+        let got = call([first.as_bytes(), second.as_bytes()], s, &mut slices);
+        assert_eq!(got, refused(number, place, file_number), "{first:?} and {second:?}");
+        assert!(slices == lent([20, 11, 10], 0), "{first:?} and {second:?}");
+    }
+}
+
+#[test]
+fn messages_out_of_order_are_refused() {
+    for (first, second, place) in [
+        ("0s7 0s7", "", 2),           // sent twice in a file
+        ("0s7", "1w 1s7", 3),         // sent twice, once in each
+        ("0s7 0w", "1r7 1s7", 4),     // sent again once it is received
+        ("0s7 0r7", "1w", 2),         // received by its sender
+        ("0s7", "1r7 3r7", 3),        // received twice in a file
+        ("0s7 2r7", "1w 1r7", 4),     // received twice, once in each
+        ("0r7 0r7", "1s7 1w", 3),     // received twice by one process
+        ("0w 0r7", "1s7 3s7", 4),     // the recv that waited is taken before the second send
+        ("0w 0r9 0s7", "1s9 1s7", 5), // the send that waited behind a recv
+    ] {
+        assert_eq!(turns(&file(first), &file(second)), Err(refused(12, place, 0)), "{first} and {second}");
+    }
+}
+
+// ---- Headers, quotes, and records without a line end
+
+#[test]
+fn each_file_is_read_with_its_own_header_word() {
+    let rows = [SENDS, RECEIVES];
+    for headers in [[0, 0], [0, 1], [1, 0], [1, 1]] {
+        let texts = [0, 1].map(|k| if headers[k] == 1 { [NAMES, rows[k]].concat() } else { rows[k].to_string() });
+        let s = JoinSettings { headers, ..PLAIN };
+        let mut slices = lent(ENOUGH, 7);
+        let got = call([texts[0].as_bytes(), texts[1].as_bytes()], s, &mut slices);
+        assert_eq!(got, Joined::Race { rows: 4, earlier: 1, later: 4 }, "{headers:?}");
+        for k in 0..4 {
+            let Part { file, start, end } = Part::at(&slices.parts, k).expect("a part");
+            let of_file = &texts[file as usize - 1][start as usize..end as usize];
+            assert_eq!(of_file, [SENDS, RECEIVES].concat().lines().nth(k).expect("a record"), "{headers:?}");
+        }
+        // The other word of either file is refused there.
+        let other = |k: usize| JoinSettings { headers: [0, 1].map(|i| if i == k { 1 - headers[i] } else { headers[i] }), ..s };
+        for k in [0, 1] {
+            let want = if headers[k] == 1 { refused(8, 1, k as u32 + 1) } else { refused(5, 0, k as u32 + 1) };
+            assert_eq!(call([texts[0].as_bytes(), texts[1].as_bytes()], other(k), &mut slices), want, "{headers:?}, file {}", k + 1);
+        }
+    }
+}
+
+#[test]
+fn a_part_is_a_record_as_it_stands_without_its_line_end() {
+    let first = "\"0\",write,\"1\",0,10,\"\"\r\n0,\"send\",\"\",,,7";
+    let second = [NAMES, "\"1\",recv,,,,\"7\"\r\n1,read,1,\"5\",10,\r\n"].concat();
+    let s = JoinSettings { headers: [0, 1], ..PLAIN };
+    let mut slices = lent(ENOUGH, 7);
+    assert_eq!(call([first.as_bytes(), second.as_bytes()], s, &mut slices), Joined::Race { rows: 4, earlier: 1, later: 4 });
+    assert_eq!(slices.parts, [[1, 0, 21], [1, 23, 38], [2, 41, 56], [2, 58, 74]].concat());
+    assert_eq!(Part::at(&slices.parts, 3), Some(Part { file: 2, start: 58, end: 74 }));
+    assert_eq!(Part::at(&slices.parts, 4), None);
+    assert_eq!(&second[58..74], "1,read,1,\"5\",10,");
+}
+
+// ---- Limits
+
+/// A file of so many rows, each by the next of these processes.
+fn many(rows: u32, processes: std::ops::Range<u32>) -> String {
+    processes.cycle().take(rows as usize).map(|p| format!("{p},write,{p},{p},1,\r\n")).collect()
+}
+
+#[test]
+fn the_join_has_as_many_rows_as_a_trace() {
+    let s = JoinSettings { headers: [0, 0], model: 1, row_limit: ROWS, process_limit: PROCESSES };
+    let lengths = [6, PROCESSES as usize, 3].map(|k| k * ROWS as usize);
+    let half = ROWS / 2;
+    for (first, second, want) in [
+        (half, half, Joined::Free { rows: ROWS }),
+        (ROWS, 0, Joined::Free { rows: ROWS }),
+        (0, ROWS, Joined::Free { rows: ROWS }),
+        (1, ROWS - 1, Joined::Free { rows: ROWS }),
+        (half, half + 1, refused(6, ROWS + 1, 0)),
+        (1, ROWS, refused(6, ROWS + 1, 0)),
+        (ROWS, ROWS, refused(6, ROWS + 1, 0)),
+        (ROWS + 1, 0, refused(6, ROWS + 1, 1)),
+        (0, ROWS + 1, refused(6, ROWS + 1, 2)),
+        (ROWS + 1, ROWS + 1, refused(6, ROWS + 1, 1)),
+    ] {
+        let texts = [many(first, 0..32), many(second, 32..64)];
+        let [mut ours, mut naive] = [lent(lengths, 7), lent(lengths, 7)];
+        let texts = [texts[0].as_bytes(), texts[1].as_bytes()];
+        assert_eq!(call(texts, s, &mut ours), want, "{first} and {second} rows");
+        assert_eq!(joining::join(texts, s, &mut naive), want, "{first} and {second} rows, naive");
+        assert!(ours == naive, "{first} and {second} rows");
+    }
+}
+
+/// 2,048 messages to and fro, each sent once the one before is received.
+#[test]
+fn the_longest_chain_of_messages() {
+    let (mut first, mut second) = (String::new(), String::new());
+    for k in 0..2_048 {
+        let (from, to, process) = if k % 2 == 0 { (&mut first, &mut second, 0) } else { (&mut second, &mut first, 1) };
+        *from += &format!("{process},send,,,,{}\r\n", 65_535 - k);
+        *to += &format!("{},recv,,,,{}\r\n", 1 - process, 65_535 - k);
+    }
+    let s = JoinSettings { headers: [0, 0], model: 3, row_limit: ROWS, process_limit: 2 };
+    let mut slices = lent([6, 2, 3].map(|k| k * ROWS as usize), 7);
+    assert_eq!(call([first.as_bytes(), second.as_bytes()], s, &mut slices), Joined::Free { rows: ROWS });
+    for k in 0..ROWS as usize {
+        let sends = k % 2 == 0;
+        let process = (k / 2 % 2) as u32;
+        let row = Row::at(&slices.rows, k).expect("a row");
+        assert_eq!((row.process == process, row.message), (sends, 65_535 - k as u32 / 2), "row {}", k + 1);
+        assert_eq!(Part::at(&slices.parts, k).expect("a part").file, u64::from(row.process) + 1, "row {}", k + 1);
+    }
+    let s = JoinSettings { row_limit: ROWS - 1, ..s };
+    assert_eq!(call([first.as_bytes(), second.as_bytes()], s, &mut slices), refused(6, ROWS, 0));
+}
+
+#[test]
+fn every_process_may_be_in_either_file_and_none_in_both() {
+    let s = JoinSettings { headers: [0, 0], model: 1, row_limit: 128, process_limit: PROCESSES };
+    let lengths = [6, PROCESSES as usize, 3].map(|k| k * 128);
+    let of = |process: u32| format!("{process},commit,1,,,\r\n");
+    for process in 0..PROCESSES {
+        let others: String = (0..PROCESSES).filter(|p| *p != process).map(of).collect();
+        for (first, second, want) in [
+            (of(process), others.clone(), Joined::Free { rows: 64 }),
+            (others.clone(), of(process), Joined::Free { rows: 64 }),
+            (of(process), many(PROCESSES, 0..PROCESSES), refused(19, 0, 0)),
+            (many(PROCESSES, 0..PROCESSES), of(process), refused(19, 0, 0)),
+            (of(process), of(process), refused(19, 0, 0)),
+        ] {
+            let mut slices = lent(lengths, 7);
+            assert_eq!(call([first.as_bytes(), second.as_bytes()], s, &mut slices), want, "process {process}");
+        }
+    }
+    let mut slices = lent(lengths, 7);
+    assert_eq!(call([of(0).as_bytes(), of(64).as_bytes()], s, &mut slices), refused(10, 1, 2));
+}
+
+// ---- One file by itself
+
+fn file_refused(number: u32, place: u32) -> Checked {
+    Checked::Refused { refusal: Refusal::from_number(number).expect("a refusal"), place }
+}
+
+#[test]
+fn a_file_by_itself_is_not_asked_about_messages() {
+    let text = "0,recv,,,,7\r\n0,recv,,,,7\r\n0,send,,,,7\r\n0,send,,,,7";
+    let mut rows = [7; 27];
+    assert_eq!(read_file(text.as_bytes(), 0, 4, 1, &mut rows), Checked::Accepted(4));
+    let [recv, send] = [[0, 7, 0, 0, 0, 7], [0, 6, 0, 0, 0, 7]];
+    assert_eq!(rows[..], [&[recv, recv, send, send].concat()[..], &[0; 3]].concat());
+    assert_eq!(read_file([NAMES, text].concat().as_bytes(), 1, 4, 1, &mut rows), Checked::Accepted(4));
+    assert_eq!(read_file(b"", 0, 4, 1, &mut rows), Checked::Accepted(0));
+    assert_eq!(rows, [0; 27]);
+}
+
+#[test]
+fn files_that_do_not_fit_are_refused() {
+    for (header, row_limit, process_limit, rows_len, number) in [
+        (0, 2, 2, 11, 1),
+        (2, 3, 0, 17, 1),
+        (0, u32::MAX, 2, 12, 1),
+        (0, 0x2AAA_AAAB, 2, 12, 1), // 6 times as many are 2 in 32 bits
+        (2, 0, 2, 12, 2),
+        (0, 0, 0, 0, 2),
+        (0, 2, 0, 12, 2),
+        (0, 2, 65, 12, 2),
+        (0, 2, u32::MAX, 12, 2),
+        (2, ROWS + 1, 2, 6 * 4097, 2),
+        (2, 2, 2, 12, 3),
+        (u32::MAX, 2, 2, 12, 3),
+    ] {
+        for text in ["0,write,1,0,10,\r\n", "\""] {
+            let mut rows = vec![7; rows_len];
+            let got = read_file(text.as_bytes(), header, row_limit, process_limit, &mut rows);
+            assert_eq!(got, file_refused(number, 0), "header {header}, {row_limit} rows, {process_limit} processes, {rows_len} numbers");
+            assert!(rows.iter().all(|x| *x == 7));
+        }
+    }
+}
+
+#[test]
+fn a_refused_file_leaves_no_row() {
+    let good = "0,write,1,0,10,\r\n";
+    for (header, text, number, place) in [
+        (0, [good, good, good].concat(), 6, 3),
+        (0, [good, "0,write,1,0,10,\n"].concat(), 4, 2),
+        (0, [good, good, "0,\"x"].concat(), 4, 3), // malformed comes before the row limit
+        (1, good.to_string(), 5, 0),
+        (1, String::new(), 5, 0),
+        (1, "\"".to_string(), 4, 0),
+        (0, NAMES.to_string(), 8, 1),
+        (0, [good, "0,write,1,0,10"].concat(), 7, 2),
+        (0, "0,write,,0,10,".to_string(), 9, 1),
+        (0, [good, "2,write,1,0,10,"].concat(), 10, 2),
+        (0, "0,write,1,4294967295,1,".to_string(), 11, 1),
+    ] {
+        let mut rows = [7; 13];
+        assert_eq!(read_file(text.as_bytes(), header, 2, 2, &mut rows), file_refused(number, place), "{text:?}");
+        assert_eq!(rows, [0; 13], "{text:?}");
+    }
+}
+
+/// No byte is too far: fields of a million digits are read whole.
+#[test]
+fn a_file_has_no_limit_of_bytes() {
+    let mut rows = [7; 6];
+    let digits = "1".repeat(1_000_000);
+    assert_eq!(read_file(format!("0,write,1,0,{digits},").as_bytes(), 0, 1, 1, &mut rows), file_refused(10, 1));
+    assert_eq!(read_file(format!("0,write,1,0,\"{digits}").as_bytes(), 0, 1, 1, &mut rows), file_refused(4, 1));
+    assert_eq!(read_file(format!("\"{digits}\",write").as_bytes(), 0, 1, 1, &mut rows), file_refused(7, 1));
+}

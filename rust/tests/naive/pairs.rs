@@ -1,0 +1,103 @@
+//! Random rows of two files that are to be joined.
+
+use super::random::Random;
+use super::rows::some_rows;
+use kiqsaryn::{Row, RECV, SEND};
+
+/// The rows of two files.
+pub type Files = [Vec<Row>; 2];
+
+/// Rows of one trace as two controllers record them: each row goes to the file of its process. Seldom one file gets all.
+fn split(r: &mut Random, rows: &[Row]) -> Files {
+    let mut second = r.bits();
+    if r.once_in(20) {
+        second = r.pick(&[0, u64::MAX]);
+    } else if let Some(other) = rows.iter().find(|row| row.process != rows[0].process) {
+        // The first two processes are in different files.
+        let bit = second >> rows[0].process & 1;
+        second = second & !(1 << other.process) | (1 - bit) << other.process;
+    }
+    rows.iter().partition(|row| second >> row.process & 1 == 0).into()
+}
+
+/// A row of a kind: its file, its place there, and the row.
+fn some_row(r: &mut Random, files: &Files, kind: u32) -> Option<(usize, usize, Row)> {
+    let places = |k: usize| files[k].iter().enumerate().filter(|(_, row)| row.kind == kind).map(move |(at, row)| (k, at, *row));
+    let all: Vec<(usize, usize, Row)> = places(0).chain(places(1)).collect();
+    (!all.is_empty()).then(|| r.pick(&all))
+}
+
+/// Puts a row of a message into a file at any place from `from` on.
+fn put_talk(r: &mut Random, file: &mut Vec<Row>, from: usize, process: u32, kind: u32, message: u32) {
+    let at = from + r.place(file.len() + 1 - from);
+    file.insert(at, Row { process, kind, message, ..Row::default() });
+}
+
+/// A message sent twice or received twice, in either file, or received by its sender.
+fn damage_message(r: &mut Random, files: &mut Files) {
+    let kind = r.pick(&[SEND, RECV]);
+    let Some((k, at, row)) = some_row(r, files, kind) else {
+        return;
+    };
+    if kind == SEND && r.once_in(2) {
+        put_talk(r, &mut files[k], at + 1, row.process, RECV, row.message);
+        return;
+    }
+    let to = r.place(2);
+    if !files[to].is_empty() {
+        let process = r.pick(&files[to]).process;
+        put_talk(r, &mut files[to], 0, process, kind, row.message);
+    }
+}
+
+/// A recv moved to the front, a send to the back or left out, or a row to any place, so that rows may wait for ever.
+fn damage_order(r: &mut Random, files: &mut Files) {
+    let other = r.below(SEND);
+    let kind = r.pick(&[SEND, RECV, RECV, other]);
+    let Some((k, at, row)) = some_row(r, files, kind) else {
+        return;
+    };
+    files[k].remove(at);
+    let rest = files[k].len() - at;
+    match kind {
+        SEND if r.once_in(2) => {}
+        SEND => files[k].insert(at + r.place(rest + 1), row),
+        RECV => files[k].insert(r.place(at + 1), row),
+        _ => files[k].insert(r.place(at + rest + 1), row),
+    }
+}
+
+/// A row put into the other file, or a process of the other file put into a row.
+fn damage_process(r: &mut Random, files: &mut Files) {
+    let k = r.place(2);
+    if files[k].is_empty() {
+        return;
+    }
+    let at = r.place(files[k].len());
+    if files[1 - k].is_empty() || r.once_in(2) {
+        let row = files[k].remove(at);
+        let to = r.place(files[1 - k].len() + 1);
+        files[1 - k].insert(to, row);
+    } else {
+        files[k][at].process = r.pick(&files[1 - k]).process;
+    }
+}
+
+/// Two files, mostly those of a trace that is accepted, of at most so many rows together where none is added, and the process limit that they keep.
+pub fn some_files(r: &mut Random, most: usize) -> (Files, u32) {
+    let (mut rows, process_limit) = some_rows(r);
+    rows.truncate(if r.once_in(40) { r.place(3) } else { most });
+    let mut files = split(r, &rows);
+    match r.below(16) {
+        0 | 1 => damage_message(r, &mut files),
+        2 => damage_order(r, &mut files),
+        3 => (0..3).for_each(|_| damage_order(r, &mut files)),
+        4 => damage_process(r, &mut files),
+        5 => {
+            damage_message(r, &mut files);
+            damage_order(r, &mut files);
+        }
+        _ => {}
+    }
+    (files, process_limit)
+}
