@@ -1,4 +1,4 @@
-//! Times of reading, writing, counts, verdict and replay next to plain Rust versions of the same rules, in the same run:
+//! Times of reading, writing, joining, counts, verdict and replay next to plain Rust versions of the same rules, in the same run:
 //! `cargo run --release --offline --bin bench`. With words of a case (`bench replay commit scattered 512`) it runs the cases that have them all,
 //! and with `--once` before them only the library's call, once, for a profile; with `--once-plain` the first plain version's.
 
@@ -8,6 +8,7 @@ mod naive;
 
 mod counts;
 mod harness;
+mod joining;
 mod reading;
 mod replay;
 mod verdict;
@@ -22,6 +23,7 @@ fn main() {
     for (title, mut cases) in [
         ("reading", reading::cases()),
         ("writing", writing::cases()),
+        ("joining", joining::cases()),
         ("counts", counts::cases()),
         ("verdict", verdict::cases()),
         ("replay", replay::cases()),

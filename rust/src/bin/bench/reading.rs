@@ -7,7 +7,7 @@ use std::hint::black_box;
 // ---- The plain version
 
 /// A field's bytes without its outer quotes. Where a quote is among them the field is no name, no kind and no number.
-type Field<'a> = &'a [u8];
+pub type Field<'a> = &'a [u8];
 
 pub const PROCESSES: usize = 64;
 
@@ -24,7 +24,7 @@ const TEXT: [bool; 256] = {
 };
 
 /// The fields of the record at a place, how many there are, and the place behind it; or 4, or 6 where the byte limit is met.
-fn record<'a>(text: &'a [u8], cut: bool, mut i: usize, fields: &mut [Field<'a>; 6]) -> Result<(usize, usize), u32> {
+pub fn record<'a>(text: &'a [u8], cut: bool, mut i: usize, fields: &mut [Field<'a>; 6]) -> Result<(usize, usize), u32> {
     let short = if cut { 6 } else { 4 };
     let mut n = 0;
     loop {
@@ -89,7 +89,10 @@ fn number(field: Field, most: u32) -> Result<u32, u32> {
 }
 
 /// Where messages were sent and received: in a table by message, as in the library, or found among the rows before.
-trait Messages {
+pub trait Messages {
+    /// Whether messages are asked about at all.
+    const ASKED: bool = true;
+
     fn sender(&self, rows: &[u32], message: u32) -> Option<u32>;
     fn received(&self, rows: &[u32], message: u32) -> bool;
     fn note(&mut self, kind: u32, process: u32, message: u32);
@@ -126,7 +129,41 @@ impl Messages for Scan {
     fn note(&mut self, _: u32, _: u32, _: u32) {}
 }
 
-fn row(f: &[Field; 6], s: Settings, rows: &[u32], messages: &mut impl Messages) -> Result<[u32; 6], u32> {
+/// A file of a join is not asked about its messages.
+pub struct Unasked;
+
+impl Messages for Unasked {
+    const ASKED: bool = false;
+
+    fn sender(&self, _: &[u32], _: u32) -> Option<u32> {
+        None
+    }
+
+    fn received(&self, _: &[u32], _: u32) -> bool {
+        false
+    }
+
+    fn note(&mut self, _: u32, _: u32, _: u32) {}
+}
+
+/// Question 12 of a send or recv behind these rows, and its message noted.
+fn message_order<M: Messages>(row: &[u32; 6], rows: &[u32], messages: &mut M) -> Result<(), u32> {
+    if !M::ASKED {
+        return Ok(());
+    }
+    let sender = messages.sender(rows, row[5]);
+    let right = match row[1] {
+        SEND => sender.is_none(),
+        _ => sender.is_some_and(|p| p != row[0]) && !messages.received(rows, row[5]),
+    };
+    if !right {
+        return Err(12);
+    }
+    messages.note(row[1], row[0], row[5]);
+    Ok(())
+}
+
+pub fn row(f: &[Field; 6], s: Settings, rows: &[u32], messages: &mut impl Messages) -> Result<[u32; 6], u32> {
     let kind = match f[1] {
         b"read" => 0,
         b"write" => 1,
@@ -157,15 +194,7 @@ fn row(f: &[Field; 6], s: Settings, rows: &[u32], messages: &mut impl Messages) 
             }
             row[0] = number(f[0], s.process_limit - 1)?;
             row[5] = number(f[5], 65_535)?;
-            let sender = messages.sender(rows, row[5]);
-            let right = match kind {
-                SEND => sender.is_none(),
-                _ => sender.is_some_and(|p| p != row[0]) && !messages.received(rows, row[5]),
-            };
-            if !right {
-                return Err(12);
-            }
-            messages.note(kind, row[0], row[5]);
+            message_order(&row, rows, messages)?;
         }
         _ => {
             if !filled(0) || !filled(2) || filled(3) || filled(4) || filled(5) {
@@ -178,7 +207,7 @@ fn row(f: &[Field; 6], s: Settings, rows: &[u32], messages: &mut impl Messages) 
     Ok(row)
 }
 
-fn read_rows(text: &[u8], s: Settings, rows: &mut [u32], messages: &mut impl Messages) -> Result<usize, (u32, usize)> {
+pub fn read_rows(text: &[u8], s: Settings, rows: &mut [u32], messages: &mut impl Messages) -> Result<usize, (u32, usize)> {
     let cut = text.len() > s.byte_limit;
     let text = &text[..text.len().min(s.byte_limit)];
     let mut fields = [Field::default(); 6];
@@ -223,6 +252,23 @@ fn plain(text: &[u8], s: Settings, rows: &mut [u32], counts: &mut [u16], message
     }
     counts.fill(0);
     let answer = read_rows(text, s, rows, messages);
+    rows[6 * answer.unwrap_or(0)..].fill(0);
+    answer
+}
+
+/// One file of a join by itself.
+#[inline(never)]
+pub fn plain_file(text: &[u8], s: Settings, rows: &mut [u32]) -> Result<usize, (u32, usize)> {
+    if (rows.len() as u64) < 6 * u64::from(s.row_limit) {
+        return Err((1, 0));
+    }
+    if !(1..=4096).contains(&s.row_limit) || !(1..=64).contains(&s.process_limit) {
+        return Err((2, 0));
+    }
+    if s.header > 1 {
+        return Err((3, 0));
+    }
+    let answer = read_rows(text, s, rows, &mut Unasked);
     rows[6 * answer.unwrap_or(0)..].fill(0);
     answer
 }

@@ -11,7 +11,7 @@ use std::hint::black_box;
 /// The same steps over the same slices: counts, then for each later row one pass for the last publishing rows, unless writes publish by
 /// themselves, and one for the earlier row, whose bytes are compared last.
 #[inline(never)]
-fn plain(rows: &[u32], n: usize, processes: usize, model: u32, counts: &mut [u16]) -> Option<(u32, u32)> {
+pub fn plain(rows: &[u32], n: usize, processes: usize, model: u32, counts: &mut [u16]) -> Option<(u32, u32)> {
     let publishes = |k: u32| matches!((model, k), (0, 1) | (1, 2) | (2, 4) | (3, 4) | (3, 5));
     let refreshes = |k: u32| matches!((model, k), (0, 0) | (1, 0) | (2, 3) | (3, 3) | (3, 5));
     let own = publishes(1);

@@ -30,7 +30,7 @@ fn digits(n: u32) -> usize {
 }
 
 /// Question 12 of a send or recv, and the mark of its message.
-fn message_order(row: &[u32], marks: &mut [u8; 65_536]) -> Result<(), u32> {
+pub fn message_order(row: &[u32], marks: &mut [u8; 65_536]) -> Result<(), u32> {
     let (own, mark) = (row[0] as u8 + 1, &mut marks[row[5] as usize]);
     match row[1] {
         SEND if *mark == 0 => *mark = own,
