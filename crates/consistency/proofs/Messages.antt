@@ -9,13 +9,13 @@ use lib.ListN.{length}
 use lib.Dec.{ltb, eqb}
 use borrow.Author.Tests.{lt-ltb, ltb-true, eq-eqb, eqb-true}
 use Rattle.rows.specs.declared.Row.{Row}
-use Rattle.rows.specs.Kinds.{SEND, RECV}
+use Rattle.rows.specs.Kinds.{SEND, ARRIVAL}
 use Rattle.rows.specs.Rows.{rowAt}
 use Rattle.rows.proofs.Bools.{and-out, or-out}
-use Rattle.messages.proofs.InOrder.{Sends, Receives}
+use Rattle.messages.proofs.InOrder.{Sends, Arrives}
 use Rattle.trace.specs.Questions.{accepted, checkTrace}
 use Rattle.trace.proofs.Laws.{Sound, accepted-passed, accepted-sound}
-use Rattle.trace.proofs.Messages.{sends-once, receives-once, arrival-sent}
+use Rattle.trace.proofs.Messages.{sends-once, arrives-once, arrival-sent}
 use Rattle.happens_before.specs.Order.{sameProcess, delivers, edge}
 use Rattle.happens_before.proofs.Clocks.{message-order}
 
@@ -23,17 +23,17 @@ use Rattle.happens_before.proofs.Clocks.{message-order}
 -- which is another process's.
 pub record Delivered (rows : List Row) : Type 0 where
   pub sent-once : (m i j : ℕ) → i < length rows → j < length rows → Sends (rowAt rows i) m → Sends (rowAt rows j) m → i ≡ j
-  pub received-once : (m i j : ℕ) → i < length rows → j < length rows → Receives (rowAt rows i) m → Receives (rowAt rows j) m → i ≡ j
-  pub sent-before : (m j : ℕ) → j < length rows → Receives (rowAt rows j) m →
+  pub arrived-once : (m i j : ℕ) → i < length rows → j < length rows → Arrives (rowAt rows i) m → Arrives (rowAt rows j) m → i ≡ j
+  pub sent-before : (m j : ℕ) → j < length rows → Arrives (rowAt rows j) m →
       (i : ℕ) × (i < j) × Sends (rowAt rows i) m × (rowAt rows i .process ≡ rowAt rows j .process → ⊥)
 
 -- The messages of an accepted trace are delivered so.
 pub sound-delivered : {P : ℕ} {rows : List Row} → Sound P rows → Delivered rows
-sound-delivered s = record { sent-once = sends-once s; received-once = receives-once s; sent-before = arrival-sent s }
+sound-delivered s = record { sent-once = sends-once s; arrived-once = arrives-once s; sent-before = arrival-sent s }
 
 -- A recv stands after its send, wherever the two stand in an accepted trace, and they are of two processes.
 pub sound-delivers : {P : ℕ} {rows : List Row} → Sound P rows → (m i j : ℕ) → i < length rows → j < length rows →
-    Sends (rowAt rows i) m → Receives (rowAt rows j) m → (i < j) × (rowAt rows i .process ≡ rowAt rows j .process → ⊥)
+    Sends (rowAt rows i) m → Arrives (rowAt rows j) m → (i < j) × (rowAt rows i .process ≡ rowAt rows j .process → ⊥)
 sound-delivers {P} {rows} s m i j h g c d =
     let t = arrival-sent s m j g d in
     let b : t .0 < length rows = omega (arith, t .1) in
@@ -43,7 +43,7 @@ sound-delivers {P} {rows} s m i j h g c d =
 -- The direct edges of an accepted trace are each process's own row order and the way from each send to the recv of its message.
 pub sound-edge : {P : ℕ} {rows : List Row} → Sound P rows → (i j : ℕ) → i < length rows → j < length rows →
     (edge rows i j ≡ true)
-    ↔ (((i < j) × (rowAt rows i .process ≡ rowAt rows j .process)) ⊎ ((m : ℕ) × Sends (rowAt rows i) m × Receives (rowAt rows j) m))
+    ↔ (((i < j) × (rowAt rows i .process ≡ rowAt rows j .process)) ⊎ ((m : ℕ) × Sends (rowAt rows i) m × Arrives (rowAt rows j) m))
 unfolding edge
 sound-edge {P} {rows} s i j h g = (to, from)
   where
@@ -54,7 +54,7 @@ sound-edge {P} {rows} s i j h g = (to, from)
     w = rowAt rows j
 
     Edge : Type 0
-    Edge = ((i < j) × (r .process ≡ w .process)) ⊎ ((m : ℕ) × Sends r m × Receives w m)
+    Edge = ((i < j) × (r .process ≡ w .process)) ⊎ ((m : ℕ) × Sends r m × Arrives w m)
 
     to : edge rows i j ≡ true → Edge
     to e =
@@ -65,7 +65,7 @@ sound-edge {P} {rows} s i j h g = (to, from)
         go l (inl q) = inl (l, eqb-true (r .process) (w .process) q)
         go l (inr q) =
             let a = and-out (eqb (r .kind) SEND) _ q in
-            let b = and-out (eqb (w .kind) RECV) (eqb (r .message) (w .message)) (a .1) in
+            let b = and-out (eqb (w .kind) ARRIVAL) (eqb (r .message) (w .message)) (a .1) in
             inr (w .message, (eqb-true _ _ (a .0), eqb-true _ _ (b .1)), (eqb-true _ _ (b .0), refl))
 
     from : Edge → edge rows i j ≡ true
@@ -73,7 +73,7 @@ sound-edge {P} {rows} s i j h g = (to, from)
     from (inr (m, c, d)) =
         let l = sound-delivers s m i j h g c d .0 in
         let same = eq-eqb (r .message) (w .message) (c .1 ∙ sym (d .1)) in
-        message-order rows i j l g (rw (eq-eqb (r .kind) SEND (c .0), eq-eqb (w .kind) RECV (d .0)) same)
+        message-order rows i j l g (rw (eq-eqb (r .kind) SEND (c .0), eq-eqb (w .kind) ARRIVAL (d .0)) same)
 
 -- The messages of every text that a call accepts are delivered so.
 pub accepted-delivered : (text : List ℕ) (header model rowLimit processLimit byteLimit rowsLength countsLength : ℕ) (rows : List Row) →

@@ -123,7 +123,7 @@ pub program-order : (rows : List Row) (i j : ℕ) → i < j → j < length rows 
 unfolding edge
 program-order rows i j h n p = rw (lt-ltb i j h, lt-ltb j (length rows) n, eq-eqb (rowAt rows i .process) (rowAt rows j .process) p)
 
--- A send has an edge to a later recv of its message.
+-- A send has an edge to a later row at which its message arrives.
 pub message-order : (rows : List Row) (i j : ℕ) → i < j → j < length rows → delivers (rowAt rows i) (rowAt rows j) ≡ true → edge rows i j ≡ true
 unfolding edge
 message-order rows i j h n d = rw (lt-ltb i j h, lt-ltb j (length rows) n) (or-right (sameProcess (rowAt rows i) (rowAt rows j)) _ d)
@@ -216,7 +216,7 @@ module _ (rows : List Row) (j : ℕ) (h : j < length rows) where
   last-out i zero r u = absurd (false≢true u)
   last-out i (suc l) r u = upTo-edge (edge-forward rows) i l j u (program-order rows l j (r .0) h (r .1))
 
-  -- The rows that happen before row j are those up to the last row of its process and those up to a send that it receives.
+  -- The rows that happen before row j are those up to the last row of its process and those up to a send whose message arrives at it.
   hb-union : (i l : ℕ) → LastOf l →
       hb (edge rows) i j ≡ unionTo (λ k. delivers (rowAt rows k) (rowAt rows j)) (λ k s. upTo (edge rows) s k) (upToLast (edge rows) l) j i
   hb-union i l r =

@@ -1,4 +1,4 @@
--- The last row of a process, the sends that a row receives, and a row's counts joined from those of other rows.
+-- The last row of a process, the sends whose messages arrive at a row, and a row's counts joined from those of other rows.
 use Prim.Native.Nat.{ℕ, zero, suc, _+_, _*_, _-_, _≤_, _<_, max}
 use native.Mathlib.Nat.{max-zero, zero-max, max-le, add-zero, sub-add-eq-max}
 use native.Mathlib.Decide.{ℕ-discrete}
@@ -10,7 +10,7 @@ use lib.ListN.{length, getD, take, drop, set, length-set}
 use lib.Seq.{getD-drop, getD-set-same, getD-set-other, take-set-le, drop-set-lt}
 use lib.Dec.{eqb}
 use borrow.Author.Tests.{eq-eqb, ne-eqb, eqb-true}
-use Rattle.rows.specs.Kinds.{SEND, RECV}
+use Rattle.rows.specs.Kinds.{SEND, ARRIVAL}
 use Rattle.rows.specs.Rows.{rowHere, rowIn}
 use Rattle.rows.specs.Counting.{values, lastBelow}
 use Rattle.happens_before.specs.Order.{delivers}
@@ -50,19 +50,19 @@ module _ (xs : List ℕ) (k j : ℕ) where
   pub no-send : (getD xs (k * 6 + 1) 0 ≡ SEND → ⊥) → false ≡ delivers (rowIn xs k) (rowIn xs j)
   no-send e = rw (kind-in xs k, ne-eqb (getD xs (k * 6 + 1) 0) SEND e)
 
-  -- A row that is no recv receives nothing.
-  pub no-recv : (getD xs (j * 6 + 1) 0 ≡ RECV → ⊥) → false ≡ delivers (rowIn xs k) (rowIn xs j)
-  no-recv e = rw (kind-in xs j, ne-eqb (getD xs (j * 6 + 1) 0) RECV e) (sym (and-false (eqb (rowIn xs k .kind) SEND)))
+  -- At a row of another kind nothing arrives.
+  pub no-arrival : (getD xs (j * 6 + 1) 0 ≡ ARRIVAL → ⊥) → false ≡ delivers (rowIn xs k) (rowIn xs j)
+  no-arrival e = rw (kind-in xs j, ne-eqb (getD xs (j * 6 + 1) 0) ARRIVAL e) (sym (and-false (eqb (rowIn xs k .kind) SEND)))
 
-  -- Of a send and a recv, the messages decide.
-  pub by-message : getD xs (k * 6 + 1) 0 ≡ SEND → getD xs (j * 6 + 1) 0 ≡ RECV →
+  -- Of a send and an arrival, the messages decide.
+  pub by-message : getD xs (k * 6 + 1) 0 ≡ SEND → getD xs (j * 6 + 1) 0 ≡ ARRIVAL →
       eqb (getD xs (k * 6 + 5) 0) (getD xs (j * 6 + 5) 0) ≡ delivers (rowIn xs k) (rowIn xs j)
   by-message s r =
       rw (
         kind-in xs k,
         eq-eqb (getD xs (k * 6 + 1) 0) SEND s,
         kind-in xs j,
-        eq-eqb (getD xs (j * 6 + 1) 0) RECV r,
+        eq-eqb (getD xs (j * 6 + 1) 0) ARRIVAL r,
         message-in xs k,
         message-in xs j,
       )
@@ -179,11 +179,11 @@ module _ (sends : ℕ → Bool) (f : ℕ → ℕ) where
       go false e true d rest = absurd (false≢true (sym e ∙ h n d))
       go false e false d rest = rw d rest
 
--- Every send that row j receives is in the chain of row j's message.
-received-chain : (xs : List ℕ) (j k : ℕ) → delivers (rowIn xs k) (rowIn xs j) ≡ true → inChain xs (chainOf (rowIn xs j .message)) k ≡ true
-received-chain xs j k d =
+-- Every send whose message arrives at row j is in the chain of row j's message.
+arrived-chain : (xs : List ℕ) (j k : ℕ) → delivers (rowIn xs k) (rowIn xs j) ≡ true → inChain xs (chainOf (rowIn xs j .message)) k ≡ true
+arrived-chain xs j k d =
     let a = and-out (eqb (rowIn xs k .kind) SEND) _ d in
-    let b = and-out (eqb (rowIn xs j .kind) RECV) _ (a .1) in
+    let b = and-out (eqb (rowIn xs j .kind) ARRIVAL) _ (a .1) in
     let m = eqb-true (rowIn xs k .message) (rowIn xs j .message) (b .1) in
     rw (a .0) (eq-eqb (chainOf (rowIn xs k .message)) (chainOf (rowIn xs j .message)) (ap chainOf m))
 
@@ -198,7 +198,7 @@ pub record Joining (P : ℕ) (xs l : List ℕ) (j : ℕ) (x : List ℕ) (next : 
       joinedTo (λ i. delivers (rowIn xs i) (rowIn xs j)) (λ i. cellIn P l i p) (cellIn P x j p) next ≡ joinedSends P xs l j p
 
 module _ (P : ℕ) (xs l : List ℕ) (j : ℕ) (fits : j * P + P ≤ length l) where
-  -- Row j receives what row i sends.
+  -- What row i sends arrives at row j.
   abbrev sends : ℕ → Bool
   sends i = delivers (rowIn xs i) (rowIn xs j)
 
@@ -208,11 +208,11 @@ module _ (P : ℕ) (xs l : List ℕ) (j : ℕ) (fits : j * P + P ≤ length l) w
 
   -- Row j's counts joined with those of the sends below n are those joined with the sends up to the chain's last send below n.
   skipped : (p a n : ℕ) → joinedTo sends (λ i. cellIn P l i p) a n ≡ joinedTo sends (λ i. cellIn P l i p) a (previous n)
-  skipped p a n = joined-skip sends (λ i. cellIn P l i p) (inChain xs (chainOf (rowIn xs j .message))) (received-chain xs j) a n
+  skipped p a n = joined-skip sends (λ i. cellIn P l i p) (inChain xs (chainOf (rowIn xs j .message))) (arrived-chain xs j) a n
 
-  -- A row that is no recv joins nothing.
-  pub sends-none : (getD xs (j * 6 + 1) 0 ≡ RECV → ⊥) → l ≡ withCounts P l j (joinedSends P xs l j)
-  sends-none e = put-same (j * P) P l fits (λ p h. sym (joined-none _ _ _ j (λ k. sym (no-recv xs k j e))))
+  -- A row at which nothing arrives joins nothing.
+  pub sends-none : (getD xs (j * 6 + 1) 0 ≡ ARRIVAL → ⊥) → l ≡ withCounts P l j (joinedSends P xs l j)
+  sends-none e = put-same (j * P) P l fits (λ p h. sym (joined-none _ _ _ j (λ k. sym (no-arrival xs k j e))))
 
   -- The chain's last send below row j comes first.
   pub sends-first : {next : ℕ} → next ≡ previous j → Joining P xs l j l next
@@ -241,7 +241,7 @@ module _ (P : ℕ) (xs l : List ℕ) (j : ℕ) (fits : j * P + P ≤ length l) w
     before : k < j
     before = omega (arith, g .low)
 
-    -- The counts that are left to join are those of the send that comes next, if row j receives it, and of those before it.
+    -- The counts that are left to join are those of the send that comes next, if its message arrives at row j, and of those before it.
     split : (p : ℕ) → p < P →
         cond (sends k) (joinedTo sends (λ i. cellIn P l i p) (max (cellIn P x j p) (cellIn P l k p)) k) (joinedTo sends (λ i. cellIn P l i p) (cellIn P x j p) k)
         ≡ joinedSends P xs l j p
@@ -251,7 +251,7 @@ module _ (P : ℕ) (xs l : List ℕ) (j : ℕ) (fits : j * P + P ≤ length l) w
         ∙ ap (joinedTo sends (λ i. cellIn P l i p) (cellIn P x j p)) (sym here) ∙ g .left p h
 
     module _ {b : Bool} {after : ℕ} (d : b ≡ sends k) (link : after ≡ previous k) where
-      -- Where row j does not receive it, the chain goes on with the send before.
+      -- Where its message does not arrive at row j, the chain goes on with the send before.
       pub sends-skip : b ≡ false → Joining P xs l j x after
       sends-skip q =
           record {
@@ -262,7 +262,7 @@ module _ (P : ℕ) (xs l : List ℕ) (j : ℕ) (fits : j * P + P ≤ length l) w
             left = λ p h. rw link (sym (skipped p (cellIn P x j p) k) ∙ rw (sym d ∙ q) at (split p h));
           }
 
-      -- Where row j receives it, its counts are joined, and the chain goes on with the send before.
+      -- Where its message arrives at row j, its counts are joined, and the chain goes on with the send before.
       pub sends-join : {y : List ℕ} → b ≡ true → length y ≡ length x → y ≡ withCounts P x j (joinedRow P x j k) → Joining P xs l j y after
       sends-join {y} q s f =
           record {
@@ -288,7 +288,7 @@ module _ (P : ℕ) (xs l : List ℕ) (j : ℕ) (fits : j * P + P ≤ length l) w
 
 -- ---- A row filled
 
--- Row j's counts from its process's last row and the sends that row j receives.
+-- Row j's counts from its process's last row and the sends whose messages arrive at row j.
 abbrev joined : ℕ → List ℕ → List ℕ → ℕ → ℕ → ℕ
 joined P xs l j p =
     joinedTo (λ k. delivers (rowIn xs k) (rowIn xs j)) (λ k. cellIn P l k p)

@@ -6,7 +6,7 @@ use mathlib.Core.List.{List, _++_}
 use lib.ListN.{getD, take, drop}
 use lib.Dec.{eqb}
 use Rattle.rows.specs.declared.Row.{Row}
-use Rattle.rows.specs.Rows.{rowHere, rowAt, rowIn}
+use Rattle.rows.specs.Rows.{rowAt, rowIn}
 use Rattle.rows.specs.Counting.{values, lastBelow}
 use Rattle.happens_before.specs.Order.{delivers, count}
 
@@ -27,7 +27,7 @@ joinedTo sends f start zero = start
 joinedTo sends f start (suc k) = cond (sends k) (max (joinedTo sends f start k) (f k)) (joinedTo sends f start k)
 
 -- The clock of row j for process p without the row itself: that of the process's last row before, joined with those of the sends whose
--- message row j receives.
+-- message arrives at row j.
 unfoldable pub clock : List Row → ℕ → ℕ → ℕ
 clock rows p j =
     joinedTo (λ k. delivers (rowAt rows k) (rowAt rows j)) (λ k. count rows p k)
@@ -53,7 +53,7 @@ abbrev pub joinedLast : ℕ → List ℕ → ℕ → ℕ → ℕ → ℕ
 joinedLast processLimit counts j last p =
     max (cellIn processLimit counts j p) (fromLast (λ k. cellIn processLimit counts k p) last)
 
--- Row j's counts joined with those of the sends that row j receives.
+-- Row j's counts joined with those of the sends whose message arrives at it.
 abbrev pub joinedSends : ℕ → List ℕ → List ℕ → ℕ → ℕ → ℕ
 joinedSends processLimit xs counts j p =
     joinedTo (λ k. delivers (rowIn xs k) (rowIn xs j)) (λ k. cellIn processLimit counts k p) (cellIn processLimit counts j p) j
@@ -62,7 +62,8 @@ joinedSends processLimit xs counts j p =
 abbrev pub withOwn : ℕ → (ℕ → ℕ) → ℕ → ℕ
 withOwn process f p = f p + cond (eqb process p) 1 0
 
--- What row j's counts become, from 0: those of the last row of its process, joined with those of the sends that it receives, and row j itself.
+-- What row j's counts become, from 0: those of the last row of its process, joined with those of the sends whose message arrives at it, and row j
+-- itself.
 unfoldable pub filledRow : ℕ → List ℕ → List ℕ → ℕ → ℕ → ℕ
 filledRow processLimit xs counts j =
     withOwn (rowIn xs j .process)

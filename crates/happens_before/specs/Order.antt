@@ -3,10 +3,10 @@ use Prim.Native.Nat.{ℕ, zero, suc}
 use mathlib.Core.Path.{_≡_}
 use mathlib.Core.Bool.{Bool, true, false, _&&_, _||_}
 use mathlib.Core.List.{List}
-use lib.ListN.{length, getD}
+use lib.ListN.{length}
 use lib.Dec.{ltb, eqb}
 use Rattle.rows.specs.declared.Row.{Row}
-use Rattle.rows.specs.Kinds.{SEND, RECV}
+use Rattle.rows.specs.Kinds.{SEND, ARRIVAL}
 use Rattle.rows.specs.Counting.{anyBelow, countBelow, values, blocks}
 use Rattle.rows.specs.Rows.{rowAt}
 
@@ -14,11 +14,11 @@ use Rattle.rows.specs.Rows.{rowAt}
 abbrev pub sameProcess : Row → Row → Bool
 sameProcess r s = eqb (r .process) (s .process)
 
--- Row r sends the message that row s receives.
+-- The message that row r sends arrives at row s.
 abbrev pub delivers : Row → Row → Bool
-delivers r s = eqb (r .kind) SEND && (eqb (s .kind) RECV && eqb (r .message) (s .message))
+delivers r s = eqb (r .kind) SEND && (eqb (s .kind) ARRIVAL && eqb (r .message) (s .message))
 
--- A direct edge from row i to row j: i stands before j in the trace, and both are of one process or j receives what i sends. No other
+-- A direct edge from row i to row j: i stands before j in the trace, and both are of one process or what i sends arrives at j. No other
 -- definition knows of messages.
 unfoldable pub edge : List Row → ℕ → ℕ → Bool
 edge rows i j = ltb i j && (ltb j (length rows) && (sameProcess (rowAt rows i) (rowAt rows j) || delivers (rowAt rows i) (rowAt rows j)))

@@ -141,8 +141,8 @@ fn chain_of(message: u32) -> usize
     message as usize % CHAINS
 }
 
-// Row j receives what row k sends.
-fn receives(rows: &[u32], k: usize, j: usize) -> bool
+// What row k sends arrives at row j.
+fn arrives(rows: &[u32], k: usize, j: usize) -> bool
     requires { ⌜ (k * FIELDS + FIELDS ≤ length (now rows)) × (j * FIELDS + FIELDS ≤ length (now rows)) ⌝ }
     ensures { λ r. ⌜ r ≡ delivers (rowIn (now (rows .entry)) k) (rowIn (now (rows .entry)) j) ⌝ }
 {
@@ -151,7 +151,7 @@ fn receives(rows: &[u32], k: usize, j: usize) -> bool
     if rows[from + rows::KIND_AT] != rows::SEND {
         return false;
     }
-    if rows[to + rows::KIND_AT] != rows::RECV {
+    if rows[to + rows::KIND_AT] != rows::ARRIVAL {
         return false;
     }
     rows[from + rows::MESSAGE_AT] == rows[to + rows::MESSAGE_AT]
@@ -188,7 +188,7 @@ fn join_last(counts: &mut [u16], last: usize, j: usize, processes: usize)
     }
 }
 
-// Joins the counts of every send that row j receives into those of row j: the chain of the message leads from send to earlier send.
+// Joins the counts of every send whose message arrives at row j into those of row j: the chain of the message leads from send to earlier send.
 fn join_sends(
     rows: &[u32],
     j: usize,
@@ -202,14 +202,14 @@ fn join_sends(
     ensures { λ r. ⌜ now (counts .exit) ≡ withCounts processes (now (counts .entry)) j (joinedSends processes (now (rows .entry)) (now (counts .entry)) j) ⌝ }
 {
     let at = j * rows::FIELDS;
-    if rows[at + rows::KIND_AT] != rows::RECV {
+    if rows[at + rows::KIND_AT] != rows::ARRIVAL {
         return;
     }
     let chain = chain_of(rows[at + rows::MESSAGE_AT]);
     let mut next = heads[chain] as usize;
     while 0 < next {
         let k = next - 1;
-        if receives(rows, k, j) {
+        if arrives(rows, k, j) {
             join(counts, k, j, processes);
         }
         next = earlier[k] as usize;

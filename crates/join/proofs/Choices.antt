@@ -13,7 +13,7 @@ use Rattle.csv.specs.declared.Reading.{Reading}
 use Rattle.csv.specs.declared.Status.the-variants.{End, Malformed, Limit, Record}
 use Rattle.csv.proofs.Answers.{tells}
 use Rattle.rows.specs.declared.Row.{Row}
-use Rattle.rows.specs.Kinds.{RECV}
+use Rattle.rows.specs.Kinds.{ARRIVAL}
 use Rattle.messages.specs.Table.{isSent, entryFor}
 use Rattle.trace_numbers.specs.Numbers.{fieldsOf}
 use Rattle.trace_numbers.specs.declared.ReadRow.{ReadRow}
@@ -77,14 +77,14 @@ module _ (P : ℕ) (text : List ℕ) (at : ℕ) {r : Reading} (e : r ≡ reading
 
 module _ (table : List ℕ) (r : Row) where
   -- A row of another kind does not wait.
-  pub waits-not : (r .kind ≡ RECV → ⊥) → false ≡ waitsBy table r
+  pub waits-not : (r .kind ≡ ARRIVAL → ⊥) → false ≡ waitsBy table r
   unfolding waitsBy
-  waits-not k = rw (ne-eqb (r .kind) RECV k)
+  waits-not k = rw (ne-eqb (r .kind) ARRIVAL k)
 
-  -- A recv waits where its message was not sent.
-  pub waits-recv : r .kind ≡ RECV → {b : Bool} → b ≡ isSent (entryFor table r) → not b ≡ waitsBy table r
+  -- A row at which a message arrives waits where the message was not sent.
+  pub waits-arrival : r .kind ≡ ARRIVAL → {b : Bool} → b ≡ isSent (entryFor table r) → not b ≡ waitsBy table r
   unfolding waitsBy
-  waits-recv k e = rw (eq-eqb (r .kind) RECV k) (ap not e)
+  waits-arrival k e = rw (eq-eqb (r .kind) ARRIVAL k) (ap not e)
 
 module _ (table : List ℕ) (x : Next) where
   -- A file at its end has no row ready.

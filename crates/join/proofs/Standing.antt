@@ -13,7 +13,7 @@ use Rattle.csv.proofs.Answers.{all-six}
 use Rattle.csv.proofs.Places.{found-places}
 use Rattle.rows.specs.declared.Row.{Row}
 use Rattle.rows.specs.Questions.{firstNo}
-use Rattle.rows.specs.Kinds.{RECV}
+use Rattle.rows.specs.Kinds.{ARRIVAL}
 use Rattle.rows.specs.Limits.{MESSAGES}
 use Rattle.messages.proofs.Tables.{Tells}
 use Rattle.trace_fields.specs.Questions.{fieldQuestions}
@@ -95,7 +95,7 @@ stands-none s = end-ahead (s .ahead) (s .is-next)
 -- A table that tells of the taken rows tells which rows wait.
 pub waits-told : {table : List ℕ} {taken : List Row} → Tells table taken → (r : Row) → r .message < MESSAGES → waitsBy table r ≡ waits taken r
 unfolding waitsBy waits
-waits-told {table} {taken} t r h = ap (λ (b : Bool). eqb (r .kind) RECV && not b) (t .each (r .message) h .sent-told)
+waits-told {table} {taken} t r h = ap (λ (b : Bool). eqb (r .kind) ARRIVAL && not b) (t .each (r .message) h .sent-told)
 
 -- Where an entry stands next, the file is ready exactly where its row does not wait.
 pub ready-told : {P file : ℕ} {text : List ℕ} {x : Next} {e : Entry} {es : List Entry} {table : List ℕ} {taken : List Row} → First P file text x e es →

@@ -6,7 +6,7 @@ use lib.ListN.{length, take, drop}
 use lib.Dec.{eqb}
 use Rattle.csv.specs.Reading.{Finding, nothing, malformed, past-limit, found, readAt, firstSix}
 use Rattle.rows.specs.declared.Row.{Row}
-use Rattle.rows.specs.Kinds.{RECV}
+use Rattle.rows.specs.Kinds.{ARRIVAL}
 use Rattle.rows.specs.Rows.{noRow}
 use Rattle.messages.specs.Table.{isSent, entryFor}
 use Rattle.trace_numbers.specs.Numbers.{fieldsOf}
@@ -54,9 +54,9 @@ stepped taken processLimit text x = cond taken (nextIn processLimit text (x .beh
 
 -- ---- Which record comes next
 
--- A row waits by the table: it is a recv whose message no row put to the table has sent.
+-- A row waits by the table: a message arrives at it that no row put to the table has sent.
 unfoldable pub waitsBy : List ℕ → Row → Bool
-waitsBy table r = eqb (r .kind) RECV && not (isSent (entryFor table r))
+waitsBy table r = eqb (r .kind) ARRIVAL && not (isSent (entryFor table r))
 
 -- A file has a next row, and the row does not wait.
 unfoldable pub readyBy : List ℕ → Next → Bool

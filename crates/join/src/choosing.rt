@@ -94,11 +94,11 @@ pub(crate) fn step(text: &[u8], next: Next, taken: bool, process_limit: u32) -> 
     next
 }
 
-// Whether a row waits: it receives a message that no row put to the table has sent.
+// Whether a row waits: a message arrives at it that no row put to the table has sent.
 fn waits(table: &[u16; messages::ENTRIES], row: Row) -> bool
     ensures { λ r. ⌜ r ≡ waitsBy (now (table .entry)) row ⌝ }
 {
-    if row.kind != rows::RECV {
+    if row.kind != rows::ARRIVAL {
         return false;
     }
     !messages::is_row_sent(table, row)

@@ -9,11 +9,11 @@ use lib.Seq.{getD-take}
 use lib.Dec.{eqb}
 use borrow.Author.Tests.{eqb-true, eq-eqb, not-true, not-false}
 use Rattle.rows.specs.declared.Row.{Row}
-use Rattle.rows.specs.Kinds.{SEND, RECV}
+use Rattle.rows.specs.Kinds.{SEND, ARRIVAL}
 use Rattle.rows.specs.Rows.{rowAt, noRow}
 use Rattle.rows.proofs.Bools.{and-out, not-both}
 use Rattle.messages.specs.Questions.{any, carries, sent}
-use Rattle.messages.proofs.InOrder.{Sends, Receives, some-out, some-in}
+use Rattle.messages.proofs.InOrder.{Sends, Arrives, some-out, some-in}
 use Rattle.happens_before.specs.Order.{sameProcess}
 use Rattle.join_meaning.specs.Joining.{waits, sharesProcess}
 
@@ -25,18 +25,18 @@ apart a b e i j h l q =
 
 -- ---- Rows that wait
 
--- The message of a recv that does not wait is sent.
-pub ready-out : (before : List Row) (r : Row) → waits before r ≡ false → r .kind ≡ RECV → sent (r .message) before ≡ true
+-- The message that arrives at a row that does not wait is sent.
+pub ready-out : (before : List Row) (r : Row) → waits before r ≡ false → r .kind ≡ ARRIVAL → sent (r .message) before ≡ true
 unfolding waits
 ready-out before r e c = not-false (sent (r .message) before) (rw c at e)
 
--- A row does not wait where its message is sent if it is a recv.
-pub ready-in : (before : List Row) (r : Row) → (r .kind ≡ RECV → sent (r .message) before ≡ true) → waits before r ≡ false
+-- A row does not wait where the message that arrives at it, if one does, is sent.
+pub ready-in : (before : List Row) (r : Row) → (r .kind ≡ ARRIVAL → sent (r .message) before ≡ true) → waits before r ≡ false
 unfolding waits
-ready-in before r f = not-both (eqb (r .kind) RECV) _ (λ c n. false≢true (sym (not-true _ n) ∙ f (eqb-true _ _ c)))
+ready-in before r f = not-both (eqb (r .kind) ARRIVAL) _ (λ c n. false≢true (sym (not-true _ n) ∙ f (eqb-true _ _ c)))
 
--- A recv that does not wait behind the first rows of a list has a send of its message there.
-pub sent-before : (m : List Row) (n : ℕ) (r : Row) (message : ℕ) → waits (take n m) r ≡ false → Receives r message →
+-- A row that does not wait behind the first rows of a list has a send of the message that arrives at it there.
+pub sent-before : (m : List Row) (n : ℕ) (r : Row) (message : ℕ) → waits (take n m) r ≡ false → Arrives r message →
     (k : ℕ) × (k < n) × Sends (rowAt m k) message
 sent-before m n r message e c =
     let t = some-out (carries SEND (r .message)) (take n m) (ready-out (take n m) r e (c .0)) in

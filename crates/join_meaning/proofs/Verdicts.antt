@@ -12,7 +12,7 @@ use Rattle.rows.specs.Rows.{rowAt}
 use Rattle.rows.proofs.Bools.{and-out}
 use Rattle.happens_before.specs.Order.{delivers, edge}
 use Rattle.happens_before.proofs.Clocks.{edge-out, program-order, message-order}
-use Rattle.messages.proofs.InOrder.{Sends, Receives}
+use Rattle.messages.proofs.InOrder.{Sends, Arrives}
 use Rattle.trace.proofs.Laws.{WellFormed, Sound}
 use Rattle.trace.proofs.Messages.{sends-once, arrival-sent}
 use Rattle.reorder.specs.Renumbering.{Renumbered}
@@ -28,8 +28,8 @@ use Rattle.join_meaning.proofs.Taking.{join-allowed, join-sound}
 
 -- ---- Direct edges
 
--- A send and the recv of its message.
-delivers-out : (r s : Row) → delivers r s ≡ true → Sends r (s .message) × Receives s (s .message)
+-- A send and the row at which its message arrives.
+delivers-out : (r s : Row) → delivers r s ≡ true → Sends r (s .message) × Arrives s (s .message)
 delivers-out r s e =
     let a = and-out _ _ e in
     let b = and-out _ _ (a .1) in
@@ -55,7 +55,7 @@ module _ {a b m n : List Row} (e : sharesProcess a b ≡ false) (d : Merged a b 
       of : (k : ℕ) → k < length m → rowOn a b (spot d k) .process ≡ rowAt m k .process
       of k h = ap (λ (r : Row). r .process) (sym (row-place d (spot d k) (spot-on d k h)) ∙ ap (rowAt m) (place-spot d k h))
 
-  -- A direct edge of one merging is one of the other, where a send stands before the recv of its message there too.
+  -- A direct edge of one merging is one of the other, where a send stands before the arrival of its message there too.
   edge-kept : ((i j : ℕ) → i < j → j < length m → delivers (rowAt m i) (rowAt m j) ≡ true → moved d g i < moved d g j) →
       (i j : ℕ) → edge m i j ≡ true → edge n (moved d g i) (moved d g j) ≡ true
   edge-kept f i j t =
@@ -75,7 +75,7 @@ module _ {a b m n : List Row} (e : sharesProcess a b ≡ false) (d : Merged a b 
 -- ---- A sound merging and an allowed one
 
 module _ {P : ℕ} {a b rows m : List Row} (s : Sound P rows) (d : Merged a b rows) (g : AllowedMerging a b m) where
-  -- A send stands before the recv of its message in the allowed merging: the recv does not wait there, and only this row sends the message.
+  -- A send stands before the arrival of its message in the allowed merging: that row does not wait there, and only this row sends the message.
   sent-there : (i j : ℕ) → i < j → j < length rows → delivers (rowAt rows i) (rowAt rows j) ≡ true →
       moved d (g .merges) i < moved d (g .merges) j
   sent-there i j h l q =
@@ -83,7 +83,7 @@ module _ {P : ℕ} {a b rows m : List Row} (s : Sound P rows) (d : Merged a b ro
       let c = delivers-out (rowAt rows i) (rowAt rows j) q in
       let at = moved d (g .merges) j in
       let within = moved-in d (g .merges) j l in
-      let arrives = subst (λ (r : Row). Receives r message) (sym (moved-row d (g .merges) j l)) (c .1) in
+      let arrives = subst (λ (r : Row). Arrives r message) (sym (moved-row d (g .merges) j l)) (c .1) in
       let t = sent-before m at (rowAt m at) message (g .in-order at within) arrives in
       let k : t .0 < length m = omega arith in
       let sends = subst (λ (r : Row). Sends r message) (sym (moved-row (g .merges) d (t .0) k)) (t .2) in
@@ -91,7 +91,7 @@ module _ {P : ℕ} {a b rows m : List Row} (s : Sound P rows) (d : Merged a b ro
       let same : t .0 ≡ moved d (g .merges) i = sym (moved-back (g .merges) d (t .0) k) ∙ ap (moved d (g .merges)) one in
       omega arith
 
-  -- A send stands before the recv of its message in the sound merging: the message was sent before, and only this row sends it.
+  -- A send stands before the arrival of its message in the sound merging: the message was sent before, and only this row sends it.
   sent-here : (i j : ℕ) → i < j → j < length m → delivers (rowAt m i) (rowAt m j) ≡ true →
       moved (g .merges) d i < moved (g .merges) d j
   sent-here i j h l q =
@@ -100,7 +100,7 @@ module _ {P : ℕ} {a b rows m : List Row} (s : Sound P rows) (d : Merged a b ro
       let k : i < length m = omega arith in
       let at = moved (g .merges) d j in
       let within = moved-in (g .merges) d j l in
-      let arrives = subst (λ (r : Row). Receives r message) (sym (moved-row (g .merges) d j l)) (c .1) in
+      let arrives = subst (λ (r : Row). Arrives r message) (sym (moved-row (g .merges) d j l)) (c .1) in
       let t = arrival-sent s message at within arrives in
       let sends = subst (λ (r : Row). Sends r message) (sym (moved-row (g .merges) d i k)) (c .0) in
       let one = sends-once s message (t .0) (moved (g .merges) d i) (omega arith) (moved-in (g .merges) d i k) (t .2) sends in

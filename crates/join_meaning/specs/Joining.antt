@@ -6,7 +6,7 @@ use mathlib.Core.List.{List, [], _∷_, _++_}
 use lib.ListN.{length}
 use lib.Dec.{leb, eqb}
 use Rattle.rows.specs.declared.Row.{Row}
-use Rattle.rows.specs.Kinds.{RECV}
+use Rattle.rows.specs.Kinds.{ARRIVAL}
 use Rattle.rows.specs.Questions.{Question, firstNo, longEnough}
 use Rattle.rows.specs.Refusals.{SHORT-SLICE, LIMITS, HEADER-WORD, ROW-LIMIT, SHARED-PROCESS, STUCK}
 use Rattle.messages.specs.Questions.{any, sent, messageQuestions}
@@ -17,9 +17,9 @@ use Rattle.join_meaning.specs.Files.{Entry, rowsOf, readFile, entriesOf}
 
 -- ---- Which record comes next
 
--- A row waits behind the rows taken so far: it is a recv whose message no taken row has sent. No other definition knows which rows wait.
+-- A row waits behind the rows taken so far: a message arrives at it that no taken row has sent. No other definition knows which rows wait.
 unfoldable pub waits : List Row → Row → Bool
-waits taken r = eqb (r .kind) RECV && not (sent (r .message) taken)
+waits taken r = eqb (r .kind) ARRIVAL && not (sent (r .message) taken)
 
 -- What comes next: both files are at their end; no next row can be taken; or an entry is taken, and this is left of the first and of the second.
 pub data Turn : Type 0 where

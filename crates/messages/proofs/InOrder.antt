@@ -9,7 +9,7 @@ use lib.ListN.{length, List·getD-append}
 use lib.Dec.{eqb}
 use borrow.Author.Tests.{eq-eqb, ne-eqb, eqb-true, eqb-false, not-true}
 use Rattle.rows.specs.declared.Row.{Row}
-use Rattle.rows.specs.Kinds.{SEND, RECV}
+use Rattle.rows.specs.Kinds.{SEND, RECV, ARRIVAL}
 use Rattle.rows.specs.Rows.{rowAt, noRow}
 use Rattle.rows.proofs.Bools.{and-out, or-out, or-right, not-passed}
 use Rattle.messages.specs.Questions.{any, carries, sentByOther, messageInOrder}
@@ -20,16 +20,16 @@ use Rattle.messages.specs.Questions.{any, carries, sentByOther, messageI
 abbrev pub Sends : Row → ℕ → Type 0
 Sends r message = (r .kind ≡ SEND) × (r .message ≡ message)
 
--- The row receives this message.
-abbrev pub Receives : Row → ℕ → Type 0
-Receives r message = (r .kind ≡ RECV) × (r .message ≡ message)
+-- The message arrives at the row.
+abbrev pub Arrives : Row → ℕ → Type 0
+Arrives r message = (r .kind ≡ ARRIVAL) × (r .message ≡ message)
 
 -- A row with the first n rows of a trace before it: a send's message is unsent so far; a recv's was sent earlier by another process and is
 -- not yet received.
 pub record InOrder (rows : List Row) (n : ℕ) (r : Row) : Type 0 where
   pub unsent : r .kind ≡ SEND → (k : ℕ) → k < n → Sends (rowAt rows k) (r .message) → ⊥
   pub sent-by-other : r .kind ≡ RECV → (k : ℕ) × (k < n) × Sends (rowAt rows k) (r .message) × (rowAt rows k .process ≡ r .process → ⊥)
-  pub unreceived : r .kind ≡ RECV → (k : ℕ) → k < n → Receives (rowAt rows k) (r .message) → ⊥
+  pub unreceived : r .kind ≡ RECV → (k : ℕ) → k < n → Arrives (rowAt rows k) (r .message) → ⊥
 
 -- ---- The rows that pass a test
 
@@ -121,7 +121,7 @@ more-rows rows more {n} {r} h o =
       sent-by-other =
           λ s. let t = o .sent-by-other s in
           (t .0, t .1, subst (λ (x : Row). Sends x (r .message)) (sym (same (t .0) (t .1))) (t .2), λ q. t .3 (ap (λ (x : Row). x .process) (sym (same (t .0) (t .1))) ∙ q));
-      unreceived = λ s k l c. o .unreceived s k l (subst (λ (x : Row). Receives x (r .message)) (same k l) c);
+      unreceived = λ s k l c. o .unreceived s k l (subst (λ (x : Row). Arrives x (r .message)) (same k l) c);
     }
   where
     same : (k : ℕ) → k < n → rowAt (rows ++ more) k ≡ rowAt rows k

@@ -25,6 +25,10 @@ SEND = 6
 abbrev pub RECV : ℕ
 RECV = 7
 
+-- The kind of the row at which a message arrives: the order runs from the send to this row.
+abbrev pub ARRIVAL : ℕ
+ARRIVAL = RECV
+
 -- How many kinds there are.
 abbrev pub KINDS : ℕ
 KINDS = 8

@@ -37,6 +37,9 @@ pub const SEND: u32 = 6;
 
 pub const RECV: u32 = 7;
 
+// The kind of the row at which a message arrives: the order runs from the send to this row.
+pub const ARRIVAL: u32 = RECV;
+
 // How many kinds there are.
 pub const KINDS: u32 = 8;
 

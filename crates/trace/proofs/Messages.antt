@@ -1,4 +1,4 @@
--- The messages of sound rows: each is sent once and received once, and a row at which a message arrives has its send before it.
+-- The messages of sound rows: each is sent once and arrives once, and a row at which a message arrives has its send before it.
 use Prim.Native.Nat.{ℕ, _<_}
 use native.Mathlib.Omega.{arith}
 use native.Mathlib.Decide.{decLt}
@@ -9,7 +9,7 @@ use lib.Seq.{getD-append-seam}
 use Rattle.rows.specs.declared.Row.{Row}
 use Rattle.rows.specs.Rows.{rowAt, noRow}
 use Rattle.messages.proofs.Asks.{message-yes}
-use Rattle.messages.proofs.InOrder.{Sends, Receives, InOrder, message-iff, more-rows}
+use Rattle.messages.proofs.InOrder.{Sends, Arrives, InOrder, message-iff, more-rows}
 use Rattle.trace.proofs.Laws.{Sound, none, next}
 
 -- Every row of sound rows is in order behind the rows before it.
@@ -42,14 +42,14 @@ module _ {P : ℕ} {rows : List Row} (s : Sound P rows) where
       once (length rows) (λ k. Sends (rowAt rows k) m)
       (λ i j l h p q. sound-in-order s j h .unsent (q .0) i l (p .0, p .1 ∙ sym (q .1)))
 
-  -- Two rows that receive one message are one row.
-  pub receives-once : (m i j : ℕ) → i < length rows → j < length rows → Receives (rowAt rows i) m → Receives (rowAt rows j) m → i ≡ j
-  receives-once m =
-      once (length rows) (λ k. Receives (rowAt rows k) m)
+  -- Two rows at which one message arrives are one row.
+  pub arrives-once : (m i j : ℕ) → i < length rows → j < length rows → Arrives (rowAt rows i) m → Arrives (rowAt rows j) m → i ≡ j
+  arrives-once m =
+      once (length rows) (λ k. Arrives (rowAt rows k) m)
       (λ i j l h p q. sound-in-order s j h .unreceived (q .0) i l (p .0, p .1 ∙ sym (q .1)))
 
   -- A row at which a message arrives has its send, by another process, before it.
-  pub arrival-sent : (m j : ℕ) → j < length rows → Receives (rowAt rows j) m →
+  pub arrival-sent : (m j : ℕ) → j < length rows → Arrives (rowAt rows j) m →
       (i : ℕ) × (i < j) × Sends (rowAt rows i) m × (rowAt rows i .process ≡ rowAt rows j .process → ⊥)
   arrival-sent m j h c =
       let t = sound-in-order s j h .sent-by-other (c .0) in

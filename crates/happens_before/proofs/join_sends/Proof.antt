@@ -66,8 +66,8 @@ loop-holds c =
 sub-k : tie.Need-sub-k Inv-loop μ-loop
 sub-k c = search needs
 
-receives-requires : tie.Need-receives-requires Inv-loop μ-loop
-receives-requires c κs = search needs
+arrives-requires : tie.Need-arrives-requires Inv-loop μ-loop
+arrives-requires c κs = search needs
 
 join-requires : tie.Need-join-requires Inv-loop μ-loop
 join-requires c κs = search needs
@@ -100,8 +100,8 @@ loop-again c =
     let here = next-row (now (a .rows)) (a .j) (c .before .before .before .before .before .before .before .before .before .before .before .before .before .before .pre .1) (a .processes) (now (a .counts)) (c .before .before .before .before .before .before .before .before .before .before .before .before .before .before .pre .0 .2) (c .before .before .before .before .loop .inv) (c .before .before .before .loop-test .taken) in
     let link = next-found (now (a .rows)) (a .j) (c .before .before .before .before .before .before .before .before .before .before .before .before .before .before .pre .1) (a .processes) (now (a .counts)) (c .before .before .before .before .before .before .before .before .before .before .before .before .before .before .pre .0 .2) (c .before .before .before .before .loop .inv) (c .before .before .before .loop-test .taken) in
     ⊎-elim
-    (λ w. rw (w .5) (sends-join (a .processes) (now (a .rows)) (now (a .counts)) (a .j) (s .0 .2) (l .inv) here (c .before .before .receives .ensures) link (w .0 .taken) (w .2 .kept .0) (w .2 .ensures)))
-    (λ w. rw (w .1) (sends-skip (a .processes) (now (a .rows)) (now (a .counts)) (a .j) (s .0 .2) (l .inv) here (c .before .before .receives .ensures) link (w .0 .left)))
+    (λ w. rw (w .5) (sends-join (a .processes) (now (a .rows)) (now (a .counts)) (a .j) (s .0 .2) (l .inv) here (c .before .before .arrives .ensures) link (w .0 .taken) (w .2 .kept .0) (w .2 .ensures)))
+    (λ w. rw (w .1) (sends-skip (a .processes) (now (a .rows)) (now (a .counts)) (a .j) (s .0 .2) (l .inv) here (c .before .before .arrives .ensures) link (w .0 .left)))
     (c .before .if2 .came)
 
 same-length : tie.Need-same-length Inv-loop μ-loop
@@ -133,7 +133,7 @@ join-sends-spec =
     cast-next
     loop-holds
     sub-k
-    receives-requires
+    arrives-requires
     join-requires
     mul-next-2
     shared-slice-read-next-2

@@ -1,9 +1,9 @@
--- `happens_before::receives` meets its contract.
+-- `happens_before::arrives` meets its contract.
 use borrow.Author.Needs.{needs}
-use Rattle.happens_before.proofs.Joins.{no-send, no-recv, by-message}
+use Rattle.happens_before.proofs.Joins.{no-send, no-arrival, by-message}
 use denote.Ref.{now}
-use Rattle.happens_before.proofs.receives.Statement.{statement}
-use Rattle.happens_before.proofs.receives.Tie as tie
+use Rattle.happens_before.proofs.arrives.Statement.{statement}
+use Rattle.happens_before.proofs.arrives.Tie as tie
 
 mul-from : tie.Need-mul-from
 mul-from c = search needs
@@ -33,7 +33,7 @@ shared-slice-read-if2 : tie.Need-shared-slice-read-if2
 shared-slice-read-if2 c = search needs
 
 returns-2 : tie.Need-returns-2
-returns-2 c = let a = c .before .before .before .before .args in no-recv (now (a .rows)) (a .k) (a .j) (c .if2 .taken)
+returns-2 c = let a = c .before .before .before .before .args in no-arrival (now (a .rows)) (a .k) (a .j) (c .if2 .taken)
 
 add-result : tie.Need-add-result
 add-result c = search needs
@@ -58,8 +58,8 @@ returns-3 c =
     let a = c .before .before .before .before .before .before .args in
     by-message (now (a .rows)) (a .k) (a .j) (c .before .before .before .before .if1 .left) (c .before .before .if2 .left)
 
-pub receives-spec : {M : Type 1} → statement M
-receives-spec =
+pub arrives-spec : {M : Type 1} → statement M
+arrives-spec =
     tie.close
     (tie.spec
     mul-from
