@@ -27,6 +27,7 @@ use Rattle.join_meaning.proofs.Parts.{HandedOver, Every, every-merged, 
 use Rattle.join_meaning.proofs.Taking.{join-merged, join-allowed, join-sound}
 use Rattle.join_meaning.proofs.Verdicts.{join-verdict}
 use Rattle.join_meaning.proofs.Finding.{join-finds}
+use Rattle.join_meaning.proofs.Tests.{apart}
 
 -- ---- The questions 1 to 3
 
@@ -165,5 +166,5 @@ module _ (first second : List ℕ) (h₁ h₂ model R P rl cl pl : ℕ) where
       Merged first-file second-file m → Sound P m → length m ≤ R → (es : List Entry) × (called ≡ joined es)
   unfolding joinTraces
   merging-accepted z b m d s l =
-      let f = join-finds R P (entriesOf 1 h₁ first) (entriesOf 2 h₂ second) m d s l in
+      let f = join-finds R P (entriesOf 1 h₁ first) (entriesOf 2 h₂ second) m (apart _ _ (b .apart)) d s l in
       (f .0, rw (eq-eqb (firstNo (joinQuestions h₁ h₂ model R P rl cl pl)) 0 z) (entries-decide b ∙ f .1))

@@ -13,12 +13,17 @@ use Rattle.rows.specs.Kinds.{SEND, ARRIVAL}
 use Rattle.rows.specs.Rows.{rowAt, noRow}
 use Rattle.rows.proofs.Bools.{and-out, not-both}
 use Rattle.messages.specs.Questions.{any, carries, sent}
+use Rattle.messages.proofs.Exchange.{Ready}
 use Rattle.messages.proofs.InOrder.{Sends, Arrives, some-out, some-in}
 use Rattle.happens_before.specs.Order.{sameProcess}
 use Rattle.join_meaning.specs.Joining.{waits, sharesProcess}
 
+-- No row of the first list and no row of the second are of one process.
+abbrev pub Apart : List Row → List Row → Type 0
+Apart a b = (i j : ℕ) → i < length a → j < length b → rowAt a i .process ≡ rowAt b j .process → ⊥
+
 -- Two files that share no process have no two rows of one process.
-pub apart : (a b : List Row) → sharesProcess a b ≡ false → (i j : ℕ) → i < length a → j < length b → rowAt a i .process ≡ rowAt b j .process → ⊥
+pub apart : (a b : List Row) → sharesProcess a b ≡ false → Apart a b
 unfolding sharesProcess
 apart a b e i j h l q =
     false≢true (sym e ∙ some-in (λ r. any (λ s. sameProcess r s) b) a i h (some-in (λ s. sameProcess (rowAt a i) s) b j l (eq-eqb _ _ q)))
@@ -26,12 +31,12 @@ apart a b e i j h l q =
 -- ---- Rows that wait
 
 -- The message that arrives at a row that does not wait is sent.
-pub ready-out : (before : List Row) (r : Row) → waits before r ≡ false → r .kind ≡ ARRIVAL → sent (r .message) before ≡ true
+pub ready-out : (before : List Row) (r : Row) → waits before r ≡ false → Ready before r
 unfolding waits
 ready-out before r e c = not-false (sent (r .message) before) (rw c at e)
 
 -- A row does not wait where the message that arrives at it, if one does, is sent.
-pub ready-in : (before : List Row) (r : Row) → (r .kind ≡ ARRIVAL → sent (r .message) before ≡ true) → waits before r ≡ false
+pub ready-in : (before : List Row) (r : Row) → Ready before r → waits before r ≡ false
 unfolding waits
 ready-in before r f = not-both (eqb (r .kind) ARRIVAL) _ (λ c n. false≢true (sym (not-true _ n) ∙ f (eqb-true _ _ c)))
 

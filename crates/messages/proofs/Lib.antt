@@ -3,3 +3,4 @@ pub mod Asks
 pub mod Entries
 pub mod Tables
 pub mod InOrder
+pub mod Exchange
