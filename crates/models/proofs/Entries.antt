@@ -1,38 +1,19 @@
 -- The table in the code has the entry of specs/Table.antt for every model and kind, by one computed test.
-use Prim.Native.Nat.{ℕ, zero, suc, _+_, _*_, _/_, _%_, _≤_, _<_}
+use Prim.Native.Nat.{ℕ, _+_, _*_, _/_, _%_, _≤_, _<_}
 use native.Mathlib.Omega.{arith}
 use native.Mathlib.Decide.{ℕ-discrete}
 use mathlib.Core.Path.{_≡_, refl, sym, ap, _∙_}
-use mathlib.Core.Bool.{Bool, true, false, cond, _&&_, and-false, false≢true}
+use mathlib.Core.Bool.{Bool, true, false, cond, and-false, false≢true}
 use mathlib.Core.List.{List, [], _∷_}
-use lib.ListN.{length, getD}
+use lib.ListN.{getD}
 use lib.Dec.{eqb, leb}
 use borrow.Author.Tests.{eq-eqb, ne-eqb, eqb-true}
 use Rattle.rows.specs.Limits.{MODELS}
 use Rattle.rows.specs.Kinds.{KINDS, READ, WRITE}
+use Rattle.rows.specs.Counting.{anyBelow}
+use Rattle.rows.proofs.Below.{each-passes}
 use Rattle.models.specs.Models.{POSIX}
 use Rattle.models.specs.Table.{publishes, refreshes, tableEntry, ENTRY-NONE, ENTRY-PUBLISH, ENTRY-REFRESH, ENTRY-BOTH}
-
--- A test passes at every number of a list with its place, counted from i.
-unfoldable every : (ℕ → ℕ → Bool) → ℕ → List ℕ → Bool
-every test i [] = true
-every test i (x ∷ xs) = test i x && every test (suc i) xs
-
--- A test that passes at all passes at each.
-every-at : (test : ℕ → ℕ → Bool) (xs : List ℕ) (i : ℕ) → every test i xs ≡ true → (k : ℕ) → k < length xs → test (i + k) (getD xs k 0) ≡ true
-unfolding every
-every-at test [] i e k h = absurd (omega arith)
-every-at test (x ∷ xs) i e k h = go (test i x) refl e (every-at test xs (suc i)) k h
-  where
-    go : (b : Bool) → test i x ≡ b → b && every test (suc i) xs ≡ true →
-        (every test (suc i) xs ≡ true → (k : ℕ) → k < length xs → test (suc i + k) (getD xs k 0) ≡ true) →
-        (k : ℕ) → k < suc (length xs) → test (i + k) (getD (x ∷ xs) k 0) ≡ true
-    go false q f rest k h = absurd (false≢true f)
-    go true q f rest zero h = let z : i + 0 ≡ i = omega arith in rw z q
-    go true q f rest (suc k) h =
-        let z : i + suc k ≡ suc i + k = omega arith in
-        let l : k < length xs = omega arith in
-        rw z (rest f k l)
 
 -- The table as the code has it, models by kinds.
 abbrev pub table : List ℕ
@@ -44,18 +25,18 @@ table =
     ∷ []
 
 -- The entry at a place of the table is the one of the place's model and kind.
-right : ℕ → ℕ → Bool
-right k x = eqb x (tableEntry (k / KINDS) (k % KINDS))
+right : ℕ → Bool
+right k = eqb (getD table k 0) (tableEntry (k / KINDS) (k % KINDS))
 
 -- Within the table, the code reads the entry of the model and the kind.
 pub table-right : (model kind : ℕ) → model < MODELS → kind < KINDS → getD table (model * KINDS + kind) 0 ≡ tableEntry model kind
-unfolding every right publishes refreshes
+unfolding anyBelow right publishes refreshes
 table-right model kind m k =
     let i = model * KINDS + kind in
-    let l : i < 32 = omega arith in
-    let d : (0 + i) / KINDS ≡ model = omega arith in
-    let r : (0 + i) % KINDS ≡ kind = omega arith in
-    eqb-true (getD table i 0) (tableEntry ((0 + i) / KINDS) ((0 + i) % KINDS)) (every-at right table 0 refl i l) ∙ (λ j. tableEntry (d j) (r j))
+    let d : i / KINDS ≡ model = omega arith in
+    let r : i % KINDS ≡ kind = omega arith in
+    let l : i < MODELS * KINDS = omega arith in
+    eqb-true (getD table i 0) (tableEntry (i / KINDS) (i % KINDS)) (each-passes (MODELS * KINDS) right refl i l) ∙ (λ j. tableEntry (d j) (r j))
 
 -- A number that is no model publishes nothing and refreshes nothing.
 pub no-model : (model kind : ℕ) → MODELS ≤ model → tableEntry model kind ≡ ENTRY-NONE

@@ -12,10 +12,10 @@ const REFRESH: u8 = 2;
 const BOTH: u8 = 3;
 
 // One column for each kind.
-const COLUMNS: usize = 8;
+const COLUMNS: usize = rows::KINDS as usize;
 
 // One entry for each model and each kind.
-const ENTRIES: usize = 32;
+const ENTRIES: usize = rows::MODELS as usize * COLUMNS;
 
 // Models by kinds: read, write, commit, open, close, sync, send, recv.
 const TABLE: [u8; ENTRIES] = [

@@ -4,7 +4,7 @@ use native.Mathlib.Omega.{arith}
 use native.Mathlib.Decide.{decLt}
 use mathlib.Core.Path.{_≡_, refl, sym, ap, _∙_}
 use mathlib.Core.Logic.{_↔_, _⊎_, inl, inr}
-use mathlib.Core.Bool.{Bool, true, false, cond, _&&_, _||_, false≢true, or-true, or-false, or-assoc, and-true, and-false}
+use mathlib.Core.Bool.{Bool, true, false, cond, not, _&&_, _||_, false≢true, and-true, and-false}
 use lib.Dec.{eqb}
 use borrow.Author.Tests.{eq-eqb, ne-eqb}
 use Rattle.rows.specs.Counting.{anyBelow, lastBelow, countBelow}
@@ -32,6 +32,14 @@ any-out (suc n) test e = go (or-out (anyBelow n test) (test n) e) (any-out n tes
         (k : ℕ) × (k < suc n) × (test k ≡ true)
     go (inl a) rest = let r = rest a in (r .0, omega arith, r .2)
     go (inr t) rest = (n, omega arith, t)
+
+-- A test that fails at no number below n passes at each.
+pub each-passes : (n : ℕ) (test : ℕ → Bool) → anyBelow n (λ k. not (test k)) ≡ false → (k : ℕ) → k < n → test k ≡ true
+each-passes n test e k h = go (test k) refl
+  where
+    go : (b : Bool) → test k ≡ b → b ≡ true
+    go true q = refl
+    go false q = absurd (false≢true (sym e ∙ any-in n (λ k. not (test k)) k h (ap not q)))
 
 -- ---- The last that passes
 

@@ -7,6 +7,7 @@ use mathlib.Core.List.{List, [], _∷_, _++_}
 use lib.ListN.{length, getD, take, drop, replicate, getD-replicate, length-replicate, List·getD-append, List·getD-eq-default}
 use lib.Seq.{getD-append-add}
 use Rattle.csv_content.specs.Content.{sameBytes, isNil}
+use Rattle.rows.specs.Kinds.{COMMIT, SEND, KINDS}
 use Rattle.trace_numbers.specs.declared.Used.{Used}
 use Rattle.trace_fields.specs.Rows.{kindWords, wordOf, kindOf, usedBy, usedTable, rangeUsed, fileUsed, messageUsed, noneUsed}
 use Rattle.trace_fields.specs.Questions.{asUsed}
@@ -53,22 +54,22 @@ stretch front n u back k l h =
 
 module _ (k : ℕ) where
   -- read and write use the file and the range
-  pub used-range : k < 2 → rangeUsed ≡ usedBy k
+  pub used-range : k < COMMIT → rangeUsed ≡ usedBy k
   unfolding usedBy
-  used-range h = stretch [] 2 rangeUsed (drop 2 usedTable) k (omega arith) h
+  used-range h = stretch [] COMMIT rangeUsed (drop COMMIT usedTable) k (omega arith) h
 
   -- commit, open, close and sync use the file alone
-  pub used-file : 2 ≤ k → k < 6 → fileUsed ≡ usedBy k
+  pub used-file : COMMIT ≤ k → k < SEND → fileUsed ≡ usedBy k
   unfolding usedBy
-  used-file l h = stretch (take 2 usedTable) 4 fileUsed (drop 6 usedTable) k l h
+  used-file l h = stretch (take COMMIT usedTable) (SEND - COMMIT) fileUsed (drop SEND usedTable) k l h
 
   -- send and recv use the message
-  pub used-message : 6 ≤ k → k < 8 → messageUsed ≡ usedBy k
+  pub used-message : SEND ≤ k → k < KINDS → messageUsed ≡ usedBy k
   unfolding usedBy
-  used-message l h = stretch (take 6 usedTable) 2 messageUsed [] k l h
+  used-message l h = stretch (take SEND usedTable) (KINDS - SEND) messageUsed [] k l h
 
   -- a number that is no kind's uses nothing
-  pub used-nothing : 8 ≤ k → noneUsed ≡ usedBy k
+  pub used-nothing : KINDS ≤ k → noneUsed ≡ usedBy k
   unfolding usedBy
   used-nothing l = sym (List·getD-eq-default usedTable noneUsed l)
 

@@ -1,5 +1,5 @@
 -- How long a text can be.
-use Prim.Native.Nat.{ℕ, zero, suc, _+_, _*_, _-_, _/_, _≤_, _<_}
+use Prim.Native.Nat.{ℕ, suc, _+_, _*_, _-_, _/_, _≤_, _<_}
 use native.Mathlib.Omega.{arith}
 use native.Mathlib.Decide.{decLt}
 use mathlib.Core.Path.{_≡_, refl, sym, ap, subst, _∙_}
@@ -7,7 +7,7 @@ use mathlib.Core.Bool.{Bool, true, false, cond}
 use mathlib.Core.List.{List, [], _∷_, _++_}
 use lib.ListN.{length, getD, length-append}
 use lib.Dec.{leb, ltb, eqb}
-use borrow.Author.Tests.{lt-ltb, le-leb, lt-leb, eqb-true, eqb-false}
+use borrow.Author.Tests.{leb-true, lt-ltb, le-leb, lt-leb, eqb-true, eqb-false}
 use Rattle.print.specs.Decimal.{widthWithin, decimalOf}
 use Rattle.print.proofs.Laying.{number-length}
 use Rattle.print.proofs.Parts.{number-most}
@@ -17,7 +17,9 @@ use Rattle.rows.specs.Limits.{PROCESSES, ROWS}
 use Rattle.rows.specs.Questions.{firstNo}
 use Rattle.rows.specs.Refusals.{TEXT-SPACE}
 use Rattle.rows.specs.Rows.{rowsIn}
+use Rattle.rows.specs.Counting.{anyBelow}
 use Rattle.rows.proofs.Slices.{length-rows}
+use Rattle.rows.proofs.Below.{each-passes}
 use Rattle.trace.specs.Questions.{Outcome, refused, accepted}
 use Rattle.trace.specs.Rows.{kindWords, usedBy}
 use Rattle.trace.proofs.Laws.{WellFormed}
@@ -65,21 +67,38 @@ five-digits n h =
       one-digit 5 (n / 10 / 10 / 10 / 10) (omega arith),
     )
 
+-- A field has at most the bytes of its number, and none where it is not used.
+field-most : (used : Bool) (n most : ℕ) → length (decimalOf n) ≤ most → length (numberField used n) ≤ cond used most 0
+field-most true n most h = h
+field-most false n most h = omega arith
+
+-- The most bytes of a kind's line: its word, the process, the fields that the kind uses, five commas and a line end.
+mostOf : ℕ → ℕ
+mostOf k =
+    let used = usedBy k in
+    2 + length (getD kindWords k []) + cond (used .file) 2 0 + cond (used .range) 10 0 + cond (used .range) 10 0 + cond (used .message) 5 0 + 7
+
+-- No kind's line has more than LINE-MOST.
+kinds-most : (k : ℕ) → k < KINDS → mostOf k ≤ LINE-MOST
+unfolding anyBelow mostOf usedBy
+kinds-most k h = leb-true (mostOf k) LINE-MOST (each-passes KINDS (λ i. leb (mostOf i) LINE-MOST) refl k h)
+
 -- The parts of a line together: the fields that a kind does not use have no byte.
 parts-most : (k p f o l m : ℕ) → k < KINDS → length (decimalOf p) ≤ 2 → length (decimalOf f) ≤ 2 → length (decimalOf m) ≤ 5 →
     length (decimalOf p) + length (getD kindWords k []) + length (numberField (usedBy k .file) f) + length (numberField (usedBy k .range) o)
     + length (numberField (usedBy k .range) l) + length (numberField (usedBy k .message) m) + 7
     ≤ LINE-MOST
-unfolding usedBy
-parts-most zero p f o l m h p2 f2 m5 = omega (arith, p2, f2, number-most o, number-most l)
-parts-most (suc zero) p f o l m h p2 f2 m5 = omega (arith, p2, f2, number-most o, number-most l)
-parts-most (suc (suc zero)) p f o l m h p2 f2 m5 = omega (arith, p2, f2)
-parts-most (suc (suc (suc zero))) p f o l m h p2 f2 m5 = omega (arith, p2, f2)
-parts-most (suc (suc (suc (suc zero)))) p f o l m h p2 f2 m5 = omega (arith, p2, f2)
-parts-most (suc (suc (suc (suc (suc zero))))) p f o l m h p2 f2 m5 = omega (arith, p2, f2)
-parts-most (suc (suc (suc (suc (suc (suc zero)))))) p f o l m h p2 f2 m5 = omega (arith, p2, m5)
-parts-most (suc (suc (suc (suc (suc (suc (suc zero))))))) p f o l m h p2 f2 m5 = omega (arith, p2, m5)
-parts-most (suc (suc (suc (suc (suc (suc (suc (suc k)))))))) p f o l m h p2 f2 m5 = absurd (omega arith)
+unfolding mostOf
+parts-most k p f o l m h p2 f2 m5 =
+    let used = usedBy k in
+    omega (
+      arith,
+      kinds-most k h,
+      field-most (used .file) f 2 f2,
+      field-most (used .range) o 10 (number-most o),
+      field-most (used .range) l 10 (number-most l),
+      field-most (used .message) m 5 m5,
+    )
 
 -- The line of a well-formed row has at most 36 bytes.
 line-most : (P : ℕ) (r : Row) → P ≤ PROCESSES → WellFormed P r → length (recordOf r) ≤ LINE-MOST

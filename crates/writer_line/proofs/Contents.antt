@@ -1,10 +1,14 @@
 -- A row's line: its length, the parts that it is put together from, and its derivation by the grammar.
-use Prim.Native.Nat.{ℕ, zero, suc, _+_, _≤_, _<_}
+use Prim.Native.Nat.{ℕ, _+_, _≤_, _<_}
 use native.Mathlib.Omega.{arith}
+use native.Mathlib.Decide.{decLt}
 use mathlib.Core.Path.{_≡_, refl, sym, ap, _∙_}
-use mathlib.Core.Bool.{Bool, true, false}
+use mathlib.Core.Bool.{Bool, true, false, _&&_}
 use mathlib.Core.List.{List, [], _∷_, _++_, append-assoc}
-use lib.ListN.{length, getD, length-append}
+use lib.ListN.{length, getD, length-append, List·getD-eq-default}
+use lib.Seq.{take-length}
+use lib.Dec.{leb, eqb}
+use borrow.Author.Tests.{leb-true, eqb-true}
 use Rattle.csv_field.specs.FieldGrammar.{COMMA, CRLF, NonEscaped, none, non-escaped}
 use Rattle.csv_field.specs.FieldReading.{isText, textLength}
 use Rattle.csv_field.proofs.Runs.{run-text}
@@ -15,6 +19,9 @@ use Rattle.print.proofs.Laying.{number-length}
 use Rattle.print.proofs.Parts.{number-most}
 use Rattle.rows.specs.declared.Row.{Row}
 use Rattle.rows.specs.Kinds.{KINDS}
+use Rattle.rows.specs.Counting.{anyBelow}
+use Rattle.rows.proofs.Bools.{and-out}
+use Rattle.rows.proofs.Below.{each-passes}
 use Rattle.trace_numbers.specs.declared.Used.{Used}
 use Rattle.trace_fields.specs.Rows.{kindWords, wordOf, kindOf, usedBy}
 use Rattle.writer_line.specs.Lines.{numberField, contentsOf, commas, lineOf, recordOf}
@@ -22,31 +29,40 @@ use Rattle.writer_line.proofs.Digits.{decimal-text}
 
 -- ---- Words
 
+-- The word of a kind is read back, is TEXTDATA to its end, and has at most six bytes.
+fine : ℕ → List ℕ → Bool
+fine k w = eqb (kindOf w) k && (eqb (textLength w) (length w) && leb (length w) 6)
+
+-- The three facts of a kind's word.
+record Word (k : ℕ) (w : List ℕ) : Type 0 where
+  back : kindOf w ≡ k
+  text : textLength w ≡ length w
+  most : length w ≤ 6
+
+-- Each kind's word has them.
+words : (k : ℕ) → k < KINDS → Word k (getD kindWords k [])
+unfolding anyBelow fine wordOf sameBytes isText textLength
+words k h =
+    let w = getD kindWords k [] in
+    let a = and-out (eqb (kindOf w) k) _ (each-passes KINDS (λ i. fine i (getD kindWords i [])) refl k h) in
+    let b = and-out (eqb (textLength w) (length w)) (leb (length w) 6) (a .1) in
+    record { back = eqb-true (kindOf w) k (a .0); text = eqb-true (textLength w) (length w) (b .0); most = leb-true (length w) 6 (b .1) }
+
 -- A kind's word is read back.
 pub kind-back : (k : ℕ) → k < KINDS → kindOf (getD kindWords k []) ≡ k
-unfolding wordOf sameBytes
-kind-back zero h = refl
-kind-back (suc zero) h = refl
-kind-back (suc (suc zero)) h = refl
-kind-back (suc (suc (suc zero))) h = refl
-kind-back (suc (suc (suc (suc zero)))) h = refl
-kind-back (suc (suc (suc (suc (suc zero))))) h = refl
-kind-back (suc (suc (suc (suc (suc (suc zero)))))) h = refl
-kind-back (suc (suc (suc (suc (suc (suc (suc zero))))))) h = refl
-kind-back (suc (suc (suc (suc (suc (suc (suc (suc k)))))))) h = absurd (omega arith)
+kind-back k h = words k h .back
+
+-- A number that is no kind's has no word.
+pub word-none : (k : ℕ) → KINDS ≤ k → getD kindWords k [] ≡ []
+word-none k h = List·getD-eq-default kindWords [] h
 
 -- A kind's word is TEXTDATA.
 word-text : (k : ℕ) → NonEscaped (getD kindWords k [])
-unfolding isText textLength
-word-text zero = run-text (getD kindWords 0 [])
-word-text (suc zero) = run-text (getD kindWords 1 [])
-word-text (suc (suc zero)) = run-text (getD kindWords 2 [])
-word-text (suc (suc (suc zero))) = run-text (getD kindWords 3 [])
-word-text (suc (suc (suc (suc zero)))) = run-text (getD kindWords 4 [])
-word-text (suc (suc (suc (suc (suc zero))))) = run-text (getD kindWords 5 [])
-word-text (suc (suc (suc (suc (suc (suc zero)))))) = run-text (getD kindWords 6 [])
-word-text (suc (suc (suc (suc (suc (suc (suc zero))))))) = run-text (getD kindWords 7 [])
-word-text (suc (suc (suc (suc (suc (suc (suc (suc k)))))))) = none
+word-text k = go (decLt k KINDS)
+  where
+    go : Dec (k < KINDS) → NonEscaped (getD kindWords k [])
+    go (yes h) = rw (words k h .text, take-length) at (run-text (getD kindWords k []))
+    go (no h) = rw (word-none k (omega arith)) none
 
 -- ---- The grammar's record
 
@@ -94,15 +110,11 @@ RECORD-MOST = 63
 
 -- A kind's word has at most six bytes.
 word-most : (k : ℕ) → length (getD kindWords k []) ≤ 6
-word-most zero = omega arith
-word-most (suc zero) = omega arith
-word-most (suc (suc zero)) = omega arith
-word-most (suc (suc (suc zero))) = omega arith
-word-most (suc (suc (suc (suc zero)))) = omega arith
-word-most (suc (suc (suc (suc (suc zero))))) = omega arith
-word-most (suc (suc (suc (suc (suc (suc zero)))))) = omega arith
-word-most (suc (suc (suc (suc (suc (suc (suc zero))))))) = omega arith
-word-most (suc (suc (suc (suc (suc (suc (suc (suc k)))))))) = omega arith
+word-most k = go (decLt k KINDS)
+  where
+    go : Dec (k < KINDS) → length (getD kindWords k []) ≤ 6
+    go (yes h) = words k h .most
+    go (no h) = rw (word-none k (omega arith)) (omega arith)
 
 -- A number's field has at most ten bytes.
 field-most : (used : Bool) (n : ℕ) → length (numberField used n) ≤ 10

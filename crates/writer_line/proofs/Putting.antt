@@ -1,20 +1,21 @@
 -- What the functions put and count, part by part.
 use Prim.Native.Nat.{ℕ, zero, suc, _+_, _≤_}
 use native.Mathlib.Omega.{arith}
-use mathlib.Core.Path.{_≡_, refl, sym, subst, _∙_}
+use mathlib.Core.Path.{_≡_, sym, subst, _∙_}
 use mathlib.Core.Bool.{Bool, true, false}
 use mathlib.Core.List.{List, [], _∷_}
-use lib.ListN.{length, getD, List·getD-eq-default}
+use lib.ListN.{length, getD}
 use Rattle.csv_field.specs.FieldGrammar.{COMMA, CRLF}
 use Rattle.print.specs.Decimal.{decimalOf, widthOf}
 use Rattle.print.specs.Puts.{lay, putIn, putEnd}
 use Rattle.print.proofs.Laying.{number-length, put-lay}
 use Rattle.print.proofs.Parts.{Laid, put-laid, laid-length, then}
 use Rattle.rows.specs.declared.Row.{Row}
+use Rattle.rows.specs.Kinds.{KINDS}
 use Rattle.trace_numbers.specs.declared.Used.{Used}
 use Rattle.trace_fields.specs.Rows.{kindWords, usedBy}
 use Rattle.writer_line.specs.Lines.{numberField, recordOf}
-use Rattle.writer_line.proofs.Contents.{comma, record-size, parts-using}
+use Rattle.writer_line.proofs.Contents.{word-none, comma, record-size, parts-using}
 
 -- ---- Lengths of fields
 
@@ -29,21 +30,15 @@ field-unused n u = (rw u, omega arith)
 
 -- ---- Words
 
--- A number that is no kind's has no word.
-pub word-none : {k : ℕ} → 8 ≤ k → getD kindWords k [] ≡ []
-word-none h = List·getD-eq-default kindWords [] h
+-- A number is none of the numbers below n: what the last arm of a match on these numbers knows.
+abbrev NoneBelow : ℕ → ℕ → Type 0
+NoneBelow zero k = Unit {0}
+NoneBelow (suc n) k = NoneBelow n k × (k ≡ n → ⊥)
 
--- A number that is none of the eight kinds' is past them.
-pub past-kinds : (k : ℕ) → (k ≡ 0 → ⊥) → (k ≡ 1 → ⊥) → (k ≡ 2 → ⊥) → (k ≡ 3 → ⊥) → (k ≡ 4 → ⊥) → (k ≡ 5 → ⊥) → (k ≡ 6 → ⊥) → (k ≡ 7 → ⊥) → 8 ≤ k
-past-kinds zero n0 n1 n2 n3 n4 n5 n6 n7 = absurd (n0 refl)
-past-kinds (suc zero) n0 n1 n2 n3 n4 n5 n6 n7 = absurd (n1 refl)
-past-kinds (suc (suc zero)) n0 n1 n2 n3 n4 n5 n6 n7 = absurd (n2 refl)
-past-kinds (suc (suc (suc zero))) n0 n1 n2 n3 n4 n5 n6 n7 = absurd (n3 refl)
-past-kinds (suc (suc (suc (suc zero)))) n0 n1 n2 n3 n4 n5 n6 n7 = absurd (n4 refl)
-past-kinds (suc (suc (suc (suc (suc zero))))) n0 n1 n2 n3 n4 n5 n6 n7 = absurd (n5 refl)
-past-kinds (suc (suc (suc (suc (suc (suc zero)))))) n0 n1 n2 n3 n4 n5 n6 n7 = absurd (n6 refl)
-past-kinds (suc (suc (suc (suc (suc (suc (suc zero))))))) n0 n1 n2 n3 n4 n5 n6 n7 = absurd (n7 refl)
-past-kinds (suc (suc (suc (suc (suc (suc (suc (suc k)))))))) n0 n1 n2 n3 n4 n5 n6 n7 = omega arith
+-- Such a number is past them.
+pub past-all : (n k : ℕ) → NoneBelow n k → n ≤ k
+past-all zero k r = omega arith
+past-all (suc n) k r = let h = past-all n k (r .0) in omega (arith, r .1)
 
 module _ (xs : List ℕ) (at : ℕ) {end : ℕ} {ys : List ℕ} where
   -- The word of a kind is put with its comma.
@@ -53,9 +48,9 @@ module _ (xs : List ℕ) (at : ℕ) {end : ℕ} {ys : List ℕ} where
   word-put k e p = rw e p
 
   -- The comma alone is put for a number that is no kind's.
-  pub comma-put : {kind : ℕ} → 8 ≤ kind → (end ≡ putEnd xs at (COMMA ∷ [])) × (ys ≡ putIn xs at (COMMA ∷ [])) →
+  pub comma-put : (kind : ℕ) → KINDS ≤ kind → (end ≡ putEnd xs at (COMMA ∷ [])) × (ys ≡ putIn xs at (COMMA ∷ [])) →
       (end ≡ putEnd xs at (COMMA ∷ getD kindWords kind [])) × (ys ≡ putIn xs at (COMMA ∷ getD kindWords kind []))
-  comma-put h p = rw (word-none h) p
+  comma-put kind h p = rw (word-none kind h) p
 
 -- ---- Fields
 

@@ -1,7 +1,8 @@
 -- `writer_line::put_word` meets its contract.
 use borrow.Author.Needs.{needs}
 use denote.Ref.{now}
-use Rattle.writer_line.proofs.Putting.{past-kinds, word-put, comma-put}
+use Rattle.rows.specs.Kinds.{KINDS}
+use Rattle.writer_line.proofs.Putting.{past-all, word-put, comma-put}
 use Rattle.writer_line.proofs.put_word.Statement.{statement}
 use Rattle.writer_line.proofs.put_word.Tie as tie
 
@@ -137,9 +138,7 @@ same-length-9 c = search needs
 returns-9 : tie.Need-returns-9
 returns-9 c =
     let a = c .before .before .before .before .before .before .before .args in
-    let match = c .before .before .before .before .before .match in
-    let r = match .rest in
-    comma-put (now (a .out)) (a .at) (past-kinds _ (r .0 .0 .0 .0 .0 .0 .0 .1) (r .0 .0 .0 .0 .0 .0 .1) (r .0 .0 .0 .0 .0 .1) (r .0 .0 .0 .0 .1) (r .0 .0 .0 .1) (r .0 .0 .1) (r .0 .1) (r .1)) (c .before .before .put9 .ensures)
+    comma-put (now (a .out)) (a .at) (a .kind) (past-all KINDS (a .kind) (c .before .before .before .before .before .match .rest)) (c .before .before .put9 .ensures)
 
 pub put-word-spec : {M : Type 1} → statement M
 put-word-spec =

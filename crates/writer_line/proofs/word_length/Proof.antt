@@ -1,7 +1,9 @@
 -- `writer_line::word_length` meets its contract.
 use borrow.Author.Needs.{needs}
 use native.Mathlib.Omega.{arith}
-use Rattle.writer_line.proofs.Putting.{word-none, past-kinds}
+use Rattle.rows.specs.Kinds.{KINDS}
+use Rattle.writer_line.proofs.Contents.{word-none}
+use Rattle.writer_line.proofs.Putting.{past-all}
 use Rattle.writer_line.proofs.word_length.Statement.{statement}
 use Rattle.writer_line.proofs.word_length.Tie as tie
 
@@ -31,8 +33,8 @@ returns-8 c = search needs
 
 returns-9 : tie.Need-returns-9
 returns-9 c =
-    let r = c .match .rest in
-    (rw (word-none (past-kinds _ (r .0 .0 .0 .0 .0 .0 .0 .1) (r .0 .0 .0 .0 .0 .0 .1) (r .0 .0 .0 .0 .0 .1) (r .0 .0 .0 .0 .1) (r .0 .0 .0 .1) (r .0 .0 .1) (r .0 .1) (r .1))), omega arith)
+    let kind = c .before .args .kind in
+    (rw (word-none kind (past-all KINDS kind (c .match .rest))), omega arith)
 
 pub word-length-spec : {M : Type 1} → statement M
 word-length-spec =
