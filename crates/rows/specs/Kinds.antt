@@ -22,8 +22,12 @@ SYNC = 5
 abbrev pub SEND : ℕ
 SEND = 6
 
+-- A process posts a receive. The receive is over at its wait.
 abbrev pub RECV : ℕ
 RECV = 7
+
+abbrev pub WAIT : ℕ
+WAIT = 8
 
 -- The kind of the row at which a message arrives: the order runs from the send to this row.
 abbrev pub ARRIVAL : ℕ
@@ -31,4 +35,4 @@ ARRIVAL = RECV
 
 -- How many kinds there are.
 abbrev pub KINDS : ℕ
-KINDS = 8
+KINDS = 9

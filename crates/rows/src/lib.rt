@@ -35,13 +35,16 @@ pub const SYNC: u32 = 5;
 
 pub const SEND: u32 = 6;
 
+// A process posts a receive. The receive is over at its wait.
 pub const RECV: u32 = 7;
+
+pub const WAIT: u32 = 8;
 
 // The kind of the row at which a message arrives: the order runs from the send to this row.
 pub const ARRIVAL: u32 = RECV;
 
 // How many kinds there are.
-pub const KINDS: u32 = 8;
+pub const KINDS: u32 = 9;
 
 // The numbers of a row by their places in the slice, from the row's first.
 pub const PROCESS_AT: usize = 0;

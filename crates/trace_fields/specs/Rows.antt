@@ -21,6 +21,7 @@ kindWords =
     ∷ (115 ∷ 121 ∷ 110 ∷ 99 ∷ [])  -- sync
     ∷ (115 ∷ 101 ∷ 110 ∷ 100 ∷ [])  -- send
     ∷ (114 ∷ 101 ∷ 99 ∷ 118 ∷ [])  -- recv
+    ∷ (119 ∷ 97 ∷ 105 ∷ 116 ∷ [])  -- wait
     ∷ []
 
 -- the place of the first word that is the content, and the number of words where none is
@@ -79,6 +80,7 @@ usedTable =
     ∷ fileUsed  -- sync
     ∷ messageUsed  -- send
     ∷ messageUsed  -- recv
+    ∷ messageUsed  -- wait
     ∷ []
 
 -- the fields that a kind uses; a number that is no kind's uses none

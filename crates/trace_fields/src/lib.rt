@@ -38,6 +38,9 @@ fn kind_of(text: &[u8], span: Span) -> u32
     if csv_content::is_word(text, span, b"recv") {
         return rows::RECV;
     }
+    if csv_content::is_word(text, span, b"wait") {
+        return rows::WAIT;
+    }
     rows::KINDS
 }
 
@@ -58,8 +61,8 @@ pub fn used_by(kind: u32) -> Used
             range: false,
             message: false,
         },
-        // send, recv
-        rows::SEND | rows::RECV => Used {
+        // send, recv, wait
+        rows::SEND | rows::RECV | rows::WAIT => Used {
             file: false,
             range: false,
             message: true,

@@ -42,6 +42,7 @@ fn word_length(kind: u32) -> usize
         rows::SYNC => 4,
         rows::SEND => 4,
         rows::RECV => 4,
+        rows::WAIT => 4,
         _ => 0,
     }
 }
@@ -106,6 +107,7 @@ fn put_word(out: &mut [u8], at: usize, kind: u32) -> usize
         rows::SYNC => print::put(out, at, b",sync"),
         rows::SEND => print::put(out, at, b",send"),
         rows::RECV => print::put(out, at, b",recv"),
+        rows::WAIT => print::put(out, at, b",wait"),
         _ => print::put(out, at, b","),
     }
 }

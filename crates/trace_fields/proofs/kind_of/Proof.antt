@@ -35,6 +35,9 @@ past7 c = next (past6 (c .before .before .before)) (c .before .is-word7 .ensures
 abbrev past8 : tie.Else8 → Past 8 (drop 8 kindWords)
 past8 c = next (past7 (c .before .before .before)) (c .before .is-word8 .ensures) (c .if8 .left)
 
+abbrev past9 : tie.Else9 → Past 9 (drop 9 kindWords)
+past9 c = next (past8 (c .before .before .before)) (c .before .is-word9 .ensures) (c .if9 .left)
+
 slice-aggregate-is-word : tie.Need-slice-aggregate-is-word
 slice-aggregate-is-word c = search needs
 
@@ -109,8 +112,17 @@ is-word-requires-8 c κs = search needs
 returns-8 : tie.Need-returns-8
 returns-8 c = here (past7 (c .before .before .before)) (c .before .is-word8 .ensures) (c .if8 .taken)
 
+slice-aggregate-is-word-9 : tie.Need-slice-aggregate-is-word-9
+slice-aggregate-is-word-9 c = search needs
+
+is-word-requires-9 : tie.Need-is-word-requires-9
+is-word-requires-9 c κs = search needs
+
 returns-9 : tie.Need-returns-9
-returns-9 c = none (past8 c)
+returns-9 c = here (past8 (c .before .before .before)) (c .before .is-word9 .ensures) (c .if9 .taken)
+
+returns-10 : tie.Need-returns-10
+returns-10 c = none (past9 c)
 
 pub kind-of-spec : {M : Type 1} → statement M
 kind-of-spec =
@@ -140,4 +152,7 @@ kind-of-spec =
     slice-aggregate-is-word-8
     is-word-requires-8
     returns-8
-    returns-9)
+    slice-aggregate-is-word-9
+    is-word-requires-9
+    returns-9
+    returns-10)

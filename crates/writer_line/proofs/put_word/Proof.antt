@@ -60,6 +60,12 @@ slice-aggregate-put-9 c = search needs
 put-requires-9 : tie.Need-put-requires-9
 put-requires-9 c κs = search needs
 
+slice-aggregate-put-10 : tie.Need-slice-aggregate-put-10
+slice-aggregate-put-10 c = search needs
+
+put-requires-10 : tie.Need-put-requires-10
+put-requires-10 c κs = search needs
+
 same-length : tie.Need-same-length
 same-length c = search needs
 
@@ -138,7 +144,16 @@ same-length-9 c = search needs
 returns-9 : tie.Need-returns-9
 returns-9 c =
     let a = c .before .before .before .before .before .before .before .args in
-    comma-put (now (a .out)) (a .at) (a .kind) (past-all KINDS (a .kind) (c .before .before .before .before .before .match .rest)) (c .before .before .put9 .ensures)
+    let match = c .before .before .before .before .before .match in
+    word-put (now (a .out)) (a .at) 8 (match .keys9) (c .before .before .put9 .ensures)
+
+same-length-10 : tie.Need-same-length-10
+same-length-10 c = search needs
+
+returns-10 : tie.Need-returns-10
+returns-10 c =
+    let a = c .before .before .before .before .before .before .before .args in
+    comma-put (now (a .out)) (a .at) (a .kind) (past-all KINDS (a .kind) (c .before .before .before .before .before .match .rest)) (c .before .before .put10 .ensures)
 
 pub put-word-spec : {M : Type 1} → statement M
 put-word-spec =
@@ -162,6 +177,8 @@ put-word-spec =
     put-requires-8
     slice-aggregate-put-9
     put-requires-9
+    slice-aggregate-put-10
+    put-requires-10
     same-length
     returns
     same-length-2
@@ -179,4 +196,6 @@ put-word-spec =
     same-length-8
     returns-8
     same-length-9
-    returns-9)
+    returns-9
+    same-length-10
+    returns-10)

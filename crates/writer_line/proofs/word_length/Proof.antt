@@ -32,7 +32,10 @@ returns-8 : tie.Need-returns-8
 returns-8 c = search needs
 
 returns-9 : tie.Need-returns-9
-returns-9 c =
+returns-9 c = search needs
+
+returns-10 : tie.Need-returns-10
+returns-10 c =
     let kind = c .before .args .kind in
     (rw (word-none kind (past-all KINDS kind (c .match .rest))), omega arith)
 
@@ -48,4 +51,5 @@ word-length-spec =
     returns-6
     returns-7
     returns-8
-    returns-9)
+    returns-9
+    returns-10)
