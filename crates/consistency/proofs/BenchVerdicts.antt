@@ -1,4 +1,4 @@
--- The bench traces A to J and L, from their texts to their verdicts in all models, by the definitions.
+-- The bench traces A to J and L, B also with a wait, from their texts to their verdicts in all models, by the definitions.
 use Prim.Native.Nat.{ℕ}
 use mathlib.Core.Path.{_≡_, refl}
 use mathlib.Core.List.{List, [], _∷_, _++_, map}
@@ -6,7 +6,7 @@ use Rattle.csv_field.specs.FieldReading.{fieldAt, quotedTo, quotes, afterQuote,
 use Rattle.csv_content.specs.Content.{contentOf, undouble, sameBytes}
 use Rattle.csv.specs.Reading.{records, recordsFrom, onFound, readAt, fieldsFrom, onStop, prepend}
 use Rattle.trace.specs.Rows.{wordOf, sameFields, usedBy, allDigits, startsPlain, valueFrom, rowOf}
-use Rattle.trace.specs.Questions.{callQuestions, filledAsUsed, numbersInRange, any, messageInOrder, fieldQuestions, recordQuestions, rowQuestions, messageQuestions, judgeRows, judgeHeader, readTrace, checkTrace, Outcome, refused, accepted}
+use Rattle.trace.specs.Questions.{callQuestions, filledAsUsed, numbersInRange, any, messageInOrder, waitInOrder, fieldQuestions, recordQuestions, rowQuestions, messageQuestions, judgeRows, judgeHeader, readTrace, checkTrace, Outcome, refused, accepted}
 use Rattle.rows.specs.Questions.{firstNo}
 use Rattle.rows.specs.Counting.{anyBelow, leastFrom}
 use Rattle.happens_before.specs.Order.{edge, hbWithin}
@@ -33,6 +33,10 @@ l-send = 48 ∷ 44 ∷ 115 ∷ 101 ∷ 110 ∷ 100 ∷ 44 ∷ 44 ∷ 44 ∷ 44 �
 -- 1,recv,,,,7
 l-recv : List ℕ
 l-recv = 49 ∷ 44 ∷ 114 ∷ 101 ∷ 99 ∷ 118 ∷ 44 ∷ 44 ∷ 44 ∷ 44 ∷ 55 ∷ []
+
+-- 1,wait,,,,7
+l-wait : List ℕ
+l-wait = 49 ∷ 44 ∷ 119 ∷ 97 ∷ 105 ∷ 116 ∷ 44 ∷ 44 ∷ 44 ∷ 44 ∷ 55 ∷ []
 
 -- 1,read,1,5,10,
 l-read-ten : List ℕ
@@ -94,29 +98,33 @@ a = record { header = 0; text = inText ([]) }
 b : Bench
 b = record { header = 1; text = inText (l-head ∷ l-write-ten ∷ l-commit ∷ l-send ∷ l-recv ∷ l-read-ten ∷ []) }
 
--- C: B without row 2
+-- B with a wait after row 4
+b-wait : Bench
+b-wait = record { header = 1; text = inText (l-head ∷ l-write-ten ∷ l-commit ∷ l-send ∷ l-recv ∷ l-wait ∷ l-read-ten ∷ []) }
+
+-- C: B with a wait, without row 2
 c : Bench
-c = record { header = 1; text = inText (l-head ∷ l-write-ten ∷ l-send ∷ l-recv ∷ l-read-ten ∷ []) }
+c = record { header = 1; text = inText (l-head ∷ l-write-ten ∷ l-send ∷ l-recv ∷ l-wait ∷ l-read-ten ∷ []) }
 
 -- D: B with the read at offset 10
 d : Bench
 d = record { header = 1; text = inText (l-head ∷ l-write-ten ∷ l-commit ∷ l-send ∷ l-recv ∷ l-read-behind ∷ []) }
 
--- E: B with the commit after the send
+-- E: B with a wait, the commit after the send
 e : Bench
-e = record { header = 1; text = inText (l-head ∷ l-write-ten ∷ l-send ∷ l-commit ∷ l-recv ∷ l-read-ten ∷ []) }
+e = record { header = 1; text = inText (l-head ∷ l-write-ten ∷ l-send ∷ l-commit ∷ l-recv ∷ l-wait ∷ l-read-ten ∷ []) }
 
--- F: write, close, send by 0; recv, open, read by 1, overlapping
+-- F: write, close, send by 0; recv, wait, open, read by 1, overlapping
 f : Bench
-f = record { header = 1; text = inText (l-head ∷ l-write-ten ∷ l-close ∷ l-send ∷ l-recv ∷ l-open ∷ l-read-ten ∷ []) }
+f = record { header = 1; text = inText (l-head ∷ l-write-ten ∷ l-close ∷ l-send ∷ l-recv ∷ l-wait ∷ l-open ∷ l-read-ten ∷ []) }
 
 -- G: F with the open before the recv
 g : Bench
-g = record { header = 1; text = inText (l-head ∷ l-write-ten ∷ l-close ∷ l-send ∷ l-open ∷ l-recv ∷ l-read-ten ∷ []) }
+g = record { header = 1; text = inText (l-head ∷ l-write-ten ∷ l-close ∷ l-send ∷ l-open ∷ l-recv ∷ l-wait ∷ l-read-ten ∷ []) }
 
--- H: 0 reads and sends; 1 receives and writes there
+-- H: 0 reads and sends; 1 receives, waits, and writes there
 h : Bench
-h = record { header = 1; text = inText (l-head ∷ l-read-first ∷ l-send ∷ l-recv ∷ l-write-there ∷ []) }
+h = record { header = 1; text = inText (l-head ∷ l-read-first ∷ l-send ∷ l-recv ∷ l-wait ∷ l-write-there ∷ []) }
 
 -- I: one process writes and reads, no sync
 i : Bench
@@ -131,7 +139,7 @@ l : Bench
 l = record { header = 1; text = inText (l-head ∷ l-write-none ∷ l-commit ∷ l-send ∷ l-recv ∷ l-read-ten ∷ []) }
 
 pub traces : List Bench
-traces = a ∷ b ∷ c ∷ d ∷ e ∷ f ∷ g ∷ h ∷ i ∷ j ∷ l ∷ []
+traces = a ∷ b ∷ b-wait ∷ c ∷ d ∷ e ∷ f ∷ g ∷ h ∷ i ∷ j ∷ l ∷ []
 
 -- ---- Their verdicts
 
@@ -144,16 +152,17 @@ verdicts (accepted rows) = verdictOf rows 0 ∷ (verdictOf rows 1 ∷ (verdictOf
 pub judged : Bench → List Verdict
 judged t = verdicts (checkTrace (t .text) (t .header) 0 128 8 8192 768 1024)
 
--- The verdicts of A to J and L.
+-- The verdicts of A to J and L, B once more with a wait.
 abbrev pub expected : List (List Verdict)
 expected =
     (free ∷ free ∷ free ∷ free ∷ [])  -- A
-    ∷ (free ∷ free ∷ racing 1 5 ∷ racing 1 5 ∷ [])  -- B
-    ∷ (free ∷ racing 1 4 ∷ racing 1 4 ∷ racing 1 4 ∷ [])  -- C
+    ∷ (racing 1 5 ∷ racing 1 5 ∷ racing 1 5 ∷ racing 1 5 ∷ [])  -- B
+    ∷ (free ∷ free ∷ racing 1 6 ∷ racing 1 6 ∷ [])  -- B with a wait after row 4
+    ∷ (free ∷ racing 1 5 ∷ racing 1 5 ∷ racing 1 5 ∷ [])  -- C
     ∷ (free ∷ free ∷ free ∷ free ∷ [])  -- D
-    ∷ (free ∷ racing 1 5 ∷ racing 1 5 ∷ racing 1 5 ∷ [])  -- E
-    ∷ (free ∷ racing 1 6 ∷ free ∷ free ∷ [])  -- F
-    ∷ (free ∷ racing 1 6 ∷ racing 1 6 ∷ racing 1 6 ∷ [])  -- G
+    ∷ (free ∷ racing 1 6 ∷ racing 1 6 ∷ racing 1 6 ∷ [])  -- E
+    ∷ (free ∷ racing 1 7 ∷ free ∷ free ∷ [])  -- F
+    ∷ (free ∷ racing 1 7 ∷ racing 1 7 ∷ racing 1 7 ∷ [])  -- G
     ∷ (free ∷ free ∷ free ∷ free ∷ [])  -- H
     ∷ (free ∷ free ∷ free ∷ free ∷ [])  -- I
     ∷ (racing 1 2 ∷ racing 1 2 ∷ racing 1 2 ∷ racing 1 2 ∷ [])  -- J
@@ -161,5 +170,5 @@ expected =
     ∷ []
 
 pub bench-verdicts : map judged traces ≡ expected
-unfolding records recordsFrom onFound readAt fieldsFrom onStop prepend fieldAt quotedTo quotes afterQuote afterCR stopOf textLength isText isQuoted contentOf undouble sameBytes wordOf sameFields usedBy allDigits startsPlain valueFrom rowOf firstNo callQuestions filledAsUsed numbersInRange any messageInOrder fieldQuestions recordQuestions rowQuestions messageQuestions judgeRows judgeHeader readTrace checkTrace anyBelow edge hbWithin shareByte conflict chainPosix chainCommit chainSession chainMpiIo chain synchronized race leastFrom verdictOf verdicts judged traces inText l-head l-write-ten l-commit l-send l-recv l-read-ten l-read-behind l-close l-open l-read-first l-write-there l-own-read l-write-one l-other-write l-write-none a b c d e f g h i j l
+unfolding records recordsFrom onFound readAt fieldsFrom onStop prepend fieldAt quotedTo quotes afterQuote afterCR stopOf textLength isText isQuoted contentOf undouble sameBytes wordOf sameFields usedBy allDigits startsPlain valueFrom rowOf firstNo callQuestions filledAsUsed numbersInRange any messageInOrder waitInOrder fieldQuestions recordQuestions rowQuestions messageQuestions judgeRows judgeHeader readTrace checkTrace anyBelow edge hbWithin shareByte conflict chainPosix chainCommit chainSession chainMpiIo chain synchronized race leastFrom verdictOf verdicts judged traces inText l-head l-write-ten l-commit l-send l-recv l-wait l-read-ten l-read-behind l-close l-open l-read-first l-write-there l-own-read l-write-one l-other-write l-write-none a b b-wait c d e f g h i j l
 bench-verdicts = refl

@@ -12,7 +12,7 @@ use Rattle.csv_content.specs.Content.{contentOf, sameBytes}
 use Rattle.csv.specs.Reading.{records, recordsFrom, onFound, readAt, fieldsFrom, onStop, prepend}
 use Rattle.rows.specs.declared.Row.{Row}
 use Rattle.trace.specs.Rows.{wordOf, usedBy, allDigits, startsPlain, valueFrom, rowOf}
-use Rattle.trace.specs.Questions.{callQuestions, filledAsUsed, numbersInRange, messageInOrder, fieldQuestions, recordQuestions, rowQuestions, messageQuestions, judgeRows, readTrace, checkTrace, accepted}
+use Rattle.trace.specs.Questions.{callQuestions, filledAsUsed, numbersInRange, messageInOrder, waitInOrder, fieldQuestions, recordQuestions, rowQuestions, messageQuestions, judgeRows, readTrace, checkTrace, accepted}
 use Rattle.rows.specs.Questions.{firstNo}
 use Rattle.rows.specs.Counting.{anyBelow, leastFrom}
 use Rattle.happens_before.specs.Order.{edge, hbWithin}
@@ -69,7 +69,7 @@ pub record K : Type 0 where
 -- The text is read as these rows.
 k-taken : checkTrace kText 0 COMMIT-MODEL 4 2 8192 24 8 ≡ accepted kRows
 unfolding records recordsFrom onFound readAt fieldsFrom onStop prepend fieldAt afterCR stopOf textLength isText contentOf sameBytes wordOf usedBy allDigits
-    startsPlain valueFrom rowOf firstNo callQuestions filledAsUsed numbersInRange messageInOrder fieldQuestions recordQuestions rowQuestions messageQuestions judgeRows readTrace
+    startsPlain valueFrom rowOf firstNo callQuestions filledAsUsed numbersInRange messageInOrder waitInOrder fieldQuestions recordQuestions rowQuestions messageQuestions judgeRows readTrace
     checkTrace
 k-taken = refl
 

@@ -33,7 +33,7 @@ range-iff start length b = (there, λ (l, h). rw (le-leb start b l) (lt-ltb b (s
     there : inRange start length b ≡ true → (start ≤ b) × (b < start + length)
     there e = let a = and-out (leb start b) _ e in (leb-true _ _ (a .0), ltb-true _ _ (a .1))
 
--- A row of the file, which is no send or recv.
+-- A row of the file: its kind names a file.
 abbrev OfFile : ℕ → Row → Type 0
 OfFile file r = (r .kind < SEND) × (r .file ≡ file)
 

@@ -7,7 +7,7 @@ use mathlib.Core.Bool.{Bool, true, false, cond, _&&_, _||_, false≢true}
 use mathlib.Core.List.{List, [], _∷_, _++_}
 use lib.Dec.{ltb, eqb}
 use Rattle.rows.specs.Limits.{FILES}
-use Rattle.rows.specs.Kinds.{WRITE, COMMIT, CLOSE, SEND, RECV}
+use Rattle.rows.specs.Kinds.{WRITE, COMMIT, CLOSE, SEND, RECV, WAIT, ARRIVAL}
 use Rattle.models.specs.Models.{COMMIT-MODEL, SESSION}
 use Rattle.models.specs.Table.{publishes, refreshes}
 use Rattle.csv.specs.Reading.{records, recordsFrom, onFound, readAt, fieldsFrom, onStop, prepend}
@@ -15,7 +15,7 @@ use Rattle.csv_field.specs.FieldReading.{fieldAt, afterCR, stopOf, textLength, 
 use Rattle.csv_content.specs.Content.{contentOf, sameBytes}
 use Rattle.rows.specs.declared.Row.{Row}
 use Rattle.trace.specs.Rows.{wordOf, usedBy, allDigits, startsPlain, valueFrom, rowOf}
-use Rattle.trace.specs.Questions.{callQuestions, filledAsUsed, numbersInRange, any, messageInOrder, fieldQuestions, recordQuestions, rowQuestions, messageQuestions, judgeRows, readTrace, checkTrace, accepted}
+use Rattle.trace.specs.Questions.{callQuestions, filledAsUsed, numbersInRange, any, messageInOrder, waitInOrder, fieldQuestions, recordQuestions, rowQuestions, messageQuestions, judgeRows, readTrace, checkTrace, accepted}
 use Rattle.rows.specs.Questions.{firstNo}
 use Rattle.rows.specs.Counting.{anyBelow, leastFrom}
 use Rattle.happens_before.specs.Order.{edge, hbWithin}
@@ -38,40 +38,42 @@ use Rattle.consistency.proofs.Bridges.{allowed-ok, free-at}
 use Rattle.consistency.proofs.Theorems.{pointsOf, points-enough, order-fits, ends-fit, fit-append, sound-trace}
 use Rattle.consistency.proofs.Benches.{row}
 
--- ---- Session: 0 writes, closes, sends; 1 receives, writes the same byte, closes
+-- ---- Session: 0 writes, closes, sends; 1 posts a receive, waits, writes the same byte, closes
 
 abbrev pub sRows : List Row
 sRows =
     row 0 WRITE 1 0 1 0
-    ∷ (row 0 CLOSE 1 0 0 0 ∷ (row 0 SEND 0 0 0 7 ∷ (row 1 RECV 0 0 0 7 ∷ (row 1 WRITE 1 0 1 0 ∷ (row 1 CLOSE 1 0 0 0 ∷ [])))))
+    ∷ (row 0 CLOSE 1 0 0 0
+    ∷ (row 0 SEND 0 0 0 7 ∷ (row 1 RECV 0 0 0 7 ∷ (row 1 WAIT 0 0 0 7 ∷ (row 1 WRITE 1 0 1 0 ∷ (row 1 CLOSE 1 0 0 0 ∷ []))))))
 
--- 0,write,1,0,1,  0,close,1,,,  0,send,,,,7  1,recv,,,,7  1,write,1,0,1,  1,close,1,,,
+-- 0,write,1,0,1,  0,close,1,,,  0,send,,,,7  1,recv,,,,7  1,wait,,,,7  1,write,1,0,1,  1,close,1,,,
 abbrev pub sText : List ℕ
 sText =
     (48 ∷ 44 ∷ 119 ∷ 114 ∷ 105 ∷ 116 ∷ 101 ∷ 44 ∷ 49 ∷ 44 ∷ 48 ∷ 44 ∷ 49 ∷ 44 ∷ 13 ∷ 10 ∷ [])
     ++ ((48 ∷ 44 ∷ 99 ∷ 108 ∷ 111 ∷ 115 ∷ 101 ∷ 44 ∷ 49 ∷ 44 ∷ 44 ∷ 44 ∷ 13 ∷ 10 ∷ [])
     ++ ((48 ∷ 44 ∷ 115 ∷ 101 ∷ 110 ∷ 100 ∷ 44 ∷ 44 ∷ 44 ∷ 44 ∷ 55 ∷ 13 ∷ 10 ∷ [])
     ++ ((49 ∷ 44 ∷ 114 ∷ 101 ∷ 99 ∷ 118 ∷ 44 ∷ 44 ∷ 44 ∷ 44 ∷ 55 ∷ 13 ∷ 10 ∷ [])
+    ++ ((49 ∷ 44 ∷ 119 ∷ 97 ∷ 105 ∷ 116 ∷ 44 ∷ 44 ∷ 44 ∷ 44 ∷ 55 ∷ 13 ∷ 10 ∷ [])
     ++ ((49 ∷ 44 ∷ 119 ∷ 114 ∷ 105 ∷ 116 ∷ 101 ∷ 44 ∷ 49 ∷ 44 ∷ 48 ∷ 44 ∷ 49 ∷ 44 ∷ 13 ∷ 10 ∷ [])
-    ++ (49 ∷ 44 ∷ 99 ∷ 108 ∷ 111 ∷ 115 ∷ 101 ∷ 44 ∷ 49 ∷ 44 ∷ 44 ∷ 44 ∷ 13 ∷ 10 ∷ [])))))
+    ++ (49 ∷ 44 ∷ 99 ∷ 108 ∷ 111 ∷ 115 ∷ 101 ∷ 44 ∷ 49 ∷ 44 ∷ 44 ∷ 44 ∷ 13 ∷ 10 ∷ []))))))
 
 -- The trace races under session, yet no order shows a difference, with closes at the end.
 pub record SessionRace : Type 0 where
-  pub taken : checkTrace sText 0 SESSION 6 2 8192 36 12 ≡ accepted sRows
-  pub judged : verdictOf sRows SESSION ≡ racing 1 5
+  pub taken : checkTrace sText 0 SESSION 7 2 8192 42 14 ≡ accepted sRows
+  pub judged : verdictOf sRows SESSION ≡ racing 1 6
   pub equal : (space : ℕ) → SpaceFor sRows space → EqualWith CLOSE SESSION 2 space sRows
 
 -- ---- From the text to the verdict
 
 -- The text is read as these rows.
-s-taken : checkTrace sText 0 SESSION 6 2 8192 36 12 ≡ accepted sRows
+s-taken : checkTrace sText 0 SESSION 7 2 8192 42 14 ≡ accepted sRows
 unfolding records recordsFrom onFound readAt fieldsFrom onStop prepend fieldAt afterCR stopOf textLength isText contentOf sameBytes wordOf usedBy
-    allDigits startsPlain valueFrom rowOf firstNo callQuestions filledAsUsed numbersInRange any messageInOrder fieldQuestions recordQuestions rowQuestions messageQuestions judgeRows
+    allDigits startsPlain valueFrom rowOf firstNo callQuestions filledAsUsed numbersInRange any messageInOrder waitInOrder fieldQuestions recordQuestions rowQuestions messageQuestions judgeRows
     readTrace checkTrace
 s-taken = refl
 
--- Rows 1 and 5 race.
-s-judged : verdictOf sRows SESSION ≡ racing 1 5
+-- Rows 1 and 6 race.
+s-judged : verdictOf sRows SESSION ≡ racing 1 6
 unfolding anyBelow edge shareByte conflict chainSession chain synchronized race leastFrom verdictOf
 s-judged = refl
 
@@ -81,7 +83,8 @@ s-judged = refl
 abbrev cRows : List Row
 cRows =
     row 0 WRITE 1 0 1 0
-    ∷ (row 0 COMMIT 1 0 0 0 ∷ (row 0 SEND 0 0 0 7 ∷ (row 1 RECV 0 0 0 7 ∷ (row 1 WRITE 1 0 1 0 ∷ (row 1 COMMIT 1 0 0 0 ∷ [])))))
+    ∷ (row 0 COMMIT 1 0 0 0
+    ∷ (row 0 SEND 0 0 0 7 ∷ (row 1 RECV 0 0 0 7 ∷ (row 1 WAIT 0 0 0 7 ∷ (row 1 WRITE 1 0 1 0 ∷ (row 1 COMMIT 1 0 0 0 ∷ []))))))
 
 -- The rows with commits for closes are free under commit.
 c-judged : verdictOf cRows COMMIT-MODEL ≡ free
@@ -95,7 +98,7 @@ record Seen : Type 0 where
   process : ℕ
   message : ℕ
   sends : Bool
-  receives : Bool
+  arrives : Bool
   writes : Bool
   publishes : Bool
   refreshes : Bool
@@ -106,7 +109,7 @@ seen model file b r =
       process = r .process;
       message = r .message;
       sends = eqb (r .kind) SEND;
-      receives = eqb (r .kind) RECV;
+      arrives = eqb (r .kind) ARRIVAL;
       writes = covers WRITE file b r;
       publishes = ofFile file r && publishes model (r .kind);
       refreshes = ofFile file r && refreshes model (r .kind);
@@ -121,7 +124,7 @@ module _ (file b : ℕ) where
   u = byteTrace cRows COMMIT-MODEL file b
 
   -- Each row is seen alike, does not read, and is of process 0 or 1.
-  alike : (k : ℕ) → k < 6 →
+  alike : (k : ℕ) → k < 7 →
       (seen SESSION file b (rowAt sRows k) ≡ seen COMMIT-MODEL file b (rowAt cRows k)) × (t .reads k ≡ false) × (u .process k < 2)
   unfolding publishes refreshes
   alike zero l = (refl, refl, omega arith)
@@ -130,17 +133,18 @@ module _ (file b : ℕ) where
   alike (suc (suc (suc zero))) l = (refl, refl, omega arith)
   alike (suc (suc (suc (suc zero)))) l = (refl, refl, omega arith)
   alike (suc (suc (suc (suc (suc zero))))) l = (refl, refl, omega arith)
-  alike (suc (suc (suc (suc (suc (suc k)))))) l = absurd (omega arith)
+  alike (suc (suc (suc (suc (suc (suc zero)))))) l = (refl, refl, omega arith)
+  alike (suc (suc (suc (suc (suc (suc (suc k))))))) l = absurd (omega arith)
 
   -- An edge between rows with commits is one between the rows.
-  edge-alike : (k y : ℕ) → y < 6 → edge cRows k y ≡ true → edge sRows k y ≡ true
+  edge-alike : (k y : ℕ) → y < 7 → edge cRows k y ≡ true → edge sRows k y ≡ true
   unfolding edge
   edge-alike k y l e =
       let m : k < y = edge-forward cRows k y e in
       let p = alike k (omega arith) .0 in
       let q = alike y l .0 in
       (λ i. ltb k y
-      && (ltb y 6 && (eqb (p i .process) (q i .process) || (p i .sends && (q i .receives && eqb (p i .message) (q i .message))))))
+      && (ltb y 7 && (eqb (p i .process) (q i .process) || (p i .sends && (q i .arrives && eqb (p i .message) (q i .message))))))
       ∙ e
 
   -- An allowed order of the rows is one of the rows with commits, and leaves the same files.
@@ -189,7 +193,7 @@ module _ (space file : ℕ) (f : file < FILES) (order : List ℕ) (allowed : All
   -- The rows and the closes pass the questions before 16.
   whole-fits : AllFit h (pointsOf sRows) (l ++ final)
   whole-fits =
-      let s = sound-trace sText 0 SESSION 6 2 8192 36 12 sRows s-taken in
+      let s = sound-trace sText 0 SESSION 7 2 8192 42 14 sRows s-taken in
       fit-append h (pointsOf sRows) l final
       (order-fits sRows 2 (s .0) (s .1) (s .2) (s .3) SESSION space file (omega arith) f order (allowed .of-trace))
       (ends-fit sRows 2 (s .0) (s .1) (s .2) (s .3) SESSION space file (omega arith) f CLOSE (omega arith) refl (λ q. absurd (omega (arith, q))) ends

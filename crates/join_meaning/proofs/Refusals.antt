@@ -11,7 +11,7 @@ use Rattle.csv.specs.Reading.{Records, records, Ending, all-read, at-malformed,
 use Rattle.rows.specs.declared.Row.{Row}
 use Rattle.rows.specs.Limits.{ROWS}
 use Rattle.rows.specs.Questions.{Question, firstNo}
-use Rattle.rows.specs.Refusals.{HEADER, RANGE-END, SHARED-PROCESS, STUCK}
+use Rattle.rows.specs.Refusals.{HEADER, RANGE-END, SHARED-PROCESS, WAIT-ORDER}
 use Rattle.rows.proofs.Asking.{all-yes, no-from}
 use Rattle.messages.specs.Questions.{messageQuestions}
 use Rattle.trace.specs.Rows.{rowOf}
@@ -89,9 +89,9 @@ file-from-four header rowLimit processLimit text number place e = subst (FileLow
 
 -- ---- The join
 
--- A refusal of the questions from 4 on is 4 to 20, its place at most one past the row limit, and its file 0, 1 or 2.
+-- A refusal of the questions from 4 on is 4 to 21, its place at most one past the row limit, and its file 0, 1 or 2.
 abbrev Low : ℕ → Joining → Type 0
-Low rowLimit (refused number place file) = (4 ≤ number) × (number ≤ STUCK) × (place ≤ rowLimit + 1) × (file ≤ 2)
+Low rowLimit (refused number place file) = (4 ≤ number) × (number ≤ WAIT-ORDER) × (place ≤ rowLimit + 1) × (file ≤ 2)
 Low rowLimit (joined es) = Unit {0}
 
 -- One turn.
@@ -114,7 +114,7 @@ low-turn R taken (turn.take e a b) on l h = go (eqb first 0) refl
         let many = rows-length taken in
         h (taken ++ (e ∷ [])) a b (simp length-append (omega arith))
     go false q =
-        (no-from 4 questions (omega arith) (eqb-false first 0 q), no-most STUCK questions (omega arith), omega arith, omega arith)
+        (no-from 4 questions (omega arith) (eqb-false first 0 q), no-most WAIT-ORDER questions (omega arith), omega arith, omega arith)
 
 -- The rest of both files.
 low-join : (k R : ℕ) (taken a b : List Entry) → length taken ≤ R → Low R (joinFrom k R taken a b)
@@ -147,7 +147,7 @@ from-four h₁ h₂ R P first second e = subst (Low R) e (low-files h₁ h₂ R 
 -- The bounds of every refusal.
 pub record Bounded (number place file : ℕ) : Type 0 where
   pub some : 1 ≤ number
-  pub few : number ≤ STUCK
+  pub few : number ≤ WAIT-ORDER
   pub placed : place ≤ ROWS + 1
   pub filed : file ≤ 2
 
@@ -175,7 +175,7 @@ refusal-bounded first second h₁ h₂ model R P rl cl pl {number} {place} {file
         let f : _≡_ {A = ℕ} 0 file = cc in
         record {
           some = omega (arith, no-from 1 questions (omega arith) (eqb-false no 0 q));
-          few = omega (arith, no-most STUCK questions (omega arith));
+          few = omega (arith, no-most WAIT-ORDER questions (omega arith));
           placed = omega arith;
           filed = omega arith;
         }

@@ -1,20 +1,17 @@
 -- Rows that pass the questions from 12 on pass them still where a row moves before another process's row, if the message that arrives at it, if
 -- one does, was sent before both.
-use Prim.Native.Nat.{ℕ, _<_}
+use Prim.Native.Nat.{ℕ}
 use mathlib.Core.Path.{_≡_, refl, sym, ap, _∙_}
 use mathlib.Core.Logic.{_⊎_, inl, inr}
-use mathlib.Core.Bool.{Bool, true, false, not, _&&_, _||_, false≢true}
+use mathlib.Core.Bool.{Bool, true, false, _||_, false≢true}
 use mathlib.Core.List.{List, [], _∷_, _++_}
-use lib.ListN.{length}
-use lib.Dec.{eqb}
 use Rattle.rows.specs.declared.Row.{Row}
-use Rattle.rows.specs.Kinds.{SEND, RECV, ARRIVAL}
-use Rattle.rows.specs.Rows.{rowAt}
-use Rattle.rows.proofs.Bools.{and-out, or-out, not-passed}
-use Rattle.messages.specs.Questions.{any, carries, sent}
+use Rattle.rows.specs.Kinds.{SEND, RECV, WAIT, ARRIVAL}
+use Rattle.rows.proofs.Bools.{or-out, not-passed}
+use Rattle.messages.specs.Questions.{any, carries, carriesBy, sent}
 use Rattle.messages.proofs.Asks.{Passes, Orderly, orderly, in-order}
 use Rattle.messages.proofs.Entries.{any-last}
-use Rattle.messages.proofs.InOrder.{some-out, some-in, carries-iff}
+use Rattle.messages.proofs.InOrder.{carries-iff, carries-by-iff}
 
 -- The message that arrives at a row, if one does, was sent.
 abbrev pub Ready : List Row → Row → Type 0
@@ -41,13 +38,7 @@ none-more test l x e f = any-last test l x ∙ (λ i. e i || not-passed (test x)
 
 -- The message that arrives at a row that passes was sent.
 pub passes-ready : (before : List Row) (r : Row) → Passes before r → Ready before r
-passes-ready before r e c = go (some-out other before (orderly before r e .by-other c))
-  where
-    other : Row → Bool
-    other s = carries SEND (r .message) s && not (eqb (s .process) (r .process))
-
-    go : (k : ℕ) × (k < length before) × (other (rowAt before k) ≡ true) → sent (r .message) before ≡ true
-    go (k, h, t) = some-in (carries SEND (r .message)) before k h (and-out (carries SEND (r .message) (rowAt before k)) _ t .0)
+passes-ready before r e = orderly before r e .sent-before
 
 -- A message that was sent is sent behind one row more.
 pub ready-more : (before : List Row) (x r : Row) → Ready before r → Ready (before ++ (x ∷ [])) r
@@ -66,8 +57,12 @@ alike-passes l n r a e =
     in-order n r
     record {
       unsent = λ s. sym (a _) ∙ p .unsent s;
-      by-other = λ s. sym (a _) ∙ p .by-other s;
-      unreceived = λ s. sym (a _) ∙ p .unreceived s;
+      posted-by-other = λ s. sym (a _) ∙ p .posted-by-other s;
+      unposted = λ s. sym (a _) ∙ p .unposted s;
+      sent-by-other = λ s. sym (a _) ∙ p .sent-by-other s;
+      posted-before = λ s. sym (a _) ∙ p .posted-before s;
+      sent-before = λ s. sym (a _) ∙ p .sent-before s;
+      unwaited = λ s. sym (a _) ∙ p .unwaited s;
     }
 
 -- ---- Two rows exchanged
@@ -82,35 +77,44 @@ module _ (before : List Row) (x e : Row) (apart : x .process ≡ e .process → 
   second : Orderly (before ++ (x ∷ [])) e
   second = orderly (before ++ (x ∷ [])) e p
 
-  -- The second row passes without the first in front of it: what arrives at the second was sent before, so the first does not send it.
+  -- The second row passes without the first in front of it: the first is another process's, and what arrives at the second was sent before.
   pub passes-earlier : Passes before e
   passes-earlier =
       in-order before e
       record {
         unsent = λ s. none-snoc _ before x (second .unsent s) .0;
-        by-other = λ s. go s (or-out _ _ (sym (any-last other before x) ∙ second .by-other s));
-        unreceived = λ s. none-snoc _ before x (second .unreceived s) .0;
+        posted-by-other = λ s. none-snoc _ before x (second .posted-by-other s) .0;
+        unposted = λ s. none-snoc _ before x (second .unposted s) .0;
+        sent-by-other = λ s. none-snoc _ before x (second .sent-by-other s) .0;
+        posted-before = λ s. go (or-out _ _ (sym (any-last own before x) ∙ second .posted-before s));
+        sent-before = w;
+        unwaited = λ s. none-snoc _ before x (second .unwaited s) .0;
       }
     where
-      other : Row → Bool
-      other r = carries SEND (e .message) r && not (eqb (r .process) (e .process))
+      own : Row → Bool
+      own = carriesBy (e .process) RECV (e .message)
 
-      go : e .kind ≡ RECV → (any other before ≡ true) ⊎ (other x ≡ true) → any other before ≡ true
-      go s (inl q) = q
-      go s (inr q) =
-          let c = carries-iff SEND (e .message) x .0 (and-out (carries SEND (e .message) x) _ q .0) in
-          absurd (false≢true (sym (first .unsent (c .0)) ∙ ap (λ (m : ℕ). sent m before) (c .1) ∙ w s))
+      go : (any own before ≡ true) ⊎ (own x ≡ true) → any own before ≡ true
+      go (inl q) = q
+      go (inr q) = absurd (apart (carries-by-iff (e .process) RECV (e .message) x .0 q .1))
 
-  -- The first row passes behind the second: both do not send or receive one message.
+  -- The first row passes behind the second: they are of two processes, and both do not send, post or wait for one message.
   pub passes-later : Passes (before ++ (e ∷ [])) x
   passes-later =
       in-order (before ++ (e ∷ [])) x
       record {
         unsent = λ s. none-more _ before e (first .unsent s) (λ q. two SEND s q (λ k. second .unsent k));
-        by-other = λ s. any-more _ before e (first .by-other s);
-        unreceived = λ s. none-more _ before e (first .unreceived s) (λ q. two RECV s q (λ k. second .unreceived k));
+        posted-by-other = λ s. none-more _ before e (first .posted-by-other s) (other RECV);
+        unposted = λ s. none-more _ before e (first .unposted s) (λ q. two RECV s q (λ k. second .unposted k));
+        sent-by-other = λ s. none-more _ before e (first .sent-by-other s) (other SEND);
+        posted-before = λ s. any-more _ before e (first .posted-before s);
+        sent-before = λ s. any-more _ before e (first .sent-before s);
+        unwaited = λ s. none-more _ before e (first .unwaited s) (λ q. two WAIT s q (λ k. second .unwaited k));
       }
     where
+      other : (kind : ℕ) → carriesBy (x .process) kind (x .message) e ≡ true → ⊥
+      other kind q = apart (sym (carries-by-iff (x .process) kind (x .message) e .0 q .1))
+
       two : (kind : ℕ) → x .kind ≡ kind → carries kind (x .message) e ≡ true →
           (e .kind ≡ kind → any (carries kind (e .message)) (before ++ (x ∷ [])) ≡ false) → ⊥
       two kind s q f =

@@ -4,41 +4,33 @@ use mathlib.Core.Path.{_≡_, sym, ap, _∙_}
 use mathlib.Core.Bool.{Bool, true, false, not, _&&_}
 use mathlib.Core.List.{List}
 use lib.ListN.{set}
-use lib.Dec.{eqb}
 use borrow.Author.Tests.{eq-eqb, ne-eqb}
 use Rattle.rows.specs.declared.Row.{Row}
-use Rattle.rows.specs.Kinds.{SEND, RECV}
+use Rattle.rows.specs.Kinds.{SEND, RECV, WAIT}
 use Rattle.rows.specs.Questions.{firstNo}
-use Rattle.rows.specs.Refusals.{MESSAGE-ORDER}
-use Rattle.messages.specs.Table.{senderIn, isSent, isReceived, withSend, withRecv, entryFor, entryInOrder, tableQuestions, notedRow, tableAfter}
+use Rattle.rows.specs.Refusals.{MESSAGE-ORDER, WAIT-ORDER}
+use Rattle.messages.specs.Table.{isSent, isPosted, isWaited, isSentBy, isPostedBy, withSend, withPost, withWait, entryFor, entryInOrder, entryWaitInOrder, tableQuestions, notedRow, tableAfter}
 
--- ---- Whether a process may receive
+-- ---- Two tests one after the other
 
-module _ (entry process : ℕ) where
-  -- A message that was not sent is not due.
-  pub due-unsent : isSent entry ≡ false → false ≡ (isSent entry && (not (eqb (senderIn entry) process) && not (isReceived entry)))
-  due-unsent s = rw s
+-- A first test that fails decides.
+pub first-fails : {x : Bool} (y : Bool) → x ≡ false → false ≡ (x && y)
+first-fails y e = rw e
 
-  -- A message that was sent is not due to its sender.
-  pub due-own : isSent entry ≡ true → senderIn entry ≡ process → false ≡ (isSent entry && (not (eqb (senderIn entry) process) && not (isReceived entry)))
-  due-own s p = rw (s, eq-eqb (senderIn entry) process p)
-
-  -- A message that another process sent is due where none received it.
-  pub due-other : isSent entry ≡ true → (senderIn entry ≡ process → ⊥) → {b : Bool} → b ≡ isReceived entry →
-      not b ≡ (isSent entry && (not (eqb (senderIn entry) process) && not (isReceived entry)))
-  due-other s p {b} e = rw (s, ne-eqb (senderIn entry) process p) (ap not e)
+-- Behind a first test that passes the second decides.
+pub second-decides : {x : Bool} (y : Bool) {z : Bool} → x ≡ true → z ≡ y → z ≡ (x && y)
+second-decides y e q = rw e q
 
 -- ---- Whether a row is in order
 
 module _ (entry : ℕ) (r : Row) where
-  -- A send is in order where its message was not sent.
-  pub order-send : r .kind ≡ SEND → {b : Bool} → b ≡ isSent entry → not b ≡ entryInOrder entry r
+  -- A send is in order where its process may send the message.
+  pub order-send : r .kind ≡ SEND → {b : Bool} → b ≡ (not (isSent entry) && not (isPostedBy (r .process) entry)) → b ≡ entryInOrder entry r
   unfolding entryInOrder
-  order-send k e = rw k (ap not e)
+  order-send k e = rw k e
 
-  -- A receive is in order where its message is due.
-  pub order-recv : r .kind ≡ RECV → {b : Bool} →
-      b ≡ (isSent entry && (not (eqb (senderIn entry) (r .process)) && not (isReceived entry))) → b ≡ entryInOrder entry r
+  -- A recv is in order where its process may post the message's receive.
+  pub order-recv : r .kind ≡ RECV → {b : Bool} → b ≡ (not (isPosted entry) && not (isSentBy (r .process) entry)) → b ≡ entryInOrder entry r
   unfolding entryInOrder
   order-recv k e = rw k e
 
@@ -46,6 +38,17 @@ module _ (entry : ℕ) (r : Row) where
   pub order-other : (r .kind ≡ SEND → ⊥) → (r .kind ≡ RECV → ⊥) → true ≡ entryInOrder entry r
   unfolding entryInOrder
   order-other s v = rw (ne-eqb (r .kind) SEND s, ne-eqb (r .kind) RECV v)
+
+  -- A row of another kind than wait passes 21.
+  pub wait-other : (r .kind ≡ WAIT → ⊥) → true ≡ entryWaitInOrder entry r
+  unfolding entryWaitInOrder
+  wait-other n = rw (ne-eqb (r .kind) WAIT n)
+
+  -- A wait passes 21 where its process posted the message's receive, and the message was sent and not yet waited for.
+  pub wait-is : r .kind ≡ WAIT → {b : Bool} → b ≡ (isPostedBy (r .process) entry && (isSent entry && not (isWaited entry))) →
+      b ≡ entryWaitInOrder entry r
+  unfolding entryWaitInOrder
+  wait-is k e = rw (eq-eqb (r .kind) WAIT k) e
 
 -- ---- What is noted
 
@@ -56,26 +59,46 @@ module _ (table : List ℕ) (r : Row) where
   unfolding notedRow
   note-send k p q t = rw k (t ∙ ap (set table (r .message)) (q ∙ ap (withSend (r .process)) p))
 
-  -- A receive is noted in its message's entry.
-  pub note-recv : r .kind ≡ RECV → {e x : ℕ} {l : List ℕ} → e ≡ entryFor table r → x ≡ withRecv e → l ≡ set table (r .message) x →
+  -- A posted receive is noted in its message's entry.
+  pub note-recv : r .kind ≡ RECV → {e x : ℕ} {l : List ℕ} → e ≡ entryFor table r → x ≡ withPost (r .process) e → l ≡ set table (r .message) x →
       l ≡ notedRow table r
   unfolding notedRow
-  note-recv k p q t = rw k (t ∙ ap (set table (r .message)) (q ∙ ap withRecv p))
+  note-recv k p q t = rw k (t ∙ ap (set table (r .message)) (q ∙ ap (withPost (r .process)) p))
+
+  -- A wait is noted in its message's entry.
+  pub note-wait : r .kind ≡ WAIT → {e x : ℕ} {l : List ℕ} → e ≡ entryFor table r → x ≡ withWait e → l ≡ set table (r .message) x →
+      l ≡ notedRow table r
+  unfolding notedRow
+  note-wait k p q t = rw k (t ∙ ap (set table (r .message)) (q ∙ ap withWait p))
 
   -- A row of another kind changes nothing.
-  pub note-other : (r .kind ≡ SEND → ⊥) → (r .kind ≡ RECV → ⊥) → table ≡ notedRow table r
+  pub note-other : (r .kind ≡ SEND → ⊥) → (r .kind ≡ RECV → ⊥) → (r .kind ≡ WAIT → ⊥) → table ≡ notedRow table r
   unfolding notedRow
-  note-other s v = rw (ne-eqb (r .kind) SEND s, ne-eqb (r .kind) RECV v)
+  note-other s v w = rw (ne-eqb (r .kind) SEND s, ne-eqb (r .kind) RECV v, ne-eqb (r .kind) WAIT w)
 
   -- ---- What is answered and left
 
   module _ {e : ℕ} {b : Bool} (p : e ≡ entryFor table r) (q : b ≡ entryInOrder e r) where
-    -- A row that is not in order is refused, and changes nothing.
+    -- The row's message is in order as the answer says.
+    asked : {x : Bool} → b ≡ x → entryInOrder (entryFor table r) r ≡ x
+    asked f = ap (λ (n : ℕ). entryInOrder n r) (sym p) ∙ sym q ∙ f
+
+    -- A row whose message is not in order is refused with 12, and changes nothing.
     pub put-no : b ≡ false → (MESSAGE-ORDER ≡ firstNo (tableQuestions table r)) × (table ≡ tableAfter table r)
     unfolding tableAfter tableQuestions firstNo
-    put-no f = let o : entryInOrder (entryFor table r) r ≡ false = ap (λ (x : ℕ). entryInOrder x r) (sym p) ∙ sym q ∙ f in (rw o, rw o)
+    put-no f = (rw (asked f), rw (asked f))
 
-    -- A row that is in order is noted.
-    pub put-yes : b ≡ true → {l : List ℕ} → l ≡ notedRow table r → (0 ≡ firstNo (tableQuestions table r)) × (l ≡ tableAfter table r)
-    unfolding tableAfter tableQuestions firstNo
-    put-yes f t = let o : entryInOrder (entryFor table r) r ≡ true = ap (λ (x : ℕ). entryInOrder x r) (sym p) ∙ sym q ∙ f in (rw o, rw o t)
+    module _ (f : b ≡ true) {c : Bool} (s : c ≡ entryWaitInOrder e r) where
+      -- The wait is in order as the answer says.
+      asked-wait : {x : Bool} → c ≡ x → entryWaitInOrder (entryFor table r) r ≡ x
+      asked-wait g = ap (λ (n : ℕ). entryWaitInOrder n r) (sym p) ∙ sym s ∙ g
+
+      -- A wait that is not in order is refused with 21, and changes nothing.
+      pub put-no-wait : c ≡ false → (WAIT-ORDER ≡ firstNo (tableQuestions table r)) × (table ≡ tableAfter table r)
+      unfolding tableAfter tableQuestions firstNo
+      put-no-wait g = (rw (asked f, asked-wait g), rw (asked f, asked-wait g))
+
+      -- A row that is in order is noted.
+      pub put-yes : c ≡ true → {l : List ℕ} → l ≡ notedRow table r → (0 ≡ firstNo (tableQuestions table r)) × (l ≡ tableAfter table r)
+      unfolding tableAfter tableQuestions firstNo
+      put-yes g t = (rw (asked f, asked-wait g), rw (asked f, asked-wait g) t)

@@ -31,7 +31,7 @@ WAIT = 8
 
 -- The kind of the row at which a message arrives: the order runs from the send to this row.
 abbrev pub ARRIVAL : ℕ
-ARRIVAL = RECV
+ARRIVAL = WAIT
 
 -- How many kinds there are.
 abbrev pub KINDS : ℕ

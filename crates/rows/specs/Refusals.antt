@@ -80,3 +80,7 @@ SHARED-PROCESS = 19
 -- Can the next row of one of two joined files be taken?
 abbrev pub STUCK : ℕ
 STUCK = 20
+
+-- Is the wait in order?
+abbrev pub WAIT-ORDER : ℕ
+WAIT-ORDER = 21

@@ -41,7 +41,7 @@ pub const RECV: u32 = 7;
 pub const WAIT: u32 = 8;
 
 // The kind of the row at which a message arrives: the order runs from the send to this row.
-pub const ARRIVAL: u32 = RECV;
+pub const ARRIVAL: u32 = WAIT;
 
 // How many kinds there are.
 pub const KINDS: u32 = 9;

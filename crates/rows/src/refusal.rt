@@ -40,3 +40,5 @@ pub const TEXT_SPACE: u32 = 18;
 pub const SHARED_PROCESS: u32 = 19;
 // Can the next row of one of two joined files be taken?
 pub const STUCK: u32 = 20;
+// Is the wait in order?
+pub const WAIT_ORDER: u32 = 21;

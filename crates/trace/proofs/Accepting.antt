@@ -23,7 +23,7 @@ use Rattle.trace.proofs.Asking.{all-asked}
 
 -- ---- What passing says
 
--- The questions 6 to 12 of a record, each answered Yes behind the rows before it.
+-- The questions 6 to 11 of a record and those from 12 on of its row, each answered Yes behind the rows before it.
 pub record Passes (rowLimit processLimit : ℕ) (earlier : List Row) (fields : List (List ℕ)) : Type 0 where
   pub in-row-limit : length earlier < rowLimit
   pub six-fields : length fields ≡ 6
@@ -43,8 +43,8 @@ pub data RowRecords : ℕ → List (List (List ℕ)) → List (List (List ℕ)) 
   no-header : {recs : List (List (List ℕ))} → RowRecords 0 recs recs
   header : {recs : List (List (List ℕ))} → RowRecords 1 (headerNames ∷ recs) recs
 
--- Every question of document 01 is answered Yes, and these are the rows: the questions 1 to 3 of the call; the text ends within the byte
--- limit and RFC 4180 derives its records (4); the header is right (5); every record that is a row passes the questions 6 to 12.
+-- Every question is answered Yes, and these are the rows: the questions 1 to 3 of the call; the text ends within the byte
+-- limit and RFC 4180 derives its records (4); the header is right (5); every record that is a row passes the questions from 6 on.
 pub record Acceptable (text : List ℕ) (header model rowLimit processLimit byteLimit rowsLength countsLength : ℕ) (rows : List Row) : Type 0 where
   pub call : Legal header model rowLimit processLimit rowsLength countsLength
   pub in-byte-limit : length text ≤ byteLimit
@@ -63,7 +63,7 @@ first-yes true h e = (refl, e)
 first-yes false h e = absurd (omega arith)
 
 module _ (rowLimit processLimit : ℕ) where
-  -- a record passes exactly where no question from 6 to 12 is answered No
+  -- a record passes exactly where no question from 6 on is answered No
   pub passes-iff : (earlier : List Row) (fields : List (List ℕ)) →
       (firstNo (rowQuestions rowLimit processLimit earlier fields) ≡ 0) ↔ Passes rowLimit processLimit earlier fields
   unfolding firstNo recordQuestions rowQuestions fieldQuestions

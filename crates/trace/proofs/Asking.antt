@@ -176,7 +176,7 @@ module _ (rowLimit processLimit n count : ℕ) (fields : List (List ℕ)) where
   unfolding recordQuestions firstNo judgedFields
   fields-decide h s e = e ∙ rw (lt-ltb n rowLimit h, eq-eqb count 6 s)
 
--- ---- The questions 6 to 12
+-- ---- The questions from 6 on
 
 module _ (rowLimit processLimit n : ℕ) (table : List ℕ) (count : ℕ) (fields : List (List ℕ)) {j : ReadRow}
     (e : j ≡ recordAnswer rowLimit processLimit n count fields) where

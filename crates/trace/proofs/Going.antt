@@ -41,7 +41,7 @@ in-limit R P done fields e = go (ltb (length done) R) refl e
     go true q f = ltb-true (length done) R q
     go false q f = absurd (omega arith)
 
--- the rows of a trace are judged by the questions 6 to 12
+-- the rows of a trace are judged by the questions from 6 on
 pub judges-rows : (R P : ℕ) → Judges R (rowQuestions R P) (judgeRows R P)
 unfolding judgeRows
 judges-rows R P =

@@ -13,6 +13,7 @@ use Rattle.rows.specs.declared.Row.{Row}
 use Rattle.trace.specs.Rows.{rowOf}
 use Rattle.trace.specs.Questions.{callQuestions, isHeader, fieldQuestions, recordQuestions, rowQuestions, messageQuestions, Outcome, refused, accepted, judgeRows, judgeHeader, readTrace, checkTrace}
 use Rattle.rows.specs.Questions.{Question, firstNo}
+use Rattle.rows.specs.Refusals.{WAIT-ORDER}
 use Rattle.trace.proofs.Laws.{legal}
 use Rattle.rows.proofs.Asking.{all-yes, no-from}
 
@@ -31,9 +32,13 @@ no-most m (q ∷ qs) u = go (q .yes) (no-most m qs (u .1))
     go true h = h
     go false h = u .0
 
--- a refusal's number is 1 to 12, and its place at most one past the row limit
+-- the largest number of a refusal
+abbrev pub LARGEST : ℕ
+LARGEST = WAIT-ORDER
+
+-- a refusal's number is at least 1 and at most the largest, and its place at most one past the row limit
 abbrev Low : ℕ → Outcome → Type 0
-Low rowLimit (refused number place) = (1 ≤ number) × (number ≤ 12) × (place ≤ rowLimit + 1)
+Low rowLimit (refused number place) = (1 ≤ number) × (number ≤ LARGEST) × (place ≤ rowLimit + 1)
 Low rowLimit (accepted rows) = Unit {0}
 
 module _ (rowLimit processLimit : ℕ) where
@@ -60,7 +65,7 @@ module _ (rowLimit processLimit : ℕ) where
       go ih true e =
           let room = ltb-true (length before) rowLimit (all-yes questions (omega arith) (eqb-true first 0 e) .0) in
           ih (simp length-append (omega arith))
-      go ih false e = (no-from 1 questions (omega arith) (eqb-false first 0 e), no-most 12 questions (omega arith), omega arith)
+      go ih false e = (no-from 1 questions (omega arith) (eqb-false first 0 e), no-most LARGEST questions (omega arith), omega arith)
 
   -- the outcome of records with a header first is Low
   low-header : (recs : List (List (List ℕ))) (ending : Ending) → Low rowLimit (judgeHeader rowLimit processLimit recs ending)
@@ -88,7 +93,7 @@ module _ (rowLimit processLimit : ℕ) where
 -- the bounds of every refusal
 pub record Bounded (number place : ℕ) : Type 0 where
   pub some : 1 ≤ number
-  pub few : number ≤ 12
+  pub few : number ≤ LARGEST
   pub placed : place ≤ ROWS + 1
 
 -- every refusal of a call is within the bounds
@@ -114,6 +119,6 @@ refusal-bounded text header model R P limit a b {number} {place} e = go (eqb fir
         let p : _≡_ {A = ℕ} 0 place = cc in
         record {
           some = omega (arith, no-from 1 questions (omega arith) (eqb-false first 0 q));
-          few = omega (arith, no-most 12 questions (omega arith));
+          few = omega (arith, no-most LARGEST questions (omega arith));
           placed = omega arith;
         }

@@ -14,8 +14,8 @@ use Rattle.trace.specs.declared.Checked.{Checked}
 use Rattle.trace.specs.declared.Checked.the-variants.{Accepted, Refused}
 use Rattle.trace.specs.Rows.{headerNames, sameFields, rowOf}
 use Rattle.rows.specs.Rows.{numbers}
-pub use Rattle.messages.specs.Questions.{carries, sent, sentByOther, received}
-unfoldable pub use Rattle.messages.specs.Questions.{any, messageInOrder, messageQuestions}
+pub use Rattle.messages.specs.Questions.{carries, carriesBy, sent, sentBy, posted, postedBy, waitedFor}
+unfoldable pub use Rattle.messages.specs.Questions.{any, messageInOrder, waitInOrder, messageQuestions}
 pub use Rattle.trace_numbers.specs.Numbers.{numberIf, OFFSETS}
 pub use Rattle.trace_fields.specs.Questions.{kindKnown, asUsed, endInRange}
 unfoldable pub use Rattle.trace_fields.specs.Questions.{filledAsUsed, numbersInRange, fieldQuestions}

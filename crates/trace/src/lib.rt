@@ -1,4 +1,4 @@
-// Reads a trace, rows of file operations in RFC 4180 text, into slices that the caller lends, and puts the questions 1 to 12 to it.
+// Reads a trace, rows of file operations in RFC 4180 text, into slices that the caller lends, and puts the questions to it: 1 to 12 and 21.
 mod reading;
 
 ghost use mathlib.Core.Path.{_≡_};
@@ -106,7 +106,7 @@ pub fn ask_call(
     0
 }
 
-// Puts the questions 4 to 12 to a text: where the header word is not 0, first to the header.
+// Puts the questions from 4 on to a text: where the header word is not 0, first to the header.
 fn read_trace(
     text: &[u8],
     header: u32,

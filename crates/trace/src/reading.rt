@@ -1,4 +1,4 @@
-// Reads row after row into a slice of six numbers for each row, and puts the questions 6 to 12 to each record.
+// Reads row after row into a slice of six numbers for each row, and puts the questions from 6 on to each record.
 ghost use mathlib.Core.Path.{_≡_};
 ghost use Prim.Native.Nat.{_*_, _≤_};
 ghost use lib.ListN.{length};
