@@ -10,6 +10,7 @@ use lib.ListN.{length}
 use lib.Dec.{ltb, eqb}
 use borrow.Author.Tests.{lt-ltb, ltb-true, eq-eqb, eqb-true, eqb-false}
 use Rattle.rows.specs.declared.Row.{Row}
+use Rattle.rows.specs.Kinds.{SEND, RECV, ARRIVAL}
 use Rattle.rows.specs.Counting.{anyBelow, countBelow, lastBelow}
 use Rattle.happens_before.specs.Order.{sameProcess, delivers, edge, HB, one, more, hbWithin, hb, upTo, count}
 use Rattle.rows.specs.Rows.{rowAt}
@@ -127,6 +128,30 @@ program-order rows i j h n p = rw (lt-ltb i j h, lt-ltb j (length rows) n, eq-eq
 pub message-order : (rows : List Row) (i j : ℕ) → i < j → j < length rows → delivers (rowAt rows i) (rowAt rows j) ≡ true → edge rows i j ≡ true
 unfolding edge
 message-order rows i j h n d = rw (lt-ltb i j h, lt-ltb j (length rows) n) (or-right (sameProcess (rowAt rows i) (rowAt rows j)) _ d)
+
+-- An edge along which no message arrives stays within a process.
+edge-within : (rows : List Row) (i j : ℕ) → (delivers (rowAt rows i) (rowAt rows j) ≡ true → ⊥) → edge rows i j ≡ true →
+    rowAt rows i .process ≡ rowAt rows j .process
+edge-within rows i j n e = go (edge-out rows i j e .2)
+  where
+    go : (rowAt rows i .process ≡ rowAt rows j .process) ⊎ (delivers (rowAt rows i) (rowAt rows j) ≡ true) →
+        rowAt rows i .process ≡ rowAt rows j .process
+    go (inl q) = q
+    go (inr d) = absurd (n d)
+
+-- A recv gives no order by itself: an edge to it comes from its own process.
+pub recv-alone : (rows : List Row) (i j : ℕ) → rowAt rows j .kind ≡ RECV → edge rows i j ≡ true → rowAt rows i .process ≡ rowAt rows j .process
+recv-alone rows i j k =
+    edge-within rows i j
+    (λ d.
+    let a = and-out (eqb (rowAt rows i .kind) SEND) _ d in
+    let w = eqb-true (rowAt rows j .kind) ARRIVAL (and-out _ _ (a .1) .0) in omega arith)
+
+-- And an edge from a recv leads to its own process.
+pub recv-alone-out : (rows : List Row) (i j : ℕ) → rowAt rows i .kind ≡ RECV → edge rows i j ≡ true →
+    rowAt rows i .process ≡ rowAt rows j .process
+recv-alone-out rows i j k =
+    edge-within rows i j (λ d. let s = eqb-true (rowAt rows i .kind) SEND (and-out _ _ d .0) in omega arith)
 
 -- Row i is of process p.
 abbrev ofProcess : List Row → ℕ → ℕ → Bool

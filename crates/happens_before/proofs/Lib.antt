@@ -5,3 +5,4 @@ pub mod Joins
 pub mod Tables
 pub mod Filling
 pub mod Asking
+pub mod Postings
