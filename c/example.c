@@ -1,5 +1,5 @@
-/* Trace B through the library for C: in one call, then from its text to the verdicts, its rows written as text again, and its read replayed on a
- * machine for session and on the plain file. Then the same rows as two controllers record them, joined. */
+/* Trace B with a wait through the library for C: in one call, with and without the wait, then from its text to the verdicts, its rows written as
+ * text again, and its read replayed on a machine for session and on the plain file. Then the same rows as two controllers record them, joined. */
 #include "kiqsaryn.h"
 #include <stdio.h>
 #include <string.h>
@@ -53,10 +53,10 @@ static void join_files(const char *name, const char *first, const char *second, 
         printf("  file %u: %.*s\n", (unsigned)part[0], (int)(part[2] - part[1]), files[part[0] - 1] + part[1]);
 }
 
-/* Trace B as two controllers record it: process 0 in the first file, and process 1 in the second. */
+/* The same rows as two controllers record them: process 0 in the first file, and process 1 in the second. */
 static int join_two(void) {
     const char *first = "process,kind,file,offset,length,message\r\n0,write,1,0,10,\r\n0,commit,1,,,\r\n0,send,,,,7\r\n";
-    const char *second = "1,recv,,,,7\r\n1,read,1,5,10,\r\n";
+    const char *second = "1,recv,,,,7\r\n1,wait,,,,7\r\n1,read,1,5,10,\r\n";
     uint32_t rows[6 * ROWS];
     uint64_t read = kiqsaryn_read_file((const uint8_t *)second, strlen(second), 0, ROWS, PROCESSES, rows, 6 * ROWS);
     if (read >> 32)
@@ -64,20 +64,25 @@ static int join_two(void) {
     printf("second file: %u rows\n", (unsigned)read);
     join_files(names[1], first, second, 1);
     join_files(names[2], first, second, 2);
-    join_files("a message that nobody sends", first, "1,recv,,,,8\r\n", 1);
+    join_files("a wait for a message that nobody sends", first, "1,recv,,,,8\r\n1,wait,,,,8\r\n", 1);
+    join_files("a wait for a message that is not posted", first, "1,wait,,,,7\r\n", 1);
     join_files("a record of five fields", first, "1,recv,,,,7\r\n1,read,1,5,10\r\n", 1);
     return 0;
 }
 
 int main(void) {
     const char *text = "process,kind,file,offset,length,message\r\n"
-                       "0,write,1,0,10,\r\n0,commit,1,,,\r\n0,send,,,,7\r\n1,recv,,,,7\r\n1,read,1,5,10,\r\n";
+                       "0,write,1,0,10,\r\n0,commit,1,,,\r\n0,send,,,,7\r\n1,recv,,,,7\r\n1,wait,,,,7\r\n1,read,1,5,10,\r\n";
+    const char *without_wait = "process,kind,file,offset,length,message\r\n"
+                               "0,write,1,0,10,\r\n0,commit,1,,,\r\n0,send,,,,7\r\n1,recv,,,,7\r\n1,read,1,5,10,\r\n";
     uint32_t rows[6 * ROWS], seen[ROWS], maps[4 * SPACE * (PROCESSES + 1)], map[4 * SPACE], pieces[3 * 8];
     uint16_t counts[ROWS * PROCESSES];
 
     for (uint32_t model = 1; model < 3; model++)
         print_judged(names[model], kiqsaryn_judge((const uint8_t *)text, strlen(text), 1, model, ROWS, PROCESSES, SIZE_MAX, rows, 6 * ROWS,
                                                   counts, ROWS * PROCESSES));
+    print_judged("commit, without the wait", kiqsaryn_judge((const uint8_t *)without_wait, strlen(without_wait), 1, 1, ROWS, PROCESSES, SIZE_MAX,
+                                                            rows, 6 * ROWS, counts, ROWS * PROCESSES));
     print_judged("header word 0", kiqsaryn_judge((const uint8_t *)text, strlen(text), 0, 1, ROWS, PROCESSES, SIZE_MAX, rows, 6 * ROWS, counts,
                                                  ROWS * PROCESSES));
 
@@ -104,11 +109,11 @@ int main(void) {
         return 2;
     if (kiqsaryn_replay(2, PROCESSES, 1, SPACE, maps, 4 * SPACE * (PROCESSES + 1), rows, 6 * ROWS, 0, n, seen, ROWS, pieces, 24) != n)
         return 2;
-    for (uint32_t i = 0; i < seen[4]; i++)
+    for (uint32_t i = 0; i < seen[5]; i++)
         printf("session: %u bytes from %u are of row %u\n", (unsigned)pieces[3 * i + 1], (unsigned)pieces[3 * i], (unsigned)pieces[3 * i + 2]);
     if (kiqsaryn_replay_plain(PROCESSES, 1, SPACE, map, 4 * SPACE, rows, 6 * ROWS, 0, n, seen, ROWS, pieces, 24) != n)
         return 2;
-    for (uint32_t i = 0; i < seen[4]; i++)
+    for (uint32_t i = 0; i < seen[5]; i++)
         printf("plain: %u bytes from %u are of row %u\n", (unsigned)pieces[3 * i + 1], (unsigned)pieces[3 * i], (unsigned)pieces[3 * i + 2]);
     return join_two();
 }

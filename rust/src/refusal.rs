@@ -23,10 +23,11 @@ pub enum Refusal {
     TextSpace,
     SharedProcess,
     Stuck,
+    WaitOrder,
 }
 
 impl Refusal {
-    pub const ALL: [Refusal; 20] = [
+    pub const ALL: [Refusal; 21] = [
         Refusal::ShortSlice,
         Refusal::Limits,
         Refusal::HeaderWord,
@@ -47,6 +48,7 @@ impl Refusal {
         Refusal::TextSpace,
         Refusal::SharedProcess,
         Refusal::Stuck,
+        Refusal::WaitOrder,
     ];
 
     /// The number that the documents give it, from 1.
@@ -71,12 +73,12 @@ impl Refusal {
             Refusal::Header => "Is the first record the header process,kind,file,offset,length,message?",
             Refusal::TooManyRows => "Is the row within the row limit, and its record within the byte limit?",
             Refusal::NotSixFields => "Has the record six fields?",
-            Refusal::UnknownKind => "Is the kind read, write, commit, open, close, sync, send or recv?",
+            Refusal::UnknownKind => "Is the kind read, write, commit, open, close, sync, send, recv or wait?",
             Refusal::FieldsUsed => "Are the fields that the kind uses filled, and the others empty?",
             Refusal::NumberRange => "Is each number plain (digits, no leading zero) and within its range?",
             Refusal::RangeEnd => "Is offset + length at most 4,294,967,295?",
             Refusal::MessageOrder => {
-                "Is a send's message unsent so far, and a recv's sent earlier by another process and not yet received?"
+                "Is a send's message unsent so far, and any receive posted before it another process's; is a recv's not posted before, and not sent by this process?"
             }
             Refusal::UnlawfulState => "Is the state one that making and steps leave?",
             Refusal::RowNumber => "Is the row number 1 to 4,096?",
@@ -85,7 +87,8 @@ impl Refusal {
             Refusal::AnswerSpace => "Does the read's list of pieces fit the lent answer slice?",
             Refusal::TextSpace => "Does the text fit the lent slice from its place on?",
             Refusal::SharedProcess => "Does every process have its rows in one of the two files alone?",
-            Refusal::Stuck => "Can one of the next rows be taken: is it no recv, or a recv of a message that a taken row has sent?",
+            Refusal::Stuck => "Can one of the next rows be taken: is it no wait, or a wait for a message that a taken row has sent?",
+            Refusal::WaitOrder => "Was the wait's message posted earlier by this process, sent earlier, and not yet waited for?",
         }
     }
 }
