@@ -5,8 +5,8 @@ use crate::input::{short_names, Join, Recorded, Trace};
 use crate::recording::Recording;
 use crate::text::{counted, describe, escape, labelled, size};
 use crate::words::words;
-use kiqsaryn::{verdict, Model, Row, Verdict, RECV, SEND};
-use std::collections::BTreeMap;
+use kiqsaryn::{verdict, Model, Row, Verdict, RECV, SEND, WAIT};
+use std::collections::{BTreeMap, BTreeSet};
 
 /// The verdicts under the models, in their order. An error is a sentence.
 pub fn judge(trace: &Trace, models: &[Model]) -> Result<Vec<(Model, Verdict)>, String> {
@@ -53,14 +53,21 @@ fn shown_row(trace: &Trace, number: u32) -> String {
     shown(&format!("row {number}"), trace.record(number), trace.rows().row(number), trace.own_name(number))
 }
 
-/// How many rows each process has, each file, and the messages.
+/// How many receives are posted whose messages no row of the recording waits for. Each wait is of the process that posts, so of the same recording.
+fn not_waited_for(recording: &Recording) -> usize {
+    let of = |kind: u32| recording.all().filter(move |(_, row)| row.kind == kind).map(|(_, row)| row.message);
+    let waited: BTreeSet<u32> = of(WAIT).collect();
+    of(RECV).filter(|message| !waited.contains(message)).count()
+}
+
+/// How many rows each process has, each file, and the messages, and how many receives no row waits for.
 fn tallies(recording: &Recording) -> String {
     let (mut processes, mut files) = (BTreeMap::new(), BTreeMap::new());
     let mut messages = 0;
     for (_, row) in recording.all() {
         *processes.entry(row.process).or_insert(0) += 1;
         match row.kind {
-            SEND | RECV => messages += 1,
+            SEND | RECV | WAIT => messages += 1,
             _ => *files.entry(row.file).or_insert(0) += 1,
         }
     }
@@ -72,7 +79,11 @@ fn tallies(recording: &Recording) -> String {
         s.push_str(&format!("  file {f}: {}\n", counted(n, "row")));
     }
     if messages > 0 {
-        s.push_str(&format!("  send and recv, of no file: {}\n", counted(messages, "row")));
+        s.push_str(&format!("  send, recv and wait, of no file: {}\n", counted(messages, "row")));
+    }
+    let posted_only = not_waited_for(recording);
+    if posted_only > 0 {
+        s.push_str(&format!("  recv without a wait: {}\n", counted(posted_only as u64, "row")));
     }
     s
 }

@@ -7,7 +7,7 @@ use crate::input::{Recorded, Trace};
 use crate::recording::Recording;
 use crate::text::{counted, describe, wrap};
 use crate::words::words;
-use kiqsaryn::{Model, Row, Verdict, KINDS, READ, RECV, SEND, WRITE};
+use kiqsaryn::{Model, Row, Verdict, KINDS, READ, RECV, SEND, WAIT, WRITE};
 use std::collections::BTreeMap;
 
 /// Sizes in pixels: the margin, a row's line and its box, the gap between lanes, and the line of lane heads, which comes again behind so
@@ -33,6 +33,7 @@ rect{stroke:#555;stroke-width:1}
 .write{fill:#fde3ae}
 .share{fill:#d5efd8}
 .message{fill:#ececec}
+.posted{fill:#fff;stroke-dasharray:4 3}
 .racing{stroke:#b00020;stroke-width:3}
 .lane{stroke:#bbb;stroke-width:1}
 .arrow{stroke:#333;stroke-width:1.3;fill:none;marker-end:url(#tip)}
@@ -85,8 +86,30 @@ fn letter(trace: &Trace, number: u32) -> Option<(char, u32)> {
     }
 }
 
+/// The rows that send each message, and those that wait for each.
+struct Messages {
+    sent: BTreeMap<u32, u32>,
+    waited: BTreeMap<u32, u32>,
+}
+
+impl Messages {
+    fn of(trace: &Trace) -> Messages {
+        let rows_of = |kind: u32| trace.rows().all().filter(|(_, r)| r.kind == kind).map(|(k, r)| (r.message, k)).collect();
+        Messages { sent: rows_of(SEND), waited: rows_of(WAIT) }
+    }
+
+    /// What a row's message lacks, if anything.
+    fn lack(&self, row: Row) -> &'static str {
+        match row.kind {
+            RECV if !self.sent.contains_key(&row.message) => ", not sent",
+            _ if !self.waited.contains_key(&row.message) => ", not waited for",
+            _ => "",
+        }
+    }
+}
+
 /// The short text in a row's box.
-fn label(trace: &Trace, number: u32, row: Row, received: bool) -> String {
+fn label(trace: &Trace, messages: &Messages, number: u32, row: Row) -> String {
     let kind = KINDS.get(row.kind as usize).copied().unwrap_or("?");
     let rest = match row.kind {
         READ | WRITE => match row.length {
@@ -94,8 +117,7 @@ fn label(trace: &Trace, number: u32, row: Row, received: bool) -> String {
             1 => format!("f{} {}", row.file, row.offset),
             n => format!("f{} {}-{}", row.file, row.offset, u64::from(row.offset) + u64::from(n) - 1),
         },
-        SEND if !received => format!("m{}, not received", row.message),
-        SEND | RECV => format!("m{}", row.message),
+        SEND | RECV | WAIT => format!("m{}{}", row.message, messages.lack(row)),
         _ => format!("f{}", row.file),
     };
     match letter(trace, number) {
@@ -108,7 +130,8 @@ fn class(kind: u32) -> &'static str {
     match kind {
         READ => "read",
         WRITE => "write",
-        SEND | RECV => "message",
+        SEND | WAIT => "message",
+        RECV => "posted",
         _ => "share",
     }
 }
@@ -194,6 +217,9 @@ fn heading(trace: &Trace, model: Model, race: Option<(u32, u32)>) -> (Lines, Opt
     (lines, Some(w.shared))
 }
 
+/// What an arrow is.
+const MESSAGE: &str = "message, send to wait";
+
 /// What stands in a box.
 fn in_a_box(trace: &Trace) -> &'static str {
     match &trace.source {
@@ -205,7 +231,7 @@ fn in_a_box(trace: &Trace) -> &'static str {
 /// The legend, from a height on.
 fn legend(s: &mut String, trace: &Trace, y: usize) {
     let mut x = MARGIN;
-    let samples = [("read", "read"), ("write", "write"), ("share", "commit open close sync"), ("message", "send recv")];
+    let samples = [("read", "read"), ("write", "write"), ("share", "commit open close sync"), ("message", "send wait"), ("posted", "recv")];
     for (class, words) in samples {
         let width = wide(words.len()) + 12;
         s.push_str(&format!("<rect class=\"{class}\" x=\"{x}\" y=\"{y}\" width=\"{width}\" height=\"{BOX}\" rx=\"3\"/>\n"));
@@ -214,8 +240,8 @@ fn legend(s: &mut String, trace: &Trace, y: usize) {
     }
     let middle = y + BOX / 2;
     s.push_str(&format!("<path class=\"arrow\" d=\"M{x} {middle}L{} {middle}\"/>\n", x + 34));
-    write_text(s, "", x + 42, y + 15, "message");
-    x += 42 + wide("message".len()) + 14;
+    write_text(s, "", x + 42, y + 15, MESSAGE);
+    x += 42 + wide(MESSAGE.len()) + 14;
     s.push_str(&format!("<rect class=\"paper racing\" x=\"{x}\" y=\"{y}\" width=\"34\" height=\"{BOX}\" rx=\"3\"/>\n"));
     write_text(s, "", x + 42, y + 15, "racing row");
     write_text(s, "", MARGIN, y + BOX + 18, in_a_box(trace));
@@ -242,10 +268,10 @@ fn note(trace: &Trace, shared: &str, other: &Shape) -> String {
     format!("shares {shared} with {}", trace.row_name(other.number))
 }
 
-/// The arrows of the messages; `received` has the row that receives each.
-fn arrows(s: &mut String, shapes: &[Shape], received: &BTreeMap<u32, u32>) {
+/// The arrows of the messages, each from its send to the wait for it.
+fn arrows(s: &mut String, shapes: &[Shape], messages: &Messages) {
     for a in shapes.iter().filter(|a| a.row.kind == SEND) {
-        if let Some(b) = received.get(&a.row.message).and_then(|k| shape(shapes, *k)) {
+        if let Some(b) = messages.waited.get(&a.row.message).and_then(|k| shape(shapes, *k)) {
             let (x, end) = if a.x < b.x { (a.right(), b.x) } else { (a.x, b.right()) };
             s.push_str(&format!("<path class=\"arrow\" d=\"M{x} {}L{end} {}\"/>\n", a.middle(), b.middle()));
         }
@@ -310,8 +336,8 @@ pub fn svg(trace: &Trace, model: Model) -> Result<String, String> {
         Some((_, Verdict::Race { earlier, later })) => Some((*earlier, *later)),
         _ => None,
     };
-    let received: BTreeMap<u32, u32> = trace.rows().all().filter(|(_, r)| r.kind == RECV).map(|(k, r)| (r.message, k)).collect();
-    let labelled = |(k, r): (u32, Row)| (k, r, label(trace, k, r, received.contains_key(&r.message)));
+    let messages = Messages::of(trace);
+    let labelled = |(k, r): (u32, Row)| (k, r, label(trace, &messages, k, r));
     let rows: Vec<(u32, Row, String)> = trace.rows().all().map(labelled).collect();
     let (lanes, lanes_end) = lanes(trace, &rows);
     let (lines, shared) = heading(trace, model, race);
@@ -335,7 +361,7 @@ pub fn svg(trace: &Trace, model: Model) -> Result<String, String> {
         let x = lane.x + lane.width / 2;
         s.push_str(&format!("<path class=\"lane\" d=\"M{x} {top}L{x} {bottom}\"/>\n"));
     }
-    arrows(&mut s, &shapes, &received);
+    arrows(&mut s, &shapes, &messages);
     if let Some(((a, b), text)) = pair {
         bracket(&mut s, trace, a, b, text);
     }

@@ -4,7 +4,8 @@
 //! The row that publishes soonest after the earlier row and the row that refreshes latest before the later one are the best choices for a
 //! chain: where they are not in order, no others are.
 
-use kiqsaryn::{Model, Row, CLOSE, COMMIT, OPEN, READ, SYNC, WRITE};
+use crate::posted::{missing_waits, Posted};
+use kiqsaryn::{Model, Row, CLOSE, COMMIT, OPEN, READ, SYNC, WAIT, WRITE};
 
 /// Accepted rows with their happens-before counts.
 #[derive(Clone, Copy)]
@@ -82,6 +83,9 @@ pub enum Claim {
     LastRefresh { process: u32, before: u32, row: u32 },
     /// The one row, of one process, does not happen before the other, of another.
     NotBefore { from: u32, to: u32 },
+    /// The receive is posted and not waited for in time; `wait` is the row, behind, that waits for it, if any does. A wait in time for this one, and
+    /// for each other that is claimed so, would bring the order.
+    PostedOnly { posted: Posted, wait: Option<u32> },
     /// The last row of the process that happens before this one, of another process; `None` where none does.
     LastBefore { process: u32, row: u32, last: Option<u32> },
 }
@@ -105,6 +109,33 @@ fn shared(a: Row, b: Row) -> Option<(u32, u32)> {
     let last = end(a).min(end(b)).checked_sub(1)?;
     let last = u32::try_from(last).ok()?;
     (first <= last).then_some((first, last))
+}
+
+/// The claim that a receive is posted and not waited for in time.
+fn posted_only(rows: &Rows, posted: Posted) -> Option<Claim> {
+    let message = rows.row(posted.recv)?.message;
+    let waits = |(k, r): &(u32, Row)| *k > posted.before && r.kind == WAIT && r.message == message;
+    Some(Claim::PostedOnly { posted, wait: rows.all().find(waits).map(|(k, _)| k) })
+}
+
+/// What is claimed of the order between the two sides of a chain, each with its row of the pair and its best row of the chain, if it has one; `None`
+/// where both have one and these are in order.
+fn order(rows: &Rows, [(earlier, start), (later, end)]: [(u32, Option<u32>); 2]) -> Option<Vec<Claim>> {
+    let (from, to) = (start.unwrap_or(earlier), end.unwrap_or(later));
+    let (in_order, complete) = (rows.before(from, to)?, start.is_some() && end.is_some());
+    let mut claims = Vec::new();
+    if in_order && complete {
+        return None;
+    }
+    if complete {
+        claims.push(Claim::NotBefore { from, to });
+    }
+    if !in_order {
+        claims.extend(missing_waits(rows, from, to).into_iter().filter_map(|posted| posted_only(rows, posted)));
+    }
+    let process = rows.row(from)?.process;
+    claims.push(Claim::LastBefore { process, row: to, last: rows.last_before(process, to)? });
+    Some(claims)
 }
 
 /// The explanation of a race; `None` where the rows do not conflict or a chain is found after all.
@@ -144,13 +175,6 @@ pub fn explain(rows: &Rows, model: Model, earlier: u32, later: u32) -> Option<Ex
         });
         last
     };
-    if let (Some(from), Some(to)) = (start, end) {
-        if rows.before(from, to)? {
-            return None;
-        }
-        claims.push(Claim::NotBefore { from, to });
-    }
-    let row = end.unwrap_or(later);
-    claims.push(Claim::LastBefore { process: x.process, row, last: rows.last_before(x.process, row)? });
+    claims.extend(order(rows, [(earlier, start), (later, end)])?);
     Some(Explanation { model, file: x.file, earlier, later, shared, claims })
 }

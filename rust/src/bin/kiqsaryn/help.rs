@@ -55,7 +55,9 @@ A verdict names the first race: the one with the smallest later row, then the
 smallest earlier row. There may be more behind it; check again after a repair.
 
 \"Row 2 happens before row 7\" means: both are of one process, or messages lead
-from the one to the other. The place in the trace alone orders nothing.
+from the one to the other, each from its send to the wait for it. The place in
+the trace alone orders nothing, nor does a recv: it says where the receive was
+posted, and the message has arrived at the wait.
 
 Exit status: 0 free, 1 race, 2 refused, 3 wrong command line or file error.
 
@@ -96,10 +98,11 @@ kiqsaryn diagram FIRST SECOND --headers yes|no,yes|no [--model M]
                  [--processes N] [-o FILE]
 
 Draws the trace as an SVG picture for a browser: a lane for each process, the
-rows from top to bottom in the order of the trace, messages as arrows. The
-first race under the model is framed in red, with the bytes that both rows
-touch and what is missing between them. Two traces are joined first; A and B
-then tell the trace of each row.
+rows from top to bottom in the order of the trace, each message as an arrow
+from its send to the wait for it; a recv is a hollow box. The first race under
+the model is framed in red, with the bytes that both rows touch and what is
+missing between them. Two traces are joined first; A and B then tell the trace
+of each row.
 
   --header yes|no   the first record holds the names (yes) or is row 1 (no)
   --headers A,B     the same for two traces: A for the first, B for the second
@@ -156,9 +159,9 @@ the join under each model; each row of a race is shown with its own trace and
 its number there.
 
 The next row comes from FIRST, unless FIRST is at its end or its next row is a
-recv whose message no row taken so far has sent; then it comes from SECOND on
+wait whose message no row taken so far has sent; then it comes from SECOND on
 the same condition. The verdict is free exactly where it is free for every
-other order that keeps the rows of each trace in order and each recv after its
+other order that keeps the rows of each trace in order and each wait after its
 send.
 
   --headers A,B        the first record holds the names (yes) or is row 1 (no):

@@ -4,7 +4,7 @@ use crate::args::{Common, Input, Inputs};
 use crate::explain::Rows;
 use crate::recording::{byte_limit, is_one_pipe, name_of, read, record, record_start, Recording};
 use crate::text::refusal_of_library;
-use kiqsaryn::{check_trace, fill_counts, join, read_file, Checked, JoinSettings, Joined, Part, Refusal, Settings, ROWS};
+use kiqsaryn::{check_trace, fill_counts, join, read_file, Checked, JoinSettings, Joined, Part, Refusal, Row, Settings, ROWS};
 
 /// An accepted trace with its happens-before counts: that of one recording, or the join of two.
 pub struct Trace {
@@ -138,6 +138,8 @@ pub struct TraceRefused {
     pub bytes: usize,
     pub stopped: bool,
     pub record: Vec<u8>,
+    /// The rows up to the first that cannot be read, where one of them is refused for its message; else none.
+    pub rows: Vec<Row>,
     /// Whether the trace starts with a byte order mark.
     pub mark: bool,
 }
@@ -163,13 +165,34 @@ struct Unasked<'a> {
     processes: u32,
 }
 
+/// Whether the refusal is about messages and their order.
+fn is_of_messages(refusal: Refusal) -> bool {
+    [Refusal::MessageOrder, Refusal::WaitOrder].contains(&refusal)
+}
+
 impl Unasked<'_> {
+    /// The rows up to the first that cannot be read; the order of messages is not asked.
+    fn readable(&self) -> Vec<Row> {
+        let header = self.input.header;
+        let mut rows = vec![0; ROWS as usize * 6];
+        let mut ask = |text: &[u8]| read_file(text, u32::from(header), ROWS, self.processes, &mut rows);
+        let n = match ask(&self.text) {
+            Checked::Accepted(n) => n,
+            Checked::Refused { place, .. } => match ask(self.text.get(..record_start(&self.text, header, place)).unwrap_or(&[])) {
+                Checked::Accepted(n) => n,
+                Checked::Refused { .. } => 0,
+            },
+        };
+        (0..n as usize).filter_map(|k| Row::at(&rows, k)).collect()
+    }
+
     fn recording(self, n: u32, rows: Vec<u32>) -> Recording {
         Recording { name: name_of(&self.input.source), text: self.text, header: self.input.header, n, rows }
     }
 
     fn refused(self, refusal: Refusal, place: u32) -> TraceRefused {
         let (header, limit) = (self.input.header, byte_limit(self.input.header));
+        let rows = if is_of_messages(refusal) { self.readable() } else { Vec::new() };
         TraceRefused {
             name: name_of(&self.input.source),
             which: self.which,
@@ -181,6 +204,7 @@ impl Unasked<'_> {
             bytes: self.text.len().min(limit),
             stopped: self.text.len() > limit,
             record: record(&self.text, header, place).to_vec(),
+            rows,
             mark: self.text.starts_with(b"\xef\xbb\xbf"),
         }
     }

@@ -2,10 +2,11 @@
 
 use crate::check::what_was_read_of_two;
 use crate::input::{row_of, short_names, JoinRefused, Refused, TraceRefused, Which};
+use crate::messages::{Around, Numbered};
 use crate::recording::{byte_limit, Recording};
-use crate::text::{counted, describe, escape, labelled};
+use crate::text::{counted, escape, labelled};
 use crate::turns::{turns, Own, Turns};
-use kiqsaryn::{Refusal, RECV, ROWS, SEND};
+use kiqsaryn::{Refusal, Row, ROWS, SEND};
 use std::collections::BTreeMap;
 
 /// The most bytes of a record that are shown.
@@ -49,6 +50,7 @@ fn trace_report(r: &TraceRefused) -> String {
     s.push_str(&format!("  read:        {}, header {}\n", counted(r.bytes as u64, "byte"), if r.header { "yes" } else { "no" }));
     s.push_str(&labelled("  answered No: ", r.refusal.question()));
     s.push_str(&format!("  the record:  {}\n", shown(r)));
+    s.push_str(&around(r).map_or(String::new(), |around| around.report()));
     for note in notes(r) {
         s.push_str(&labelled("  note:        ", &note));
     }
@@ -61,6 +63,16 @@ fn shown(r: &TraceRefused) -> String {
         (true, _) => "empty".to_string(),
         _ => escape(&r.record, SHOWN),
     }
+}
+
+/// The rows around one that is refused for its message.
+fn around(r: &TraceRefused) -> Option<Around> {
+    let at = (r.place as usize).checked_sub(1)?;
+    let row = *r.rows.get(at)?;
+    let numbered = |(row, number): (&Row, u32)| Numbered { number, own: String::new(), row: *row };
+    let before = r.rows.iter().zip(1..).take(at).map(numbered).collect();
+    let behind = r.rows.iter().zip(1..).skip(at + 1).map(|(row, number): (&Row, u32)| (format!("row {number}"), *row)).collect();
+    Some(Around { row, before, behind })
 }
 
 /// Facts about the record that help to repair it.
@@ -113,7 +125,7 @@ fn join_report(r: &JoinRefused) -> String {
     s
 }
 
-/// "row 3 of second.csv: 1,recv,,,,7".
+/// "row 3 of second.csv: 1,wait,,,,7".
 fn own_record(recordings: &[Recording; 2], own: &Own) -> String {
     let record = recordings.get(own.recording).map_or(&[][..], |r| r.record(own.number));
     format!("{}: {}", row_of(recordings, own.recording, own.number), escape(record, SHOWN))
@@ -144,7 +156,7 @@ fn in_both(recordings: &[Recording; 2]) -> String {
     s
 }
 
-/// 20: how many rows were taken, and of each trace the row that waits and its message, or that the trace is at its end.
+/// 20: how many rows were taken, and of each trace the next row, a wait, and its message, or that the trace is at its end.
 fn waiting(recordings: &[Recording; 2]) -> String {
     let (turns, names) = (turns(recordings, usize::MAX), short_names(recordings));
     let [first, second] = [0, 1].map(|k| {
@@ -174,10 +186,10 @@ fn waiting_row(recordings: &[Recording; 2], label: &str, own: &Own) -> String {
     s
 }
 
-/// 6 and 12: the record, where it comes from, and the rows before it with its message.
+/// 6, 12 and 21: the record, where it comes from, and the rows before it with its message.
 fn joined_row(r: &JoinRefused) -> String {
-    let Turns { taken, .. } = turns(&r.recordings, r.place as usize);
-    let Some((last, before)) = taken.split_last().filter(|_| taken.len() == r.place as usize) else {
+    let turns = turns(&r.recordings, r.place as usize);
+    let Some((last, before)) = turns.taken.split_last().filter(|_| turns.taken.len() == r.place as usize) else {
         return String::new();
     };
     let mut s = labelled("  the record:  ", &own_record(&r.recordings, last));
@@ -187,10 +199,17 @@ fn joined_row(r: &JoinRefused) -> String {
         s.push_str(&labelled("  note:        ", &format!("a trace has at most {ROWS} rows, and so has a join. {first}, {second}.")));
         return s;
     }
-    let talks = |o: &Own| [SEND, RECV].contains(&o.row.kind) && o.row.message == last.row.message;
-    for (own, number) in before.iter().zip(1..).filter(|(o, _)| talks(o)) {
-        let from = row_of(&r.recordings, own.recording, own.number);
-        s.push_str(&labelled("  before it:   ", &format!("row {number} ({from}): {}", describe(own.row))));
-    }
-    s
+    let name = |own: &Own| row_of(&r.recordings, own.recording, own.number);
+    let numbered = |(own, number): (&Own, u32)| Numbered { number, own: format!(" ({})", name(own)), row: own.row };
+    let before = before.iter().zip(1..).map(numbered).collect();
+    let behind = not_taken(&r.recordings, &turns).map(|own| (name(&own), own.row)).collect();
+    s + &Around { row: last.row, before, behind }.report()
+}
+
+/// The rows of both recordings that are not taken, those of the first first.
+fn not_taken<'a>(recordings: &'a [Recording; 2], turns: &'a Turns) -> impl Iterator<Item = Own> + 'a {
+    turns.next.iter().flatten().flat_map(|next| {
+        let rest = recordings[next.recording.min(1)].all().skip_while(|(number, _)| *number < next.number);
+        rest.map(|(number, row)| Own { recording: next.recording, number, row })
+    })
 }

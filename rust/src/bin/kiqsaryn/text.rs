@@ -1,6 +1,6 @@
 //! Rows and bytes in words.
 
-use kiqsaryn::{Refusal, Row, CLOSE, COMMIT, OPEN, READ, RECV, SEND, SYNC, WRITE};
+use kiqsaryn::{Refusal, Row, CLOSE, COMMIT, OPEN, READ, RECV, SEND, SYNC, WAIT, WRITE};
 use std::path::Path;
 
 /// Lines of a report are no wider, save for records shown as they stand.
@@ -50,7 +50,8 @@ pub fn describe(row: Row) -> String {
         CLOSE => format!("process {p} closes file {f}"),
         SYNC => format!("process {p} syncs file {f}"),
         SEND => format!("process {p} sends message {}", row.message),
-        RECV => format!("process {p} receives message {}", row.message),
+        RECV => format!("process {p} posts a receive for message {}", row.message),
+        WAIT => format!("process {p} waits for message {}", row.message),
         _ => format!("process {p}"),
     }
 }

@@ -1,10 +1,11 @@
 //! An explanation in words.
 
 use crate::explain::{publishing, refreshing, Claim, Explanation, Rows};
+use crate::posted::Posted;
 use kiqsaryn::{Model, Row, KINDS, READ, SEND};
 
 /// The bytes that both rows touch, and the sentences of an explanation, each behind its label: what the pair would need to be in order,
-/// what is found of it, what is missing, and how far the order reaches.
+/// what is found of it, what is missing, which receives are posted and not waited for in time, and how far the order reaches.
 pub struct Words {
     pub shared: String,
     pub lines: Vec<(&'static str, String)>,
@@ -57,8 +58,19 @@ fn not_before(from: u32, to: u32, rows: &Rows, name: &mut Naming) -> Option<Stri
         return Some(format!("{no}: it stands behind it in the trace."));
     }
     let (p, q) = (rows.row(from)?.process, rows.row(to)?.process);
-    let path = format!("no message that process {p} sends after {} reaches process {q} before {}", name(from), name(to));
+    let path = format!("no message that process {p} sends after {} reaches a wait of process {q} before {}", name(from), name(to));
     Some(format!("{no}: {path}, directly or through other processes."))
+}
+
+/// That a receive is posted and not waited for in time.
+fn posted_only(posted: Posted, wait: Option<u32>, rows: &Rows, name: &mut Naming) -> Option<String> {
+    let Row { process, message, .. } = rows.row(posted.recv)?;
+    let receive = format!("{} posts a receive for message {message}, which {} sends", name(posted.recv), name(posted.send));
+    let late = match wait {
+        None => format!("no row of process {process} before {} waits for it", name(posted.before)),
+        Some(wait) => format!("process {process} waits for it only at {}, behind {}", name(wait), name(posted.before)),
+    };
+    Some(format!("{receive}, and {late}: a posted receive gives no order by itself."))
 }
 
 /// A claim as a sentence.
@@ -83,6 +95,7 @@ fn sentence(claim: &Claim, e: &Explanation, rows: &Rows, name: &mut Naming) -> O
             ("Found", format!("process {process}'s last {refresh} of file {f} before {before} is {row}{kind}."))
         }
         Claim::NotBefore { from, to } => ("Missing", not_before(from, to, rows, name)?),
+        Claim::PostedOnly { posted, wait } => ("Posted", posted_only(posted, wait, rows, name)?),
         Claim::LastBefore { process, row, last: None } => ("Order", format!("no row of process {process} happens before {}.", name(row))),
         Claim::LastBefore { process, row, last: Some(last) } => {
             let r = rows.row(last)?;
