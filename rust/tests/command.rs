@@ -4,7 +4,7 @@
 #![allow(dead_code)]
 
 use kiqsaryn::{check_trace, fill_counts, report, verdict, Checked, Model, Row, Settings, Verdict};
-use kiqsaryn::{CLOSE, COMMIT, OPEN, READ, RECV, SEND, SYNC, WRITE};
+use kiqsaryn::{CLOSE, COMMIT, OPEN, READ, RECV, SEND, SYNC, WAIT, WRITE};
 use std::io::Write;
 use std::path::PathBuf;
 use std::process::{Command, Stdio};
@@ -15,6 +15,8 @@ mod args;
 mod explain;
 #[path = "../src/bin/kiqsaryn/input.rs"]
 mod input;
+#[path = "../src/bin/kiqsaryn/posted.rs"]
+mod posted;
 #[path = "../src/bin/kiqsaryn/recording.rs"]
 mod recording;
 #[path = "../src/bin/kiqsaryn/replay.rs"]
@@ -28,7 +30,8 @@ mod text;
 mod words;
 
 use explain::{explain, Claim, Explanation, Rows};
-use running::picture::well_formed;
+use posted::Posted;
+use running::picture::{nothing_overlaps, row_boxes, well_formed};
 use running::{err, example_traces, examples, feed, out, run, status, words_of, EXE};
 
 const NAMES: &str = "process,kind,file,offset,length,message\r\n";
@@ -156,7 +159,7 @@ fn the_header_word_decides() {
     let rows = &text[NAMES.len()..];
     let o = run(&["check", "-", "--header", "no"], rows);
     assert_eq!(status(&o), 1);
-    assert!(out(&o).contains("  header: no (the first record is row 1)\n  5 rows\n  first row: 0,write,1,0,10,\n"), "{}", out(&o));
+    assert!(out(&o).contains("  header: no (the first record is row 1)\n  6 rows\n  first row: 0,write,1,0,10,\n"), "{}", out(&o));
     let o = run(&["check", "-", "--header", "no"], &text);
     assert_eq!(status(&o), 2);
     assert!(out(&o).contains("Refused: number 8, at row 1."), "{}", out(&o));
@@ -190,7 +193,7 @@ fn standard_input_and_one_model() {
         assert!(out(&o).starts_with("Trace: standard input\n"), "{model}");
     }
     let o = run(&["check", "--model", "session", "--csv", "--header", "yes", "-"], &text);
-    assert_eq!(out(&o), "model,verdict,earlier,later\r\nsession,race,1,5\r\n");
+    assert_eq!(out(&o), "model,verdict,earlier,later\r\nsession,race,1,6\r\n");
     let o = run(&["check", "-", "--header", "no", "--csv"], b"");
     assert_eq!(out(&o), "model,verdict,earlier,later\r\nposix,free,,\r\ncommit,free,,\r\nsession,free,,\r\nmpiio,free,,\r\n");
 }
@@ -208,6 +211,7 @@ fn refusals_name_number_place_question_and_record() {
         ("no", b"64,write,1,0,10,\r\n", &["number 10, at row 1", "process is 0 to 63 (--processes 64)"]),
         ("no", b"0,write,1,4294967295,1,", &["number 11, at row 1", "Is offset + length at most 4,294,967,295?"]),
         ("no", b"0,send,,,,1\r\n0,recv,,,,1\r\n", &["number 12, at row 2", "0,recv,,,,1\n"]),
+        ("no", b"0,send,,,,1\r\n1,wait,,,,1\r\n", &["number 21, at row 2", "Was the wait's message posted earlier", "1,wait,,,,1\n"]),
     ];
     for (header, input, parts) in cases {
         for command in [&["check"][..], &["replay", "--file", "1", "--model", "commit"], &["diagram"], &["write"]] {
@@ -261,10 +265,16 @@ fn the_longest_acceptable_trace_is_read_whole_and_one_byte_more_is_not() {
 fn no_acceptable_record_is_longer() {
     let quoted = |fields: [&str; 6]| fields.map(|f| format!("\"{f}\"")).join(",") + "\r\n";
     let longest = quoted(["63", "write", "63", "2147483647", "2147483648", ""]).len();
-    for fields in [["63", "commit", "63", "", "", ""], ["63", "close", "63", "", "", ""], ["63", "send", "", "", "", "65535"]] {
+    for (before, fields) in [
+        ("", ["63", "commit", "63", "", "", ""]),
+        ("", ["63", "close", "63", "", "", ""]),
+        ("", ["63", "send", "", "", "", "65535"]),
+        ("", ["63", "recv", "", "", "", "65535"]),
+        ("0,send,,,,65535\r\n63,recv,,,,65535\r\n", ["63", "wait", "", "", "", "65535"]),
+    ] {
         let record = quoted(fields);
         assert!(record.len() <= longest);
-        let o = run(&["check", "-", "--header", "no"], record.as_bytes());
+        let o = run(&["check", "-", "--header", "no"], (before.to_string() + &record).as_bytes());
         assert_eq!(status(&o), 0, "{record}");
     }
 }
@@ -329,40 +339,104 @@ impl Dice {
     }
 }
 
-/// Rows that pass every question: messages go once, from one process to another. Some hand a file over from one process to the next, with
-/// or without one of the rows that this takes.
+/// Who sends a message, who posts its receive, and whether that process has waited for it.
+#[derive(Default)]
+struct Message {
+    sender: Option<u32>,
+    poster: Option<u32>,
+    waited: bool,
+}
+
+/// The messages of a trace, each under its number.
+#[derive(Default)]
+struct Messages(Vec<Message>);
+
+impl Messages {
+    /// The number of the last that fits, and the message itself.
+    fn last(&mut self, fits: impl Fn(&Message) -> bool) -> Option<(u32, &mut Message)> {
+        self.0.iter_mut().enumerate().rev().find(|(_, m)| fits(m)).map(|(number, m)| (number as u32, m))
+    }
+
+    /// The number of one more.
+    fn one_more(&mut self, message: Message) -> u32 {
+        self.0.push(message);
+        self.0.len() as u32 - 1
+    }
+
+    /// The message of a process's send: one whose receive another has posted, or one more.
+    fn send(&mut self, process: u32) -> u32 {
+        if let Some((number, m)) = self.last(|m| m.sender.is_none() && m.poster != Some(process)) {
+            m.sender = Some(process);
+            return number;
+        }
+        self.one_more(Message { sender: Some(process), ..Message::default() })
+    }
+
+    /// The message of a recv: one that another process has sent, or, where it may stand before its send, one more.
+    fn post(&mut self, process: u32, before_send: bool) -> Option<u32> {
+        if let Some((number, m)) = self.last(|m| m.poster.is_none() && m.sender != Some(process)) {
+            m.poster = Some(process);
+            return Some(number);
+        }
+        before_send.then(|| self.one_more(Message { poster: Some(process), ..Message::default() }))
+    }
+
+    /// The message of a wait: one that is sent, and whose receive the process has posted.
+    fn wait(&mut self, process: u32) -> Option<u32> {
+        let (number, m) = self.last(|m| m.sender.is_some() && m.poster == Some(process) && !m.waited)?;
+        m.waited = true;
+        Some(number)
+    }
+}
+
+/// The kinds of one row, each as often as its share.
+const KINDS: [u32; 16] = [READ, READ, READ, READ, WRITE, WRITE, WRITE, WRITE, COMMIT, OPEN, CLOSE, SYNC, SEND, RECV, WAIT, WAIT];
+
+/// Any row of any process, if it has a message for it.
+fn any_row(dice: &mut Dice, messages: &mut Messages, processes: u64, file: u32) -> Option<Row> {
+    let (process, kind) = (dice.below(processes), dice.of(&KINDS));
+    let row = Row { process, kind, ..Row::default() };
+    let with = |message: u32| Row { message, ..row };
+    match kind {
+        SEND => Some(with(messages.send(process))),
+        RECV => messages.post(process, dice.below(2) == 0).map(with),
+        WAIT => messages.wait(process).map(with),
+        READ | WRITE => Some(Row { file, offset: dice.below(6), length: dice.of(&[0, 1, 2, 3, 3, 4, 5]), ..row }),
+        _ => Some(Row { file, ..row }),
+    }
+}
+
+/// The rows that hand a file over from one process to the next, some of them left out now and then. The receive is posted before the send or behind
+/// it.
+fn hand_over(dice: &mut Dice, messages: &mut Messages, processes: u64, file: u32) -> Vec<Row> {
+    let process = dice.below(processes);
+    let next = (process + 1 + dice.below(processes - 1)) % processes as u32;
+    let message = messages.0.len() as u32;
+    let of_file = |process: u32, kind: u32| Row { process, kind, file, ..Row::default() };
+    let of_message = |process: u32, kind: u32| Row { process, kind, message, ..Row::default() };
+    let (publish, refresh) = (dice.of(&[COMMIT, CLOSE, SYNC]), dice.of(&[OPEN, OPEN, SYNC]));
+    let mut rows = vec![of_file(process, publish), of_message(process, SEND), of_message(next, WAIT), of_file(next, refresh)];
+    rows.insert(dice.below(3) as usize, of_message(next, RECV));
+    rows.retain(|r| dice.below(if r.kind == WAIT { 2 } else { 8 }) > 0);
+    let [sends, posts, waits] = [SEND, RECV, WAIT].map(|kind| rows.iter().any(|r| r.kind == kind));
+    let waited = waits && sends && posts;
+    rows.retain(|r| r.kind != WAIT || waited);
+    messages.0.push(Message { sender: sends.then_some(process), poster: posts.then_some(next), waited });
+    rows
+}
+
+/// Rows that pass every question: messages go once, from one process to another.
 fn random_rows(dice: &mut Dice, most: u64, processes: u64) -> Vec<Row> {
     let mut rows: Vec<Row> = Vec::new();
-    let mut open: Vec<(u32, u32)> = Vec::new();
-    let mut sent = 0;
+    let mut messages = Messages::default();
     let n = if dice.below(2) == 0 { most as usize } else { dice.below(most + 1) as usize };
     let files = 1 + u64::from(dice.below(2));
     while rows.len() < n {
-        let (process, file) = (dice.below(processes), dice.below(files));
-        let (next, hands_over) = (dice.below(processes), dice.below(3) == 0);
-        let kinds = if hands_over {
-            vec![(process, dice.of(&[COMMIT, CLOSE, SYNC])), (process, SEND), (next, RECV), (next, dice.of(&[OPEN, OPEN, SYNC]))]
+        let file = dice.below(files);
+        if dice.below(4) == 0 {
+            rows.extend(hand_over(dice, &mut messages, processes, file));
         } else {
-            vec![(process, dice.of(&[READ, READ, READ, WRITE, WRITE, WRITE, READ, WRITE, COMMIT, OPEN, CLOSE, SYNC, SEND, RECV, RECV]))]
-        };
-        for (process, kind) in kinds {
-            if hands_over && dice.below(8) == 0 {
-                continue;
-            }
-            let row = Row { process, file, kind, ..Row::default() };
-            rows.push(match kind {
-                READ | WRITE => Row { offset: dice.below(6), length: dice.of(&[0, 1, 2, 3, 3, 4, 5]), ..row },
-                SEND => {
-                    sent += 1;
-                    open.push((sent, process));
-                    Row { file: 0, message: sent, ..row }
-                }
-                RECV => match open.iter().rposition(|(_, p)| *p != process) {
-                    Some(at) => Row { file: 0, message: open.remove(at).0, ..row },
-                    None => continue,
-                },
-                _ => row,
-            });
+            rows.extend(any_row(dice, &mut messages, processes, file));
         }
     }
     rows.truncate(n);
@@ -375,7 +449,7 @@ fn csv_of(rows: &[Row]) -> String {
         let kind = kiqsaryn::KINDS[r.kind as usize];
         s.push_str(&match r.kind {
             READ | WRITE => format!("{},{kind},{},{},{},\r\n", r.process, r.file, r.offset, r.length),
-            SEND | RECV => format!("{},{kind},,,,{}\r\n", r.process, r.message),
+            SEND | RECV | WAIT => format!("{},{kind},,,,{}\r\n", r.process, r.message),
             _ => format!("{},{kind},{},,,\r\n", r.process, r.file),
         });
     }
@@ -467,7 +541,7 @@ fn closure(rows: &[Row]) -> Vec<Vec<bool>> {
     for j in 1..=n {
         for i in 1..j {
             let (a, b) = (rows[i - 1], rows[j - 1]);
-            hb[i][j] = a.process == b.process || (a.kind == SEND && b.kind == RECV && a.message == b.message);
+            hb[i][j] = a.process == b.process || (a.kind == SEND && b.kind == WAIT && a.message == b.message);
         }
     }
     for k in 1..=n {
@@ -581,8 +655,9 @@ impl Naive {
                 process == y.process && before == e.later && self.refreshed(e.model, e.file, process, before).last() == Some(&row)
             }
             Claim::NotBefore { from, to } => {
-                !self.before(from, to) && self.row(from).process != self.row(to).process && !self.reaches(from, to)
+                !self.before(from, to) && self.row(from).process != self.row(to).process && !reaches(&self.rows, from, to)
             }
+            Claim::PostedOnly { posted, wait } => self.is_posted_only(posted, wait),
             Claim::LastBefore { process, row, last } => {
                 let known = self.numbers().rev().find(|k| self.row(*k).process == process && self.before(*k, row));
                 known == last && self.row(row).process != process && last.is_none_or(|k| self.row(k).kind == SEND)
@@ -590,21 +665,67 @@ impl Naive {
         }
     }
 
-    /// Whether a message that the one row's process sends after it reaches the other row's process before that row, directly or through
-    /// other processes: the processes that have it, row by row.
-    fn reaches(&self, from: u32, to: u32) -> bool {
-        let mut has = vec![self.row(from).process];
-        let mut carried = Vec::new();
-        for k in from + 1..to {
-            let r = self.row(k);
-            if r.kind == SEND && has.contains(&r.process) {
-                carried.push(r.message);
-            }
-            if r.kind == RECV && carried.contains(&r.message) {
-                has.push(r.process);
+    /// Whether a receive is posted and its message sent before a row of the poster, who waits for it at this row behind, or never.
+    fn is_posted_only(&self, posted: Posted, wait: Option<u32>) -> bool {
+        let (recv, send, before) = (self.row(posted.recv), self.row(posted.send), self.row(posted.before));
+        let waits = |k: &u32| self.row(*k).kind == WAIT && self.row(*k).message == recv.message;
+        (recv.kind, send.kind, send.message, before.process) == (RECV, SEND, recv.message, recv.process)
+            && posted.recv.max(posted.send) < posted.before
+            && self.numbers().find(waits) == wait
+            && wait.is_none_or(|k| k > posted.before && self.row(k).process == recv.process)
+    }
+
+    /// The rows with a wait for each of these receives put before its row, in the place of one behind; and for each old number the new one.
+    fn mended(&self, posted: &[Posted]) -> (Vec<Row>, Vec<u32>) {
+        let (mut rows, mut numbers) = (Vec::new(), vec![0]);
+        for k in self.numbers() {
+            let waits = posted.iter().filter(|p| p.before == k).map(|p| Row { kind: WAIT, ..self.row(p.recv) });
+            rows.extend(waits);
+            let row = self.row(k);
+            let moved = row.kind == WAIT && posted.iter().any(|p| self.row(p.recv).message == row.message);
+            rows.extend((!moved).then_some(row));
+            numbers.push(rows.len() as u32);
+        }
+        (rows, numbers)
+    }
+
+    /// Whether the one row would come before the other with waits for these receives in time.
+    fn would_reach(&self, posted: &[Posted], from: u32, to: u32) -> bool {
+        let (rows, numbers) = self.mended(posted);
+        read_rows(&csv_of(&rows), 3);
+        reaches(&rows, numbers[from as usize], numbers[to as usize])
+    }
+
+    /// Every receive whose message is sent, and the first row behind both.
+    fn all_posted(&self) -> Vec<Posted> {
+        let of = |kind: u32| self.numbers().filter(move |k| self.row(*k).kind == kind);
+        let pairs = of(RECV).flat_map(|recv| of(SEND).map(move |send| (recv, send)));
+        let pairs = pairs.filter(|(recv, send)| self.row(*recv).message == self.row(*send).message);
+        pairs.map(|(recv, send)| Posted { recv, send, before: recv.max(send) + 1 }).collect()
+    }
+
+    /// Fails unless waits for the receives that are claimed to be posted only would bring the order, each of them is needed, and where none is claimed
+    /// no waits would. How many are claimed.
+    fn tries_waits(&self, e: &Explanation) -> usize {
+        let (mut from, mut to, mut posted) = (e.earlier, e.later, Vec::new());
+        for claim in &e.claims {
+            match *claim {
+                Claim::FirstPublish { row, .. } => from = row,
+                Claim::LastBefore { row, .. } => to = row,
+                Claim::PostedOnly { posted: one, .. } => posted.push(one),
+                _ => {}
             }
         }
-        from < to && has.contains(&self.row(to).process)
+        if posted.is_empty() {
+            assert!(self.before(from, to) || from > to || !self.would_reach(&self.all_posted(), from, to), "{e:?}");
+            return 0;
+        }
+        assert!(!self.before(from, to) && self.would_reach(&posted, from, to), "{e:?}");
+        for k in 0..posted.len() {
+            let rest = [&posted[..k], &posted[k + 1..]].concat();
+            assert!(!self.would_reach(&rest, from, to), "{e:?} without {:?}", posted[k]);
+        }
+        posted.len()
     }
 
     /// Whether the claims leave no chain: a side of it has no row, or its best rows are not in order.
@@ -626,6 +747,24 @@ impl Naive {
     }
 }
 
+/// Whether a message that the one row's process sends after it reaches a wait of the other row's process before that row, directly or through other
+/// processes: the processes that have it, row by row.
+fn reaches(rows: &[Row], from: u32, to: u32) -> bool {
+    let row = |k: u32| rows[k as usize - 1];
+    let mut has = vec![row(from).process];
+    let mut carried = Vec::new();
+    for k in from + 1..to {
+        let r = row(k);
+        if r.kind == SEND && has.contains(&r.process) {
+            carried.push(r.message);
+        }
+        if r.kind == WAIT && carried.contains(&r.message) {
+            has.push(r.process);
+        }
+    }
+    from < to && has.contains(&row(to).process)
+}
+
 /// The rows as the library reads them, with their counts.
 fn read_rows(text: &str, processes: u32) -> (Vec<u32>, u32, Vec<u16>) {
     let mut rows = vec![0; 64 * 6];
@@ -638,96 +777,167 @@ fn read_rows(text: &str, processes: u32) -> (Vec<u32>, u32, Vec<u16>) {
     (rows, n, counts)
 }
 
+/// What random traces came to: races, conflicting pairs in order, verdicts with a race, claims of each kind, and explanations by the number of receives
+/// that they claim to be posted only.
+#[derive(Default, Debug)]
+struct Seen {
+    races: u32,
+    in_order: u32,
+    racing: u32,
+    claims: [u32; 7],
+    posted: [u32; 4],
+}
+
+fn place_of(claim: &Claim) -> usize {
+    match claim {
+        Claim::NoPublish { .. } => 0,
+        Claim::FirstPublish { .. } => 1,
+        Claim::NoRefresh { .. } => 2,
+        Claim::LastRefresh { .. } => 3,
+        Claim::NotBefore { .. } => 4,
+        Claim::LastBefore { .. } => 5,
+        Claim::PostedOnly { .. } => 6,
+    }
+}
+
+/// Fails unless two rows have an explanation exactly where they race, and all of it holds.
+fn compare_pair(naive: &Naive, given: &Rows, model: Model, (earlier, later): (u32, u32), seen: &mut Seen) {
+    let (x, y) = (naive.row(earlier), naive.row(later));
+    let e = explain(given, model, earlier, later);
+    let text = || csv_of(&naive.rows);
+    assert_eq!(e.is_some(), conflict(x, y) && !naive.synchronized(model, earlier, later), "{model:?}, {earlier}, {later}: {}", text());
+    let Some(e) = e else {
+        seen.in_order += u32::from(conflict(x, y));
+        return;
+    };
+    let bytes = common_bytes(x, y);
+    assert_eq!((Some(&e.shared.0), Some(&e.shared.1)), (bytes.first(), bytes.last()));
+    assert_eq!((e.model, e.file, e.earlier, e.later), (model, x.file, earlier, later));
+    for claim in &e.claims {
+        assert!(naive.holds(&e, claim), "{claim:?} of {e:?}: {}", text());
+        seen.claims[place_of(claim)] += 1;
+    }
+    assert!(naive.settles(&e), "{e:?}: {}", text());
+    seen.posted[naive.tries_waits(&e).min(3)] += 1;
+    let w = words::words(&e, given, &mut |k| format!("row {k}")).expect("words");
+    assert_eq!(w.lines.len(), e.claims.len() + 1);
+    seen.races += 1;
+}
+
 #[test]
 fn every_claim_of_every_explanation_holds() {
     let mut dice = Dice(99_991);
-    let (mut races, mut in_order, mut racing_traces) = (0, 0, 0);
-    let mut kinds = [0; 6];
-    for k in 0..3_000 {
-        let most = 4 + u64::from(dice.below(22));
+    let mut seen = Seen::default();
+    for _ in 0..6_000 {
+        let most = 6 + u64::from(dice.below(30));
         let rows = random_rows(&mut dice, most, 3);
-        let text = csv_of(&rows);
-        let (numbers, n, counts) = read_rows(&text, 3);
+        let (numbers, n, counts) = read_rows(&csv_of(&rows), 3);
         let given = Rows { rows: &numbers, n, processes: 3, counts: &counts };
         let naive = Naive { hb: closure(&rows), rows };
         for model in Model::ALL {
             let mut scratch = vec![0; counts.len()];
             let judged = verdict(&numbers, n, 3, model.number(), &mut scratch);
-            assert_eq!(judged, naive.first_race(model), "trace {k}: {text}");
-            racing_traces += u32::from(judged != Verdict::Free);
+            assert_eq!(judged, naive.first_race(model), "{}", csv_of(&naive.rows));
+            seen.racing += u32::from(judged != Verdict::Free);
             for later in 1..=n {
-                for earlier in 1..later {
-                    let racing = conflict(naive.row(earlier), naive.row(later)) && !naive.synchronized(model, earlier, later);
-                    let e = explain(&given, model, earlier, later);
-                    assert_eq!(e.is_some(), racing, "trace {k}, {model:?}, rows {earlier} and {later}: {text}");
-                    let Some(e) = e else {
-                        in_order += u32::from(conflict(naive.row(earlier), naive.row(later)));
-                        continue;
-                    };
-                    let bytes = common_bytes(naive.row(earlier), naive.row(later));
-                    assert_eq!((Some(&e.shared.0), Some(&e.shared.1)), (bytes.first(), bytes.last()));
-                    assert_eq!((e.model, e.file, e.earlier, e.later), (model, naive.row(earlier).file, earlier, later));
-                    for claim in &e.claims {
-                        assert!(naive.holds(&e, claim), "trace {k}: {claim:?} of {e:?}: {text}");
-                        kinds[match claim {
-                            Claim::NoPublish { .. } => 0,
-                            Claim::FirstPublish { .. } => 1,
-                            Claim::NoRefresh { .. } => 2,
-                            Claim::LastRefresh { .. } => 3,
-                            Claim::NotBefore { .. } => 4,
-                            Claim::LastBefore { .. } => 5,
-                        }] += 1;
-                    }
-                    assert!(naive.settles(&e), "trace {k}: {e:?}: {text}");
-                    let w = words::words(&e, &given, &mut |k| format!("row {k}")).expect("words");
-                    assert_eq!(w.lines.len(), e.claims.len() + 1);
-                    races += 1;
-                }
+                (1..later).for_each(|earlier| compare_pair(&naive, &given, model, (earlier, later), &mut seen));
             }
         }
     }
-    let enough = races > 5_000 && in_order > 500 && racing_traces > 1_000 && kinds.iter().all(|n| *n > 300);
-    assert!(enough, "{races}, {in_order}, {racing_traces}, {kinds:?}");
+    let enough = seen.races > 5_000 && seen.in_order > 500 && seen.racing > 1_000 && seen.claims.iter().all(|n| *n > 300);
+    assert!(enough && seen.posted[1] > 1_000 && seen.posted[2] > 20, "{seen:?}");
+}
+
+/// The bytes that two racing rows share, and the sentences on them.
+fn explained(text: &str, model: Model, earlier: u32, later: u32) -> (String, String) {
+    let (numbers, n, counts) = read_rows(text, 3);
+    let given = Rows { rows: &numbers, n, processes: 3, counts: &counts };
+    let e = explain(&given, model, earlier, later).expect("a race");
+    let w = words::words(&e, &given, &mut |k| format!("row {k}")).expect("words");
+    let lines: Vec<String> = w.lines.iter().map(|(label, line)| format!("{label}: {line}")).collect();
+    (w.shared, lines.join("\n"))
 }
 
 #[test]
 fn sentences() {
-    let rows = "0,write,1,0,10,\r\n0,send,,,,7\r\n0,sync,1,,,\r\n2,recv,,,,7\r\n\
+    let rows = "2,recv,,,,7\r\n0,write,1,0,10,\r\n0,send,,,,7\r\n0,sync,1,,,\r\n2,wait,,,,7\r\n\
                 2,open,1,,,\r\n2,read,1,9,10,\r\n1,write,1,0,1,\r\n0,commit,1,,,\r\n";
-    let (numbers, n, counts) = read_rows(rows, 3);
-    let given = Rows { rows: &numbers, n, processes: 3, counts: &counts };
-    let say = |model, earlier, later| {
-        let e = explain(&given, model, earlier, later).expect("a race");
-        let w = words::words(&e, &given, &mut |k| format!("row {k}")).expect("words");
-        let lines: Vec<String> = w.lines.iter().map(|(label, line)| format!("{label}: {line}")).collect();
-        (w.shared, lines.join("\n"))
-    };
-    let (shared, lines) = say(Model::Commit, 1, 6);
+    let (shared, lines) = explained(rows, Model::Commit, 2, 7);
     assert_eq!(shared, "byte 9 of file 1");
     assert_eq!(
         lines,
-        "Needed: process 0 commits file 1 after row 1, and that commit happens before row 6.\n\
-         Found: process 0's first commit of file 1 after row 1 is row 8.\n\
-         Missing: row 8 does not happen before row 6: it stands behind it in the trace.\n\
-         Order: the last row of process 0 that happens before row 6 is row 2 (send of message 7)."
+        "Needed: process 0 commits file 1 after row 2, and that commit happens before row 7.\n\
+         Found: process 0's first commit of file 1 after row 2 is row 9.\n\
+         Missing: row 9 does not happen before row 7: it stands behind it in the trace.\n\
+         Order: the last row of process 0 that happens before row 7 is row 3 (send of message 7)."
     );
     assert_eq!(
-        say(Model::MpiIo, 1, 6).1,
-        "Needed: process 0 closes or syncs file 1 after row 1, process 2 opens or syncs it before row 6, \
+        explained(rows, Model::MpiIo, 2, 7).1,
+        "Needed: process 0 closes or syncs file 1 after row 2, process 2 opens or syncs it before row 7, \
          and the first of these happens before the second.\n\
-         Found: process 0's first close or sync of file 1 after row 1 is row 3 (sync).\n\
-         Found: process 2's last open or sync of file 1 before row 6 is row 5 (open).\n\
-         Missing: row 3 does not happen before row 5: no message that process 0 sends after row 3 reaches process 2 \
-         before row 5, directly or through other processes.\n\
-         Order: the last row of process 0 that happens before row 5 is row 2 (send of message 7)."
+         Found: process 0's first close or sync of file 1 after row 2 is row 4 (sync).\n\
+         Found: process 2's last open or sync of file 1 before row 7 is row 6 (open).\n\
+         Missing: row 4 does not happen before row 6: no message that process 0 sends after row 4 reaches a wait of process 2 \
+         before row 6, directly or through other processes.\n\
+         Order: the last row of process 0 that happens before row 6 is row 3 (send of message 7)."
     );
     assert_eq!(
-        say(Model::Session, 1, 7).1,
-        "Needed: process 0 closes file 1 after row 1, process 1 opens it before row 7, and that close happens before that open.\n\
-         Missing: process 0 has no close of file 1 after row 1.\n\
-         Missing: process 1 has no open of file 1 before row 7.\n\
-         Order: no row of process 0 happens before row 7."
+        explained(rows, Model::Session, 2, 8).1,
+        "Needed: process 0 closes file 1 after row 2, process 1 opens it before row 8, and that close happens before that open.\n\
+         Missing: process 0 has no close of file 1 after row 2.\n\
+         Missing: process 1 has no open of file 1 before row 8.\n\
+         Order: no row of process 0 happens before row 8."
     );
+}
+
+/// The sentence on a receive that is posted and not waited for in time stands where a wait would bring the order, and else not.
+#[test]
+fn receives_that_are_only_posted_are_told() {
+    let missing = |from, process, to| {
+        format!(
+            "Missing: row {from} does not happen before row {to}: no message that process 0 sends after row {from} reaches a wait of \
+             process {process} before row {to}, directly or through other processes.\n"
+        )
+    };
+    // Nobody waits; the receive may be posted before the send.
+    for rows in [["0,send,,,,7\r\n", "1,recv,,,,7\r\n"], ["1,recv,,,,7\r\n", "0,send,,,,7\r\n"]] {
+        let text = ["0,write,1,0,10,\r\n", rows[0], rows[1], "1,read,1,5,10,\r\n"].concat();
+        let (recv, send) = if rows[0].contains("send") { (3, 2) } else { (2, 3) };
+        let told = format!(
+            "Needed: row 1 happens before row 4.\n{}Posted: row {recv} posts a receive for message 7, which row {send} sends, and no row \
+             of process 1 before row 4 waits for it: a posted receive gives no order by itself.\nOrder: no row of process 0 happens \
+             before row 4.",
+            missing(1, 1, 4)
+        );
+        assert_eq!(explained(&text, Model::Posix, 1, 4).1, told);
+    }
+    // The wait comes too late.
+    let late = "0,write,1,0,10,\r\n0,send,,,,7\r\n1,recv,,,,7\r\n1,read,1,5,10,\r\n1,wait,,,,7\r\n1,read,1,0,1,\r\n";
+    let told = "\nPosted: row 3 posts a receive for message 7, which row 2 sends, and process 1 waits for it only at row 5, behind row 4: \
+                a posted receive gives no order by itself.\n";
+    assert!(explained(late, Model::Posix, 1, 4).1.contains(told), "{}", explained(late, Model::Posix, 1, 4).1);
+    assert!(!explained(late, Model::Commit, 1, 6).1.contains("Posted:"));
+    // Two waits are missing, one of them of a process in between.
+    let chain = "0,write,1,0,10,\r\n0,send,,,,7\r\n2,recv,,,,7\r\n2,send,,,,8\r\n1,recv,,,,8\r\n1,read,1,5,10,\r\n";
+    let told = "Posted: row 3 posts a receive for message 7, which row 2 sends, and no row of process 2 before row 4 waits for it: \
+                a posted receive gives no order by itself.\n\
+                Posted: row 5 posts a receive for message 8, which row 4 sends, and no row of process 1 before row 6 waits for it: \
+                a posted receive gives no order by itself.\n";
+    assert!(explained(chain, Model::Posix, 1, 6).1.contains(told), "{}", explained(chain, Model::Posix, 1, 6).1);
+}
+
+/// No wait would help: the receive is posted behind the read, its message is sent behind it, or before the write.
+#[test]
+fn receives_that_no_wait_would_help_are_not_told() {
+    for rows in [
+        "0,write,1,0,10,\r\n0,send,,,,7\r\n1,read,1,5,10,\r\n1,recv,,,,7\r\n",
+        "1,recv,,,,7\r\n0,write,1,0,10,\r\n1,read,1,5,10,\r\n0,send,,,,7\r\n",
+        "0,send,,,,7\r\n0,write,1,0,10,\r\n1,recv,,,,7\r\n1,read,1,5,10,\r\n",
+    ] {
+        let number = |kind: &str| rows.lines().position(|line| line.contains(kind)).expect("a row") as u32 + 1;
+        let told = explained(rows, Model::Posix, number("write"), number("read")).1;
+        assert!(told.contains("Missing: ") && !told.contains("Posted:"), "{told}");
+    }
 }
 
 // ---- Replays
@@ -777,7 +987,7 @@ fn replays_count_stale_bytes() {
     let mut dice = Dice(31_337);
     let mut some = 0;
     for k in 0..1_000 {
-        let rows = random_rows(&mut dice, 24, 3);
+        let rows = random_rows(&mut dice, 30, 3);
         let text = csv_of(&rows);
         let (numbers, n, counts) = read_rows(&text, 3);
         let recording = recording::Recording { name: "x".into(), text: text.clone().into_bytes(), header: false, n, rows: numbers };
@@ -824,9 +1034,24 @@ fn a_picture_shows_every_row_and_message() {
         let o = run(&["diagram", "-", "--header", "no", "--model", "mpiio"], csv_of(&rows).as_bytes());
         let picture = out(&o);
         well_formed(&picture);
-        let arrows = rows.iter().filter(|r| r.kind == RECV).count();
-        assert_eq!(picture.matches("<path class=\"arrow\"").count(), arrows + 1, "messages and the legend's");
-        assert_eq!(picture.matches("<g><title>row ").count(), rows.len());
+        nothing_overlaps(&picture);
+        let boxes = row_boxes(&picture);
+        assert_eq!((boxes.len(), picture.matches("<g><title>row ").count()), (rows.len(), rows.len()));
+        let at = |kind: u32, message: u32| rows.iter().position(|r| r.kind == kind && r.message == message);
+        let waits = rows.iter().enumerate().filter(|(_, r)| r.kind == WAIT);
+        let arrows = waits.map(|(k, r)| boxes[at(SEND, r.message).expect("its send")].arrow_to(&boxes[k]));
+        let arrows: Vec<String> = arrows.map(|path| format!("<path class=\"arrow\" d=\"{path}\"/>")).collect();
+        assert!(arrows.iter().all(|arrow| picture.contains(arrow)), "{arrows:?} in {picture}");
+        assert_eq!(picture.matches("<path class=\"arrow\"").count(), arrows.len() + 1, "messages and the legend's");
+        for (r, b) in rows.iter().zip(&boxes).filter(|(r, _)| r.kind >= SEND) {
+            let lack = match r.kind {
+                RECV if at(SEND, r.message).is_none() => ", not sent",
+                _ if at(WAIT, r.message).is_none() => ", not waited for",
+                _ => "",
+            };
+            assert!(b.text.ends_with(&format!(" {} m{}{lack}", kiqsaryn::KINDS[r.kind as usize], r.message)), "{b:?}");
+            assert_eq!(b.class, if r.kind == RECV { "posted" } else { "message" }, "{b:?}");
+        }
         let mut processes: Vec<u32> = rows.iter().map(|r| r.process).collect();
         processes.sort();
         processes.dedup();
@@ -849,11 +1074,13 @@ fn a_picture_of_a_strange_name_is_well_formed() {
 /// A full trace of 4,096 rows and 64 processes goes through every command.
 #[test]
 fn a_full_trace() {
-    let mut text = String::new();
-    for k in 0..1024 {
+    let mut text = "0,sync,1,,,\r\n".to_string();
+    for k in 0..819 {
         let (p, q) = (k % 64, (k + 1) % 64);
-        text.push_str(&format!("{p},write,1,{},90,\r\n{p},commit,1,,,\r\n{p},send,,,,{k}\r\n{q},recv,,,,{k}\r\n", p * 100));
+        text.push_str(&format!("{q},recv,,,,{k}\r\n{p},write,1,{},90,\r\n{p},commit,1,,,\r\n", p * 100));
+        text.push_str(&format!("{p},send,,,,{k}\r\n{q},wait,,,,{k}\r\n"));
     }
+    assert_eq!(text.lines().count(), 4096);
     for (args, expected) in [
         (&["check", "--model", "commit"][..], 0),
         (&["check"], 0),

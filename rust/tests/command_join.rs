@@ -16,8 +16,9 @@ use std::process::{Command, Output, Stdio};
 const NAMES: &str = "process,kind,file,offset,length,message\r\n";
 
 /// The traces of two controllers: the first with a header, the second without.
-const LEFT: &str = "process,kind,file,offset,length,message\r\n\"0\",write,1,0,10,\r\n0,send,,,,7\r\n0,recv,,,,8\r\n0,read,1,20,5,\"\"\r\n";
-const RIGHT: &str = "1,recv,,,,\"7\"\r\n1,read,1,5,10,\r\n1,write,1,20,5,\r\n1,commit,1,,,\r\n1,send,,,,8";
+const LEFT: &str = "process,kind,file,offset,length,message\r\n\"0\",write,1,0,10,\r\n0,send,,,,7\r\n0,recv,,,,8\r\n0,wait,,,,8\r\n\
+                    0,read,1,20,5,\"\"\r\n";
+const RIGHT: &str = "1,recv,,,,\"7\"\r\n1,wait,,,,7\r\n1,read,1,5,10,\r\n1,write,1,20,5,\r\n1,commit,1,,,\r\n1,send,,,,8";
 fn left_and_right(name: &str) -> Pair {
     Pair::new(name, LEFT.as_bytes(), RIGHT.as_bytes())
 }
@@ -61,12 +62,12 @@ fn the_examples_are_joined_as_stands_beside_them() {
 /// Neither trace of the example is accepted alone, and their race is of a row of each.
 #[test]
 fn the_race_of_the_example_is_in_neither_trace_alone() {
-    for (name, header, refused) in [("join/left.csv", "yes", "refused,12,4\r\n"), ("join/right.csv", "no", "refused,12,1\r\n")] {
+    for (name, header, refused) in [("join/left.csv", "yes", "refused,21,5\r\n"), ("join/right.csv", "no", "refused,21,2\r\n")] {
         let o = run(&["check", name, "--header", header, "--csv"], b"");
         assert_eq!((out(&o).as_str(), status(&o)), (refused, 2), "{name}");
     }
     let o = run(&["check", "join/left.csv", "join/right.csv", "--headers", "yes,no", "--csv", "--model", "commit"], b"");
-    assert_eq!(out(&o), "model,verdict,earlier,later\r\ncommit,race,1,5\r\n");
+    assert_eq!(out(&o), "model,verdict,earlier,later\r\ncommit,race,1,7\r\n");
 }
 
 // ---- The command line
@@ -159,28 +160,28 @@ fn each_trace_is_told_and_then_the_join() {
         let o = pair.run(command, "yes,no", &["--model", "commit"]);
         assert_eq!((status(&o), err(&o)), (1, String::new()), "{command}");
         let want = [
-            "First trace: a.csv\n\nRead, to hold against the recorder:\n  104 bytes\n  header: yes (the first record is no row)\n  4 rows\n",
+            "First trace: a.csv\n\nRead, to hold against the recorder:\n  117 bytes\n  header: yes (the first record is no row)\n  5 rows\n",
             "  first row: \"0\",write,1,0,10,\n             process 0 writes bytes 0 to 9 of file 1\n",
             "  last row: 0,read,1,20,5,\"\"\n            process 0 reads bytes 20 to 24 of file 1\n",
-            "  process 0: 4 rows\n  file 1: 2 rows\n  send and recv, of no file: 2 rows\n",
-            "\nSecond trace: b.csv\n\nRead, to hold against the recorder:\n  74 bytes\n  header: no (the first record is row 1)\n  5 rows\n",
-            "  first row: 1,recv,,,,\"7\"\n             process 1 receives message 7\n",
+            "  process 0: 5 rows\n  file 1: 2 rows\n  send, recv and wait, of no file: 3 rows\n",
+            "\nSecond trace: b.csv\n\nRead, to hold against the recorder:\n  87 bytes\n  header: no (the first record is row 1)\n  6 rows\n",
+            "  first row: 1,recv,,,,\"7\"\n             process 1 posts a receive for message 7\n",
             "  last row: 1,send,,,,8\n            process 1 sends message 8\n",
-            "  process 1: 5 rows\n  file 1: 3 rows\n  send and recv, of no file: 2 rows\n",
-            "\nJoined: 9 rows, 4 of a.csv and 5 of b.csv\n",
-            "\nVerdicts:\n  commit   race, row 1 (row 1 of a.csv) and row 4 (row 2 of b.csv)\n",
-            "\nRace of row 1 and row 4 under commit\n",
+            "  process 1: 6 rows\n  file 1: 3 rows\n  send, recv and wait, of no file: 3 rows\n",
+            "\nJoined: 11 rows, 5 of a.csv and 6 of b.csv\n",
+            "\nVerdicts:\n  commit   race, row 1 (row 1 of a.csv) and row 6 (row 3 of b.csv)\n",
+            "\nRace of row 1 and row 6 under commit\n",
             "  row 1: \"0\",write,1,0,10,\n         process 0 writes bytes 0 to 9 of file 1\n         row 1 of a.csv\n",
-            "  row 4: 1,read,1,5,10,\n         process 1 reads bytes 5 to 14 of file 1\n         row 2 of b.csv\n",
+            "  row 6: 1,read,1,5,10,\n         process 1 reads bytes 5 to 14 of file 1\n         row 3 of b.csv\n",
             "  shared: bytes 5 to 9 of file 1 (5 bytes)\n  commit:\n",
-            "    Needed:  process 0 commits file 1 after row 1, and that commit happens\n             before row 4.\n",
+            "    Needed:  process 0 commits file 1 after row 1, and that commit happens\n             before row 6.\n",
             "    Missing: process 0 has no commit of file 1 after row 1.\n",
-            "    Order:   the last row of process 0 that happens before row 4 is row 2 (row\n             2 of a.csv) (send of message 7).\n",
+            "    Order:   the last row of process 0 that happens before row 6 is row 2 (row\n             2 of a.csv) (send of message 7).\n",
             "\nThis is the first race; there may be more. After a repair, check again.\n",
         ];
         assert_eq!(out(&o), want.concat(), "{command}");
     }
-    let csv = "model,verdict,earlier,later\r\nposix,free,,\r\ncommit,race,1,4\r\nsession,race,1,4\r\nmpiio,race,1,4\r\n";
+    let csv = "model,verdict,earlier,later\r\nposix,free,,\r\ncommit,race,1,6\r\nsession,race,1,6\r\nmpiio,race,1,6\r\n";
     for command in ["join", "check"] {
         let o = pair.run(command, "yes,no", &["--csv"]);
         assert_eq!((out(&o).as_str(), status(&o)), (csv, 1), "{command}");
@@ -194,7 +195,7 @@ fn each_trace_is_told_and_then_the_join() {
 fn the_second_trace_may_be_named_first() {
     let pair = left_and_right("swapped");
     let o = pair.feed(&["check", "b.csv", "a.csv", "--headers", "no,yes", "--csv"], b"");
-    assert_eq!(out(&o), "model,verdict,earlier,later\r\nposix,free,,\r\ncommit,race,1,4\r\nsession,race,1,4\r\nmpiio,race,1,4\r\n");
+    assert_eq!(out(&o), "model,verdict,earlier,later\r\nposix,free,,\r\ncommit,race,2,5\r\nsession,race,2,5\r\nmpiio,race,2,5\r\n");
     pair.put(b"0,write,1,0,10,\r\n0,commit,1,,,\r\n0,write,1,5,1,\r\n", b"1,write,1,0,1,\r\n");
     assert!(out(&pair.run("check", "no,no", &[])).contains("  posix    race, row 1 (row 1 of a.csv) and row 4 (row 1 of b.csv)\n"));
     let o = pair.feed(&["check", "b.csv", "a.csv", "--headers", "no,no"], b"");
@@ -364,10 +365,13 @@ fn refused_join(pair: &Pair, number_and_place: &str) -> String {
 const SHARED: &str =
     "Refused: number 19. There is no verdict.\n  answered No: Does every process have its rows in one of the two files alone?\n";
 const STUCK: &str = "Refused: number 20. There is no verdict.\n\
-                     \x20 answered No: Can one of the next rows be taken: is it no recv, or a recv of\n\
+                     \x20 answered No: Can one of the next rows be taken: is it no wait, or a wait for\n\
                      \x20              a message that a taken row has sent?\n";
-const ORDER: &str = "  answered No: Is a send's message unsent so far, and a recv's sent earlier by\n\
-                     \x20              another process and not yet received?\n";
+const ORDER: &str = "  answered No: Is a send's message unsent so far, and any receive posted\n\
+                     \x20              before it another process's; is a recv's not posted before, and\n\
+                     \x20              not sent by this process?\n";
+const WAITS: &str = "  answered No: Was the wait's message posted earlier by this process, sent\n\
+                     \x20              earlier, and not yet waited for?\n";
 
 #[test]
 fn a_process_in_both_traces_is_named() {
@@ -384,26 +388,46 @@ fn a_process_in_both_traces_is_named() {
 
 #[test]
 fn rows_that_wait_are_named() {
-    let pair = Pair::new("stuck", b"0,write,1,0,10,\r\n0,recv,,,,7\r\n", b"1,send,,,,8\r\n");
-    let first = "  taken:       1 row of a.csv, 1 row of b.csv\n  first:       row 2 of a.csv: 0,recv,,,,7\n\
+    let pair = Pair::new("stuck", b"0,recv,,,,7\r\n0,wait,,,,7\r\n", b"1,send,,,,8\r\n");
+    let first = "  taken:       1 row of a.csv, 1 row of b.csv\n  first:       row 2 of a.csv: 0,wait,,,,7\n\
                  \x20              It waits for message 7, which no row of the two traces sends.\n  second:      b.csv is at its end.\n";
     assert_eq!(refused_join(&pair, "20,0"), [STUCK, first].concat());
 
-    pair.put(b"", b"1,recv,,,,\"65535\"");
+    // A wait that is not posted waits all the same, and is not refused for that.
+    pair.put(b"", b"1,wait,,,,\"65535\"");
     let second = "  taken:       0 rows of a.csv, 0 rows of b.csv\n  first:       a.csv is at its end.\n\
-                  \x20 second:      row 1 of b.csv: 1,recv,,,,\"65535\"\n\
+                  \x20 second:      row 1 of b.csv: 1,wait,,,,\"65535\"\n\
                   \x20              It waits for message 65535, which no row of the two traces\n               sends.\n";
     assert_eq!(refused_join(&pair, "20,0"), [STUCK, second].concat());
 
-    pair.put(b"0,open,1,,,\r\n0,open,2,,,\r\n0,recv,,,,7\r\n0,send,,,,8\r\n", b"1,recv,,,,8\r\n2,open,1,,,\r\n2,send,,,,7\r\n");
-    let both = "  taken:       2 rows of a.csv, 0 rows of b.csv\n  first:       row 3 of a.csv: 0,recv,,,,7\n\
+    pair.put(b"0,open,1,,,\r\n0,recv,,,,7\r\n0,wait,,,,7\r\n0,send,,,,8\r\n", b"1,wait,,,,8\r\n2,open,1,,,\r\n2,send,,,,7\r\n");
+    let both = "  taken:       2 rows of a.csv, 0 rows of b.csv\n  first:       row 3 of a.csv: 0,wait,,,,7\n\
                 \x20              It waits for message 7, which row 3 of b.csv sends, behind a\n               row that waits.\n\
-                \x20 second:      row 1 of b.csv: 1,recv,,,,8\n\
+                \x20 second:      row 1 of b.csv: 1,wait,,,,8\n\
                 \x20              It waits for message 8, which row 4 of a.csv sends, behind a\n               row that waits.\n";
     assert_eq!(refused_join(&pair, "20,0"), [STUCK, both].concat());
 
-    pair.put(b"2,recv,,,,7\r\n0,send,,,,7\r\n", b"");
+    pair.put(b"2,wait,,,,7\r\n0,send,,,,7\r\n", b"");
     assert!(refused_join(&pair, "20,0").contains("It waits for message 7, which row 2 of a.csv sends, behind a\n"));
+}
+
+/// A recv does not wait: it is taken before its message is sent, and also where no row sends it.
+#[test]
+fn a_receive_is_posted_without_waiting() {
+    let pair = Pair::new("posted", b"0,recv,,,,7\r\n0,open,1,,,\r\n0,wait,,,,7\r\n", b"1,recv,,,,9\r\n1,send,,,,7\r\n");
+    let o = pair.run("join", "no,no", &["-o", "-"]);
+    assert_eq!((out(&o).as_str(), status(&o)), ("0,recv,,,,7\r\n0,open,1,,,\r\n1,recv,,,,9\r\n1,send,,,,7\r\n0,wait,,,,7\r\n", 0));
+    in_order(
+        &err(&o),
+        &["\nSecond trace: b.csv\n", "  send, recv and wait, of no file: 2 rows\n  recv without a wait: 1 row\n\nJoined: 5 rows"],
+    );
+    // Posted in one trace and sent in the other, and nobody waits.
+    pair.put(b"0,recv,,,,7\r\n0,read,1,5,10,\r\n", b"1,write,1,0,10,\r\n1,send,,,,7\r\n");
+    let o = pair.feed(&["check", "b.csv", "a.csv", "--headers", "no,no", "--model", "posix"], b"");
+    let posted = "    Posted:  row 3 (row 1 of a.csv) posts a receive for message 7, which row 2\n\
+                  \x20            (row 2 of b.csv) sends, and no row of process 0 before row 4\n\
+                  \x20            waits for it: a posted receive gives no order by itself.\n";
+    assert!(status(&o) == 1 && out(&o).contains(posted), "{}", out(&o));
 }
 
 #[test]
@@ -412,17 +436,45 @@ fn messages_out_of_order_are_shown_with_the_rows_before() {
     let twelve = |place: u32, lines: &str| format!("Refused: number 12, at row {place} of the join. There is no verdict.\n{ORDER}{lines}");
     // Sent in both.
     pair.put(b"0,open,1,,,\r\n0,send,,,,7\r\n", b"1,send,,,,\"7\"\r\n");
-    let lines = "  the record:  row 1 of b.csv: 1,send,,,,\"7\"\n  before it:   row 2 (row 2 of a.csv): process 0 sends message 7\n";
+    let lines = "  the record:  row 1 of b.csv: 1,send,,,,\"7\"\n  before it:   row 2 (row 2 of a.csv): process 0 sends message 7\n\
+                 \x20 note:        row 2 sends message 7 already.\n";
     assert_eq!(refused_join(&pair, "12,3"), twelve(3, lines));
-    // Received twice.
+    // Posted twice.
     pair.put(b"0,send,,,,7\r\n2,recv,,,,7\r\n", b"1,open,1,,,\r\n1,recv,,,,7\r\n");
     let lines = "  the record:  row 2 of b.csv: 1,recv,,,,7\n  before it:   row 1 (row 1 of a.csv): process 0 sends message 7\n\
-                 \x20 before it:   row 2 (row 2 of a.csv): process 2 receives message 7\n";
+                 \x20 before it:   row 2 (row 2 of a.csv): process 2 posts a receive for message 7\n\
+                 \x20 note:        row 2 posts a receive for message 7 already.\n";
     assert_eq!(refused_join(&pair, "12,4"), twelve(4, lines));
-    // Received by its sender, behind a row that waited.
-    pair.put(b"0,recv,,,,9\r\n0,send,,,,7\r\n0,recv,,,,7\r\n", b"1,send,,,,9\r\n");
-    let lines = "  the record:  row 3 of a.csv: 0,recv,,,,7\n  before it:   row 3 (row 2 of a.csv): process 0 sends message 7\n";
-    assert_eq!(refused_join(&pair, "12,4"), twelve(4, lines));
+    // Posted by its sender, behind a row that waited.
+    pair.put(b"0,recv,,,,9\r\n0,wait,,,,9\r\n0,send,,,,7\r\n0,recv,,,,7\r\n", b"1,send,,,,9\r\n");
+    let lines = "  the record:  row 4 of a.csv: 0,recv,,,,7\n  before it:   row 4 (row 3 of a.csv): process 0 sends message 7\n\
+                 \x20 note:        process 0 sends message 7 itself, at row 4: a message goes from\n               one process to another.\n";
+    assert_eq!(refused_join(&pair, "12,5"), twelve(5, lines));
+}
+
+#[test]
+fn waits_out_of_order_are_shown_with_what_they_lack() {
+    let pair = Pair::new("waits", b"", b"");
+    let told = |place: u32, lines: &str| format!("Refused: number 21, at row {place} of the join. There is no verdict.\n{WAITS}{lines}");
+    // Posted by nobody so far; the other trace does, behind.
+    pair.put(b"0,send,,,,7\r\n2,wait,,,,\"7\"\r\n", b"1,open,1,,,\r\n1,recv,,,,7\r\n");
+    let lines = "  the record:  row 2 of a.csv: 2,wait,,,,\"7\"\n  before it:   row 1 (row 1 of a.csv): process 0 sends message 7\n\
+                 \x20 note:        no row before it posts a receive for message 7; row 2 of b.csv\n               does, behind it.\n";
+    assert_eq!(refused_join(&pair, "21,2"), told(2, lines));
+    // Posted by another process.
+    pair.put(b"1,recv,,,,7\r\n0,send,,,,7\r\n", b"2,wait,,,,7\r\n");
+    let lines = "  the record:  row 1 of b.csv: 2,wait,,,,7\n\
+                 \x20 before it:   row 1 (row 1 of a.csv): process 1 posts a receive for message 7\n\
+                 \x20 before it:   row 2 (row 2 of a.csv): process 0 sends message 7\n\
+                 \x20 note:        process 2 posts no receive for message 7 before it; process 1\n               does, at row 1.\n";
+    assert_eq!(refused_join(&pair, "21,3"), told(3, lines));
+    // Waited for already.
+    pair.put(b"0,send,,,,7\r\n", b"1,recv,,,,7\r\n1,wait,,,,7\r\n1,open,1,,,\r\n1,wait,,,,7\r\n");
+    let lines = "  the record:  row 4 of b.csv: 1,wait,,,,7\n  before it:   row 1 (row 1 of a.csv): process 0 sends message 7\n\
+                 \x20 before it:   row 2 (row 1 of b.csv): process 1 posts a receive for message 7\n\
+                 \x20 before it:   row 3 (row 2 of b.csv): process 1 waits for message 7\n\
+                 \x20 note:        row 3 waits for message 7 already.\n";
+    assert_eq!(refused_join(&pair, "21,5"), told(5, lines));
 }
 
 #[test]

@@ -11,10 +11,10 @@ use std::os::unix::fs::symlink;
 
 const NAMES: &str = "process,kind,file,offset,length,message\r\n";
 
-/// Two traces whose join has five rows and no race under POSIX; the second has a header and fields in quotes.
-const FIRST: &str = "0,write,1,0,10,\r\n0,send,,,,7\r\n0,recv,,,,8";
-const SECOND: &str = "process,kind,file,offset,length,message\r\n\"1\",recv,,,,\"7\"\r\n1,\"send\",\"\",,,8\r\n";
-const JOINED: &str = "0,write,1,0,10,\r\n0,send,,,,7\r\n1,recv,,,,7\r\n1,send,,,,8\r\n0,recv,,,,8\r\n";
+/// Two traces whose join has seven rows and no race under POSIX; the second has a header and fields in quotes.
+const FIRST: &str = "0,write,1,0,10,\r\n0,send,,,,7\r\n0,recv,,,,8\r\n0,wait,,,,8";
+const SECOND: &str = "process,kind,file,offset,length,message\r\n\"1\",recv,,,,\"7\"\r\n1,\"wait\",,,,7\r\n1,\"send\",\"\",,,8\r\n";
+const JOINED: &str = "0,write,1,0,10,\r\n0,send,,,,7\r\n0,recv,,,,8\r\n1,recv,,,,7\r\n1,wait,,,,7\r\n1,send,,,,8\r\n0,wait,,,,8\r\n";
 
 /// The command without its file.
 const JOIN: &str = "kiqsaryn join a.csv b.csv --headers no,yes --model posix";
@@ -30,7 +30,7 @@ fn with_two(name: &str) -> Folder {
 fn said(f: &Folder, output: &str) -> String {
     let checked = out(&f.sh(&JOIN.replace("join", "check")));
     assert!(checked.ends_with("\nVerdicts:\n  posix    free\n"), "{checked}");
-    format!("{checked}\nWritten to {output}:\n  {} bytes\n  header: no (the first record is row 1)\n  5 rows\n", JOINED.len())
+    format!("{checked}\nWritten to {output}:\n  {} bytes\n  header: no (the first record is row 1)\n  7 rows\n", JOINED.len())
 }
 
 // ---- What is written
@@ -63,7 +63,7 @@ fn the_header_is_that_of_the_first_trace_or_as_is_said() {
     for (more, text, header) in [("", JOINED, no), ("--out-header no", JOINED, no), ("--out-header yes", &headed, yes)] {
         let o = f.sh(&format!("{JOIN} -o - {more}"));
         assert_eq!((out(&o).as_str(), status(&o)), (text, 0), "{more}");
-        let written = format!("\nWritten to standard output:\n  {} bytes\n  header: {header}\n  5 rows\n", text.len());
+        let written = format!("\nWritten to standard output:\n  {} bytes\n  header: {header}\n  7 rows\n", text.len());
         assert!(err(&o).ends_with(&written), "{more}: {}", err(&o));
     }
     f.put("d.csv", &[NAMES, FIRST].concat(), 0o644);
@@ -137,16 +137,17 @@ fn a_refused_join_leaves_the_file_as_it_was() {
     let f = with_two("join-refused");
     f.put("old.csv", "old", 0o644);
     f.put("same.csv", "0,sync,1,,,\r\n", 0o644);
-    f.put("stuck.csv", "1,recv,,,,99\r\n", 0o644);
+    f.put("stuck.csv", "1,wait,,,,99\r\n", 0o644);
     f.put("twice.csv", "1,send,,,,7\r\n", 0o644);
-    for (second, number) in [("same.csv", 19), ("stuck.csv", 20), ("twice.csv", 12), ("b.csv", 8), ("t.csv", 8)] {
+    f.put("lost.csv", "1,wait,,,,7\r\n", 0o644);
+    for (second, number) in [("same.csv", 19), ("stuck.csv", 20), ("twice.csv", 12), ("lost.csv", 21), ("b.csv", 8), ("t.csv", 8)] {
         for output in ["old.csv", "new.csv"] {
             let o = f.sh(&format!("kiqsaryn join a.csv {second} --headers no,no -o {output}"));
             assert_eq!((status(&o), err(&o), f.read("old.csv")), (2, String::new(), b"old".to_vec()), "{second}");
             assert!(out(&o).contains(&format!("Refused: number {number}")), "{second}: {}", out(&o));
         }
     }
-    assert_eq!(f.names(), ["a.csv", "b.csv", "old.csv", "same.csv", "stuck.csv", "t.csv", "twice.csv"]);
+    assert_eq!(f.names(), ["a.csv", "b.csv", "lost.csv", "old.csv", "same.csv", "stuck.csv", "t.csv", "twice.csv"]);
 }
 
 /// A text that is not written whole is not said to be, and leaves the old file.

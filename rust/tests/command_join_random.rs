@@ -12,11 +12,11 @@ use naive::joining::{read_file, rows_of, taken, turn, Taken, Turn};
 use naive::order::{first_race, Order};
 use naive::pairs::{some_files, Files};
 use naive::random::Random;
-use naive::reading::Entry;
+use naive::reading::{faults, Entry};
 use naive::texts::{damage_bytes, header, record, text, Record};
 use naive::writing;
 use running::pair::Pair;
-use running::picture::well_formed;
+use running::picture::{nothing_overlaps, well_formed};
 use running::{err, out, status};
 
 /// The lengths of slices for the most rows.
@@ -49,7 +49,7 @@ impl Case {
         [0, 1].map(|k| read_file(&self.texts[k], self.headers[k], ROWS, PROCESSES, usize::MAX).expect("an accepted trace"))
     }
 
-    /// A row's own name and its record: "row 3 of b.csv: 1,recv,,,,7".
+    /// A row's own name and its record: "row 3 of b.csv: 1,wait,,,,7".
     fn own(&self, t: &Taken, number: usize) -> String {
         let k = t.file as usize - 1;
         let record = &self.texts[k][t.entry.start..t.entry.end];
@@ -128,6 +128,7 @@ fn compare_accepted(pair: &Pair, case: &Case, taken: &[Taken]) -> usize {
     }
     let picture = out(&pair.run("diagram", &headers, &[]));
     well_formed(&picture);
+    nothing_overlaps(&picture);
     assert_eq!(picture.matches("<g><title>row ").count(), rows.len());
     for (k, (file, number)) in (1..).zip(&origins) {
         let letter = ["A", "B"][*file as usize - 1];
@@ -186,6 +187,9 @@ fn compare_refused(pair: &Pair, case: &Case, (number, place, file): (u32, u32, u
             let (taken, _) = follow(case, place as usize);
             let shown = case.own(&taken[place as usize - 1], origins(&taken)[place as usize - 1].1);
             assert!(told.contains(&format!("  the record:  {shown}\n")), "{shown} in\n{told}");
+            let (last, before) = taken.split_last().expect("the refused row");
+            let wrong = faults(last.entry.row, &rows_of(before)).len();
+            assert_eq!(told.matches("  note:        ").count(), wrong, "what is wrong in\n{told}");
         }
     }
 }
@@ -195,7 +199,7 @@ fn compare_refused(pair: &Pair, case: &Case, (number, place, file): (u32, u32, u
 struct Seen {
     accepted: usize,
     names: usize,
-    refused: [usize; 21],
+    refused: [usize; 22],
 }
 
 #[test]
@@ -219,7 +223,7 @@ fn random_pairs_are_told_as_the_rules_say() {
         }
     }
     assert!(seen.accepted > 200 && seen.names > 1_000, "{seen:?}");
-    assert!([12, 19, 20].iter().all(|k| seen.refused[*k] > 10), "{seen:?}");
+    assert!([12, 19, 20, 21].iter().all(|k| seen.refused[*k] > 10), "{seen:?}");
 }
 
 // ---- Any input
@@ -265,12 +269,13 @@ fn no_two_inputs_make_it_crash() {
 #[test]
 fn a_full_join() {
     let (mut first, mut second) = (String::new(), String::new());
-    for k in 0..1024 {
+    for k in 0..819 {
         let (p, q) = (k % 64, (k + 1) % 64);
         let (from, to) = if p % 2 == 0 { (&mut first, &mut second) } else { (&mut second, &mut first) };
         *from += &format!("{p},write,1,{},90,\r\n{p},commit,1,,,\r\n{p},send,,,,{k}\r\n", p * 100);
-        *to += &format!("{q},recv,,,,{k}\r\n");
+        *to += &format!("{q},recv,,,,{k}\r\n{q},wait,,,,{k}\r\n");
     }
+    first += "0,sync,1,,,\r\n";
     let pair = Pair::new("full", first.as_bytes(), second.as_bytes());
     for args in [&["join"][..], &["check", "--model", "commit"], &["replay", "--file", "1", "--model", "session"], &["diagram"]] {
         let o = pair.run(args[0], "no,no", &args[1..]);

@@ -9,6 +9,8 @@ mod explain;
 #[path = "../src/bin/kiqsaryn/input.rs"]
 mod input;
 mod naive;
+#[path = "../src/bin/kiqsaryn/posted.rs"]
+mod posted;
 #[path = "../src/bin/kiqsaryn/recording.rs"]
 mod recording;
 mod running;
@@ -19,7 +21,7 @@ mod text;
 #[path = "../src/bin/kiqsaryn/write.rs"]
 mod write;
 
-use kiqsaryn::{Settings, COMMIT, PROCESSES, ROWS};
+use kiqsaryn::{Settings, COMMIT, PROCESSES, ROWS, WAIT};
 use naive::reading;
 use running::folder::{failed, silent, Folder};
 use running::{err, example_traces, out, run, status};
@@ -30,8 +32,11 @@ use std::process::Output;
 const NAMES: &str = "process,kind,file,offset,length,message\r\n";
 
 /// A trace as hands leave it: fields in quotes, and no line end behind the last record.
-const BY_HAND: &str = "\"0\",\"write\",1,\"0\",10,\"\"\r\n0,\"send\",\"\",,,7\r\n\"1\",recv,,,,\"7\"\r\n1,read,1,5,\"10\",";
-const CLEAN: &str = "0,write,1,0,10,\r\n0,send,,,,7\r\n1,recv,,,,7\r\n1,read,1,5,10,\r\n";
+const BY_HAND: &str =
+    "\"0\",\"write\",1,\"0\",10,\"\"\r\n0,\"send\",\"\",,,7\r\n\"1\",recv,,,,\"7\"\r\n1,\"wait\",,,,7\r\n1,read,1,5,\"10\",";
+const CLEAN: &str = "0,write,1,0,10,\r\n0,send,,,,7\r\n1,recv,,,,7\r\n1,wait,,,,7\r\n1,read,1,5,10,\r\n";
+/// How many rows it has.
+const HAND_ROWS: usize = 5;
 
 /// What is said of a trace that was read and written: its name and where the text went, and for each bytes, header and rows.
 fn said(name: &str, read: (usize, bool, usize), output: &str, written: (usize, bool, usize)) -> String {
@@ -57,8 +62,8 @@ fn told(o: &Output, words: &str) {
 
 #[test]
 fn a_trace_by_hand_is_cleaned() {
-    let read = (BY_HAND.len(), false, 4);
-    let words = |header: bool, len: usize| said("standard input", read, "standard output", (len, header, 4));
+    let read = (BY_HAND.len(), false, HAND_ROWS);
+    let words = |header: bool, len: usize| said("standard input", read, "standard output", (len, header, HAND_ROWS));
     let headed = [NAMES, CLEAN].concat();
     for args in [&["--header", "no"][..], &["--header=no", "--out-header=no"], &["--header", "no", "-o", "-", "--processes", "2"]] {
         wrote(&run(&[&["write", "-"], args].concat(), BY_HAND.as_bytes()), CLEAN, &words(false, CLEAN.len()));
@@ -72,11 +77,11 @@ fn the_header_is_kept_put_or_dropped() {
     let quoted = "process,\"kind\",file,offset,\"length\",message\r\n";
     let input = [quoted, BY_HAND].concat();
     let headed = [NAMES, CLEAN].concat();
-    let read = (input.len(), true, 4);
+    let read = (input.len(), true, HAND_ROWS);
     for (out_header, text) in [(None, headed.as_str()), (Some("yes"), &headed), (Some("no"), CLEAN)] {
         let mut args = vec!["write", "--header", "yes", "-"];
         args.extend(out_header.iter().flat_map(|word| ["--out-header", word]));
-        let words = said("standard input", read, "standard output", (text.len(), out_header != Some("no"), 4));
+        let words = said("standard input", read, "standard output", (text.len(), out_header != Some("no"), HAND_ROWS));
         wrote(&run(&args, input.as_bytes()), text, &words);
     }
 }
@@ -155,7 +160,8 @@ fn a_refusal_of_the_writer_is_told_as_an_error() {
     };
     for (n, rows, words) in [
         (2, &[0, COMMIT, 1, 0, 0, 0][..], "the text cannot be written: refusal 1, Are the lent slices long enough?"),
-        (1, &[0, 8, 1, 0, 0, 0], "row 1 cannot be written: refusal 8, Is the kind "),
+        (1, &[0, 9, 1, 0, 0, 0], "row 1 cannot be written: refusal 8, Is the kind "),
+        (1, &[0, WAIT, 0, 0, 0, 7], "row 1 cannot be written: refusal 21, Was the wait's message posted "),
         (2, &[0, COMMIT, 1, 0, 0, 0, 2, COMMIT, 1, 0, 0, 0], "row 2 cannot be written: refusal 10, "),
     ] {
         let e = write::text(&trace(n, rows), false).expect_err("a refusal");
@@ -207,7 +213,7 @@ fn processes_from_the_limit_on_are_refused() {
 
 /// What is said of the trace `hand.csv` written to a file without a header.
 fn said_of_hand(output: &str) -> String {
-    said("hand.csv", (BY_HAND.len(), false, 4), output, (CLEAN.len(), false, 4))
+    said("hand.csv", (BY_HAND.len(), false, HAND_ROWS), output, (CLEAN.len(), false, HAND_ROWS))
 }
 
 fn with_hand(name: &str) -> Folder {

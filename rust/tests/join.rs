@@ -6,7 +6,7 @@ mod naive;
 #[allow(dead_code)]
 mod vectors;
 
-use kiqsaryn::{join, read_file, Checked, JoinSettings, Joined, Part, Refusal, Row, PROCESSES, ROWS};
+use kiqsaryn::{join, read_file, Checked, JoinSettings, Joined, Part, Refusal, Row, PROCESSES, RECV, ROWS, SEND, WAIT};
 use naive::joining::{self, Lent};
 
 fn refused(number: u32, place: u32, file: u32) -> Joined {
@@ -42,8 +42,11 @@ fn answer_of(line: &vectors::Line) -> Joined {
     }
 }
 
-#[test]
-fn every_join_vector() {
+/// Joins two files as the library does.
+type Join = fn([&[u8]; 2], JoinSettings, &mut Lent) -> Joined;
+
+/// Runs every vector through one version.
+fn every_vector(version: Join) {
     let text = vectors::text("join.txt");
     let mut lines = vectors::lines(&text);
     let mut run = 0;
@@ -69,29 +72,37 @@ fn every_join_vector() {
                 (_, Joined::Refused { refusal, .. }) if refusal.number() <= 3 => lent(lengths, fill),
                 _ => lent(lengths, 0),
             };
-            let [mut ours, mut naive] = [lent(lengths, fill), lent(lengths, fill)];
-            assert_eq!(call([&first, &second], s, &mut ours), want, "{line}");
-            assert!(ours == left, "the slices after {line}: {ours:?}");
-            assert_eq!(joining::join([&first, &second], s, &mut naive), want, "the naive version on {line}");
-            assert!(naive == left, "the naive version's slices after {line}: {naive:?}");
+            let mut slices = lent(lengths, fill);
+            assert_eq!(version([&first, &second], s, &mut slices), want, "{line}");
+            assert!(slices == left, "the slices after {line}: {slices:?}");
         }
         run += 1;
     }
     vectors::all_run("join.txt", &text, &["J"], run);
 }
 
+#[test]
+fn every_join_vector() {
+    every_vector(call);
+}
+
+#[test]
+fn every_join_vector_through_the_naive_version() {
+    every_vector(joining::join);
+}
+
 // ---- Calls whose numbers do not fit
 
 const NAMES: &str = "process,kind,file,offset,length,message\r\n";
 
-/// Two files that are joined into four rows: the second waits for the first.
+/// Two files that are joined into five rows: the second waits for the first.
 const SENDS: &str = "0,write,1,0,10,\r\n0,send,,,,7\r\n";
-const RECEIVES: &str = "1,recv,,,,7\r\n1,read,1,5,10,\r\n";
+const RECEIVES: &str = "1,recv,,,,7\r\n1,wait,,,,7\r\n1,read,1,5,10,\r\n";
 
 /// Settings for two files without headers.
-const PLAIN: JoinSettings = JoinSettings { headers: [0, 0], model: 1, row_limit: 4, process_limit: 2 };
+const PLAIN: JoinSettings = JoinSettings { headers: [0, 0], model: 1, row_limit: 5, process_limit: 2 };
 /// Just enough for them.
-const ENOUGH: [usize; 3] = [24, 8, 12];
+const ENOUGH: [usize; 3] = [30, 10, 15];
 
 #[test]
 fn calls_that_do_not_fit_are_refused() {
@@ -104,19 +115,19 @@ fn calls_that_do_not_fit_are_refused() {
         (PLAIN, [rows, counts - 1, parts], 1),
         (PLAIN, [rows, counts, parts - 1], 1),
         (PLAIN, [0, 0, 0], 1),
-        (limits(5, 2), ENOUGH, 1),
+        (limits(6, 2), ENOUGH, 1),
         (limits(u32::MAX, u32::MAX), ENOUGH, 1),
         (limits(u32::MAX, 0), ENOUGH, 1),
         (limits(0, u32::MAX), [0, 0, 0], 2),                          // no row needs a number
         (limits(0x2AAA_AAAB, 1), [rows, usize::MAX >> 40, parts], 1), // 6 times as many are 2 in 32 bits
         (limits(0x5555_5556, 1), [rows, usize::MAX >> 40, parts], 1), // 3 times as many are 2 in 32 bits
         (limits(0x8000_0000, 2), [rows, 0, parts], 1),                // 2 times as many are 0 in 32 bits
-        (JoinSettings { model: 4, headers: [2, 2], ..limits(5, 65) }, ENOUGH, 1),
+        (JoinSettings { model: 4, headers: [2, 2], ..limits(6, 65) }, ENOUGH, 1),
         // 2: the model or a limit is out of its range
         (JoinSettings { model: 4, ..PLAIN }, ENOUGH, 2),
         (JoinSettings { model: u32::MAX, headers: [2, 0], ..PLAIN }, ENOUGH, 2),
         (limits(0, 2), ENOUGH, 2),
-        (limits(4, 0), ENOUGH, 2),
+        (limits(5, 0), ENOUGH, 2),
         (limits(ROWS + 1, 1), [6 * 4097, 4097, 3 * 4097], 2),
         (limits(1, PROCESSES + 1), [6, 65, 3], 2),
         // 3: a header word is neither 0 nor 1
@@ -137,12 +148,13 @@ fn calls_that_do_not_fit_are_refused() {
 #[test]
 fn what_fits_exactly_is_joined() {
     let mut slices = lent(ENOUGH, 7);
-    assert_eq!(call([SENDS.as_bytes(), RECEIVES.as_bytes()], PLAIN, &mut slices), Joined::Race { rows: 4, earlier: 1, later: 4 });
-    assert_eq!(slices.rows, [[0, 1, 1, 0, 10, 0], [0, 6, 0, 0, 0, 7], [1, 7, 0, 0, 0, 7], [1, 0, 1, 5, 10, 0]].concat());
-    assert_eq!(slices.counts, [1, 0, 2, 0, 2, 1, 2, 2]);
-    assert_eq!(slices.parts, [[1, 0, 15], [1, 17, 28], [2, 0, 11], [2, 13, 27]].concat());
+    assert_eq!(call([SENDS.as_bytes(), RECEIVES.as_bytes()], PLAIN, &mut slices), Joined::Race { rows: 5, earlier: 1, later: 5 });
+    let messages = [[0, 6, 0, 0, 0, 7], [1, 7, 0, 0, 0, 7], [1, 8, 0, 0, 0, 7]].concat();
+    assert_eq!(slices.rows, [&[0, 1, 1, 0, 10, 0][..], &messages, &[1, 0, 1, 5, 10, 0]].concat());
+    assert_eq!(slices.counts, [1, 0, 2, 0, 0, 1, 2, 2, 2, 3]);
+    assert_eq!(slices.parts, [[1, 0, 15], [1, 17, 28], [2, 0, 11], [2, 13, 24], [2, 26, 40]].concat());
     let s = JoinSettings { model: 0, ..PLAIN };
-    assert_eq!(call([SENDS.as_bytes(), RECEIVES.as_bytes()], s, &mut slices), Joined::Free { rows: 4 });
+    assert_eq!(call([SENDS.as_bytes(), RECEIVES.as_bytes()], s, &mut slices), Joined::Free { rows: 5 });
     assert_eq!(call([b"", b""], PLAIN, &mut slices), Joined::Free { rows: 0 });
     assert!(slices == lent(ENOUGH, 0));
 }
@@ -161,48 +173,61 @@ fn turns(first: &str, second: &str) -> Result<Vec<(u64, usize)>, Joined> {
     Ok((0..n).map(|k| (part(k).file, (0..=k).filter(|i| part(*i).file == part(k).file).count())).collect())
 }
 
-/// One file from short words: `0w` is a write of process 0, `1s7` its send of message 7, and `1r7` its recv.
+/// One file from short words: `0w` is a write of process 0, `1s7` the send of message 7 by process 1, `1r7` its recv, and `1a7` its wait, by which
+/// it awaits the message.
 fn file(words: &str) -> String {
     let record = |word: &str| {
         let (process, rest) = word.split_at(1);
         match rest.split_at(1) {
             ("s", message) => format!("{process},send,,,,{message}\r\n"),
             ("r", message) => format!("{process},recv,,,,{message}\r\n"),
+            ("a", message) => format!("{process},wait,,,,{message}\r\n"),
             _ => format!("{process},write,{process},0,1,\r\n"),
         }
     };
     words.split_whitespace().map(record).collect()
 }
 
+/// Two files by their words, and the file of each joined row: `a` for the first, `b` for the second. None where the join is stuck.
+type Turns<'a> = (&'a str, &'a str, Option<&'a str>);
+
+const TURNS: &[Turns] = &[
+    ("", "", Some("")),
+    ("0w 0w", "", Some("a a")),
+    ("", "1w 1w", Some("b b")),
+    ("0w 0w", "1w 1w", Some("a a b b")),
+    ("0s7 0w", "1r7 1a7 1w", Some("a a b b b")),
+    // a recv holds nothing back: its message is sent later, or never
+    ("0r7 0w", "1w 1s7", Some("a a b b")),
+    ("0r7 0w", "1r8 1w", Some("a a b b")),
+    ("2r7 0s7 2a7", "1w", Some("a a a b")),
+    // the first file waits, and goes on at once when its message is sent
+    ("0r7 0a7 0w", "1w 1s7 1w", Some("a b b a a b")),
+    ("0w 0r7 0a7 0s8 0w", "1s7 1r8 1a8 1w", Some("a a b a a a b b b")),
+    ("0r1 0a1 0s2 0r3 0a3 0s4", "1s1 1r2 1a2 1s3 1r4 1a4", Some("a b a a a b b b a a b b")),
+    // a message within a file, sent before it is waited for there
+    ("0s7 2r7 2a7 0w", "1w", Some("a a a a b")),
+    ("0w", "1s7 3r7 3a7", Some("a b b b")),
+    // messages that are waited for in another order, and one that is never received
+    ("0s7 0s8 0s9", "1r9 1r7 1a7 1a9", Some("a a a b b b b")),
+    // one waits, and the other is at its end
+    ("0r7 0a7", "", None),
+    ("", "1r7 1a7", None),
+    ("0w 0w", "1w 1r7 1a7", None),
+    ("0w 0r7 0a7 0w", "1w 1s8", None),
+    // both wait, for each other or for messages that nobody sends
+    ("0r7 0a7 0s8", "1r8 1a8 1s7", None),
+    ("0w 0r7 0a7", "1w 1r8 1a8", None),
+    // waited for within a file before it is sent there: no order of the two helps
+    ("2r7 2a7 0s7", "1w", None),
+    // a wait without its recv waits as well
+    ("0a7", "1w", None),
+    ("0w", "1r7 3a7", None),
+];
+
 #[test]
 fn the_first_file_goes_on_until_it_waits_or_ends() {
-    let stuck = Err(refused(20, 0, 0));
-    for (first, second, want) in [
-        ("", "", Ok("")),
-        ("0w 0w", "", Ok("a a")),
-        ("", "1w 1w", Ok("b b")),
-        ("0w 0w", "1w 1w", Ok("a a b b")),
-        ("0s7 0w", "1r7 1w", Ok("a a b b")),
-        // the first file waits, and goes on at once when its message is sent
-        ("0r7 0w", "1w 1s7 1w", Ok("b b a a b")),
-        ("0w 0r7 0s8 0w", "1s7 1r8 1w", Ok("a b a a a b b")),
-        ("0r1 0s2 0r3 0s4", "1s1 1r2 1s3 1r4", Ok("b a a b b a a b")),
-        // a message within a file, sent before it is received there
-        ("0s7 2r7 0w", "1w", Ok("a a a b")),
-        ("0w", "1s7 3r7", Ok("a b b")),
-        // a message that waits to be received, and one that is never received
-        ("0s7 0s8 0s9", "1r9 1r7", Ok("a a a b b")),
-        // one waits, and the other is at its end
-        ("0r7", "", stuck),
-        ("", "1r7", stuck),
-        ("0w 0w", "1w 1r7", stuck),
-        ("0w 0r7 0w", "1w 1s8", stuck),
-        // both wait, for each other or for messages that nobody sends
-        ("0r7 0s8", "1r8 1s7", stuck),
-        ("0w 0r7", "1w 1r8", stuck),
-        // received within a file before it is sent there: no order of the two helps
-        ("2r7 0s7", "1w", stuck),
-    ] {
+    for (first, second, want) in TURNS {
         let mut own = [0, 0];
         let mut number = |word: &str| {
             let k = usize::from(word == "b");
@@ -210,7 +235,7 @@ fn the_first_file_goes_on_until_it_waits_or_ends() {
             (k as u64 + 1, own[k])
         };
         let want = want.map(|words| words.split_whitespace().map(&mut number).collect::<Vec<_>>());
-        assert_eq!(turns(&file(first), &file(second)), want, "{first} and {second}");
+        assert_eq!(turns(&file(first), &file(second)), want.ok_or(refused(20, 0, 0)), "{first} and {second}");
     }
 }
 
@@ -229,16 +254,21 @@ fn the_first_question_that_is_answered_no_decides() {
         (&good, &long, 6, 4, 2),
         // 19 before any joined row: both files' own rows would be too many, stand out of order, or wait
         (&file("0w 0s7"), &file("0w 1s7"), 19, 0, 0),
-        (&file("0r7 2w"), &file("1w 2w"), 19, 0, 0),
-        (&file("1r7"), &file("1r8"), 19, 0, 0),
-        // 6 at a joined row before 12 there, and 12 at an earlier one
+        (&file("0a7 2w"), &file("1w 2w"), 19, 0, 0),
+        (&file("1a7"), &file("1a8"), 19, 0, 0),
+        // 6 at a joined row before 12 and 21 there, and both at an earlier one
         (&file("0w 0s7"), &file("1w 1s7"), 6, 4, 0),
+        (&file("0w 0w 0s7"), &file("1a7"), 6, 4, 0),
         (&file("0s7"), &file("1s7 1w 1w"), 12, 2, 0),
+        (&file("0s7"), &file("1a7 1w 1w"), 21, 2, 0),
         // 20 needs no place among the rows: it comes where the limit is reached too
-        (&file("0w 0w 0w"), &file("1r7"), 20, 0, 0),
-        (&file("0w 0w"), &file("1w 1r7"), 20, 0, 0),
-        // 12 before the next row waits
-        (&file("0s7 0s7"), &file("1r8"), 12, 2, 0),
+        (&file("0w 0w 0w"), &file("1a7"), 20, 0, 0),
+        (&file("0w 0w"), &file("1w 1a7"), 20, 0, 0),
+        // 12 before the next row waits, and 21 only at a wait whose message is sent
+        (&file("0s7 0s7"), &file("1a8"), 12, 2, 0),
+        (&file("0r7 0r7"), &file("1a7"), 12, 2, 0),
+        (&file("0a7"), &file("1a7"), 20, 0, 0),
+        (&file("0a7"), &file("1s7"), 21, 2, 0),
     ] {
         let s = JoinSettings { row_limit: 3, process_limit: 3, ..PLAIN };
         let mut slices = lent([20, 11, 10], 7);
@@ -250,18 +280,27 @@ fn the_first_question_that_is_answered_no_decides() {
 
 #[test]
 fn messages_out_of_order_are_refused() {
-    for (first, second, place) in [
-        ("0s7 0s7", "", 2),           // sent twice in a file
-        ("0s7", "1w 1s7", 3),         // sent twice, once in each
-        ("0s7 0w", "1r7 1s7", 4),     // sent again once it is received
-        ("0s7 0r7", "1w", 2),         // received by its sender
-        ("0s7", "1r7 3r7", 3),        // received twice in a file
-        ("0s7 2r7", "1w 1r7", 4),     // received twice, once in each
-        ("0r7 0r7", "1s7 1w", 3),     // received twice by one process
-        ("0w 0r7", "1s7 3s7", 4),     // the recv that waited is taken before the second send
-        ("0w 0r9 0s7", "1s9 1s7", 5), // the send that waited behind a recv
+    for (first, second, number, place) in [
+        ("0s7 0s7", "", 12, 2),                   // sent twice in a file
+        ("0s7", "1w 1s7", 12, 3),                 // sent twice, once in each
+        ("0s7 0w", "1r7 1a7 1s7", 12, 5),         // sent again once it is waited for
+        ("0s7 0r7", "1w", 12, 2),                 // posted by its sender
+        ("0r7 0s7", "1w", 12, 2),                 // sent by the process that has posted it
+        ("0s7", "1r7 3r7", 12, 3),                // posted twice in a file
+        ("0s7 2r7", "1w 1r7", 12, 4),             // posted twice, once in each
+        ("0r7 0w", "1w 1r7", 12, 4),              // posted twice, and never sent
+        ("0r7 0a7 0r7", "1s7 1w", 12, 4),         // posted again once it is waited for
+        ("0w 0r7 0a7", "1s7 3s7", 12, 5),         // the wait is taken before the second send
+        ("0w 0r9 0a9 0s7", "1s9 1s7", 12, 6),     // the send that stands behind a wait
+        ("0s7 0w", "1w 1a7", 21, 4),              // not posted
+        ("0a7 0r7", "1s7 1w", 21, 2),             // posted too late
+        ("0s7 0w", "1r7 3a7", 21, 4),             // posted by another process of its file
+        ("0s7 2a7", "1r7 1a7", 21, 2),            // posted later, by a process of the other file
+        ("0r7 0a7 0a7", "1s7 1w", 21, 4),         // waited for twice
+        ("0w 0r7 0a7 2a7", "1s7 1w", 21, 5),      // waited for again by another process
+        ("0r8 0a7 0a8", "1r9 1s7 1s8 1w", 21, 4), // the wait goes on once its message is sent, and is not posted
     ] {
-        assert_eq!(turns(&file(first), &file(second)), Err(refused(12, place, 0)), "{first} and {second}");
+        assert_eq!(turns(&file(first), &file(second)), Err(refused(number, place, 0)), "{first} and {second}");
     }
 }
 
@@ -275,8 +314,8 @@ fn each_file_is_read_with_its_own_header_word() {
         let s = JoinSettings { headers, ..PLAIN };
         let mut slices = lent(ENOUGH, 7);
         let got = call([texts[0].as_bytes(), texts[1].as_bytes()], s, &mut slices);
-        assert_eq!(got, Joined::Race { rows: 4, earlier: 1, later: 4 }, "{headers:?}");
-        for k in 0..4 {
+        assert_eq!(got, Joined::Race { rows: 5, earlier: 1, later: 5 }, "{headers:?}");
+        for k in 0..5 {
             let Part { file, start, end } = Part::at(&slices.parts, k).expect("a part");
             let of_file = &texts[file as usize - 1][start as usize..end as usize];
             assert_eq!(of_file, [SENDS, RECEIVES].concat().lines().nth(k).expect("a record"), "{headers:?}");
@@ -293,14 +332,14 @@ fn each_file_is_read_with_its_own_header_word() {
 #[test]
 fn a_part_is_a_record_as_it_stands_without_its_line_end() {
     let first = "\"0\",write,\"1\",0,10,\"\"\r\n0,\"send\",\"\",,,7";
-    let second = [NAMES, "\"1\",recv,,,,\"7\"\r\n1,read,1,\"5\",10,\r\n"].concat();
+    let second = [NAMES, "\"1\",recv,,,,\"7\"\r\n1,\"wait\",,,,7\r\n1,read,1,\"5\",10,\r\n"].concat();
     let s = JoinSettings { headers: [0, 1], ..PLAIN };
     let mut slices = lent(ENOUGH, 7);
-    assert_eq!(call([first.as_bytes(), second.as_bytes()], s, &mut slices), Joined::Race { rows: 4, earlier: 1, later: 4 });
-    assert_eq!(slices.parts, [[1, 0, 21], [1, 23, 38], [2, 41, 56], [2, 58, 74]].concat());
-    assert_eq!(Part::at(&slices.parts, 3), Some(Part { file: 2, start: 58, end: 74 }));
-    assert_eq!(Part::at(&slices.parts, 4), None);
-    assert_eq!(&second[58..74], "1,read,1,\"5\",10,");
+    assert_eq!(call([first.as_bytes(), second.as_bytes()], s, &mut slices), Joined::Race { rows: 5, earlier: 1, later: 5 });
+    assert_eq!(slices.parts, [[1, 0, 21], [1, 23, 38], [2, 41, 56], [2, 58, 71], [2, 73, 89]].concat());
+    assert_eq!(Part::at(&slices.parts, 4), Some(Part { file: 2, start: 73, end: 89 }));
+    assert_eq!(Part::at(&slices.parts, 5), None);
+    assert_eq!(&second[73..89], "1,read,1,\"5\",10,");
 }
 
 // ---- Limits
@@ -336,24 +375,40 @@ fn the_join_has_as_many_rows_as_a_trace() {
     }
 }
 
-/// 2,048 messages to and fro, each sent once the one before is received.
+/// Two files in which messages go to and fro, each sent once the one before is waited for. All receives of a file are posted first.
+fn to_and_fro(messages: u32, number: impl Fn(u32) -> u32) -> [String; 2] {
+    let mut files = [String::new(), String::new()];
+    for k in 0..messages {
+        let to = 1 - k % 2;
+        files[to as usize] += &format!("{to},recv,,,,{}\r\n", number(k));
+    }
+    for k in 0..messages {
+        let (from, to) = (k % 2, 1 - k % 2);
+        files[from as usize] += &format!("{from},send,,,,{}\r\n", number(k));
+        files[to as usize] += &format!("{to},wait,,,,{}\r\n", number(k));
+    }
+    files
+}
+
 #[test]
 fn the_longest_chain_of_messages() {
-    let (mut first, mut second) = (String::new(), String::new());
-    for k in 0..2_048 {
-        let (from, to, process) = if k % 2 == 0 { (&mut first, &mut second, 0) } else { (&mut second, &mut first, 1) };
-        *from += &format!("{process},send,,,,{}\r\n", 65_535 - k);
-        *to += &format!("{},recv,,,,{}\r\n", 1 - process, 65_535 - k);
-    }
+    const MESSAGES: u32 = ROWS / 3;
+    let number = |k: u32| 65_535 - k;
+    let [first, mut second] = to_and_fro(MESSAGES, number);
+    second += "1,commit,1,,,\r\n"; // so that there are as many rows as can be
     let s = JoinSettings { headers: [0, 0], model: 3, row_limit: ROWS, process_limit: 2 };
     let mut slices = lent([6, 2, 3].map(|k| k * ROWS as usize), 7);
     assert_eq!(call([first.as_bytes(), second.as_bytes()], s, &mut slices), Joined::Free { rows: ROWS });
-    for k in 0..ROWS as usize {
-        let sends = k % 2 == 0;
-        let process = (k / 2 % 2) as u32;
-        let row = Row::at(&slices.rows, k).expect("a row");
-        assert_eq!((row.process == process, row.message), (sends, 65_535 - k as u32 / 2), "row {}", k + 1);
-        assert_eq!(Part::at(&slices.parts, k).expect("a part").file, u64::from(row.process) + 1, "row {}", k + 1);
+    // The receives and the first send, and then each wait with the next send of its process.
+    for k in 0..MESSAGES {
+        let process = 1 - k % 2;
+        let at = (MESSAGES + 1 + 2 * k) as usize;
+        let of_message = |kind: u32, k: u32| Some(Row { process, kind, message: number(k), ..Row::default() });
+        assert_eq!(Row::at(&slices.rows, at), of_message(WAIT, k), "row {}", at + 1);
+        if k + 1 < MESSAGES {
+            assert_eq!(Row::at(&slices.rows, at + 1), of_message(SEND, k + 1), "row {}", at + 2);
+        }
+        assert_eq!(Part::at(&slices.parts, at).expect("a part").file, u64::from(process) + 1, "row {}", at + 1);
     }
     let s = JoinSettings { row_limit: ROWS - 1, ..s };
     assert_eq!(call([first.as_bytes(), second.as_bytes()], s, &mut slices), refused(6, ROWS, 0));
@@ -389,14 +444,14 @@ fn file_refused(number: u32, place: u32) -> Checked {
 
 #[test]
 fn a_file_by_itself_is_not_asked_about_messages() {
-    let text = "0,recv,,,,7\r\n0,recv,,,,7\r\n0,send,,,,7\r\n0,send,,,,7";
-    let mut rows = [7; 27];
-    assert_eq!(read_file(text.as_bytes(), 0, 4, 1, &mut rows), Checked::Accepted(4));
-    let [recv, send] = [[0, 7, 0, 0, 0, 7], [0, 6, 0, 0, 0, 7]];
-    assert_eq!(rows[..], [&[recv, recv, send, send].concat()[..], &[0; 3]].concat());
-    assert_eq!(read_file([NAMES, text].concat().as_bytes(), 1, 4, 1, &mut rows), Checked::Accepted(4));
-    assert_eq!(read_file(b"", 0, 4, 1, &mut rows), Checked::Accepted(0));
-    assert_eq!(rows, [0; 27]);
+    let text = "0,wait,,,,7\r\n0,wait,,,,7\r\n0,recv,,,,7\r\n0,recv,,,,7\r\n0,send,,,,7\r\n0,send,,,,7";
+    let mut rows = [7; 39];
+    assert_eq!(read_file(text.as_bytes(), 0, 6, 1, &mut rows), Checked::Accepted(6));
+    let [wait, recv, send] = [WAIT, RECV, SEND].map(|kind| [0, kind, 0, 0, 0, 7]);
+    assert_eq!(rows[..], [&[wait, wait, recv, recv, send, send].concat()[..], &[0; 3]].concat());
+    assert_eq!(read_file([NAMES, text].concat().as_bytes(), 1, 6, 1, &mut rows), Checked::Accepted(6));
+    assert_eq!(read_file(b"", 0, 6, 1, &mut rows), Checked::Accepted(0));
+    assert_eq!(rows, [0; 39]);
 }
 
 #[test]

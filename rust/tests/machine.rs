@@ -1,11 +1,11 @@
-//! Every vector of `vectors/machine.txt`: the answer, the whole slice of maps and the whole answer slice.
+//! Every vector of `vectors/machine.txt`: the answer, the whole slice of maps and the whole answer slice. Then steps with rows of messages.
 
 #[allow(dead_code)]
 mod state;
 #[allow(dead_code)]
 mod vectors;
 
-use kiqsaryn::{Header, Row, READ};
+use kiqsaryn::{Header, Model, Refusal, Row, READ, RECV, SEND, WAIT, WRITE};
 use state::State;
 
 #[test]
@@ -66,4 +66,26 @@ fn every_machine_vector() {
         assert_eq!(state.as_ref().expect("a state").maps, expected, "the maps of {line}");
     }
     vectors::all_run("machine.txt", &text, &["M", "F", "S"], run);
+}
+
+/// A machine and a plain file refuse a row that names no file with 15, and change nothing.
+#[test]
+fn rows_of_messages_are_refused() {
+    let header = Header { process_limit: 2, file: 0, map_space: 3 };
+    for model in [None].into_iter().chain(Model::ALL.map(|model| Some(model.number()))) {
+        let len = if model.is_some() { header.maps_len() } else { header.map_len() };
+        let mut s = State { model, header, maps: vec![7; len.expect("a length")] };
+        assert_eq!(s.make(), Ok(()), "model {model:?}");
+        let write = Row { process: 1, kind: WRITE, offset: 2, length: 3, ..Row::default() };
+        assert_eq!(s.step(write, 1, &mut []), Ok(0), "model {model:?}");
+        let maps = s.maps.clone();
+        for kind in [SEND, RECV, WAIT, WAIT + 1, u32::MAX] {
+            let mut out = [5; 6];
+            let row = Row { process: 1, kind, message: 7, ..Row::default() };
+            for number in [2, 0, 4097] {
+                assert_eq!(s.step(row, number, &mut out), Err(Refusal::NotOfFile), "model {model:?}, kind {kind}, row number {number}");
+            }
+            assert!(s.maps == maps && out == [5; 6], "model {model:?}, kind {kind}");
+        }
+    }
 }

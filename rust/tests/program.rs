@@ -1,12 +1,15 @@
-//! The program `verdict` as a user runs it, and the function of the library that it prints from: every vector of `vectors/program.txt`,
-//! the example traces, and traces about as long as the program takes them.
+//! The program `verdict` as a user runs it, the function of the library that it prints from, and the naive version: every vector of
+//! `vectors/program.txt`. Then the example traces, and traces about as long as the program takes them.
 
+#[allow(dead_code)]
+mod naive;
 #[allow(dead_code)]
 mod running;
 #[allow(dead_code)]
 mod vectors;
 
 use kiqsaryn::report;
+use naive::reading;
 use running::{err, example_traces, feed, status};
 use std::path::Path;
 use std::process::Command;
@@ -40,6 +43,11 @@ fn every_program_vector_through_the_program() {
 #[test]
 fn every_program_vector_through_the_library() {
     every_vector(report);
+}
+
+#[test]
+fn every_program_vector_through_the_naive_version() {
+    every_vector(|text| reading::report(text).into_bytes());
 }
 
 #[test]

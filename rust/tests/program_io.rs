@@ -11,10 +11,11 @@ use std::path::PathBuf;
 use std::process::{Command, Output, Stdio};
 
 const PROGRAM: &str = concat!(env!("CARGO_MANIFEST_DIR"), "/../target/bin/verdict");
-const ROWS: &[u8] = b"process,kind,file,offset,length,message\r\n0,write,1,0,10,\r\n0,commit,1,,,\r\n0,send,,,,7\r\n1,recv,,,,7\r\n";
+const ROWS: &[u8] =
+    b"process,kind,file,offset,length,message\r\n0,write,1,0,10,\r\n0,commit,1,,,\r\n0,send,,,,7\r\n1,recv,,,,7\r\n1,wait,,,,7\r\n";
 const LAST_ROW: &[u8] = b"1,read,1,5,10,\r\n";
 const FREE: &[u8] = b"model,verdict,earlier,later\r\nposix,free,,\r\ncommit,free,,\r\nsession,free,,\r\nmpiio,free,,\r\n";
-const RACES: &[u8] = b"model,verdict,earlier,later\r\nposix,free,,\r\ncommit,free,,\r\nsession,race,1,5\r\nmpiio,race,1,5\r\n";
+const RACES: &[u8] = b"model,verdict,earlier,later\r\nposix,free,,\r\ncommit,free,,\r\nsession,race,1,6\r\nmpiio,race,1,6\r\n";
 
 /// Runs the program on these two descriptors.
 fn run(stdin: Stdio, stdout: Stdio) -> Output {
@@ -104,7 +105,7 @@ fn a_pipe_that_is_closed_within_a_row_is_refused() {
         drop(pipe);
         let output = child.wait_with_output().expect("the program ends");
         let said = String::from_utf8_lossy(&output.stdout).into_owned();
-        assert!(said.starts_with("refused,") && said.ends_with(",5\r\n"), "{cut} bytes of the last row: {said:?}");
+        assert!(said.starts_with("refused,") && said.ends_with(",6\r\n"), "{cut} bytes of the last row: {said:?}");
     }
 }
 
@@ -165,7 +166,7 @@ fn interrupted_calls_are_made_again_and_failed_ones_told() {
             .expect("the program runs")
     };
     assert_eq!(run("", "").stdout, RACES, "no call fails");
-    for call in 1..=4 {
+    for call in 1..=5 {
         let interrupted = run(&format!("{call} 4"), &format!("{call} 4"));
         assert_eq!(interrupted.stdout, RACES, "call {call} is interrupted");
         assert_eq!(interrupted.stderr, b"", "call {call} is interrupted");

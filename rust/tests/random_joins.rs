@@ -7,12 +7,12 @@
 #[allow(dead_code)]
 mod naive;
 
-use kiqsaryn::{join, read_file, Checked, JoinSettings, Joined, Model, Refusal, Row, RECV, SEND};
+use kiqsaryn::{join, read_file, Checked, JoinSettings, Joined, Model, Refusal, Row, SEND, WAIT};
 use naive::joining::{self, mergings, rows_of, turn, Lent, Taken, Turn};
 use naive::order::{first_race, Order};
 use naive::pairs::{some_files, Files};
 use naive::random::{setting, Random};
-use naive::reading::{faults, Entry};
+use naive::reading::{faults, Entry, Fault, FAULTS};
 use naive::rows::numbers;
 use naive::texts::{damage_bytes, damage_records, header, record, text, Record};
 
@@ -128,12 +128,12 @@ fn case(r: &mut Random, seed: u64) -> Case {
 #[derive(Default, Debug)]
 struct Seen {
     /// By number and file.
-    refused: [[u64; 3]; 21],
+    refused: [[u64; 3]; 22],
     /// Files by themselves, by number.
     file_refused: [u64; 12],
     file_read: u64,
-    /// Joins refused with 12 for one fault alone: a message sent twice, not sent, received by its sender, received twice.
-    faults: [u64; 4],
+    /// Joins refused with 12 or 21 for one fault alone.
+    faults: [u64; FAULTS],
     /// Joins refused with 20: the first file waits and the second is at its end, the other way round, both wait.
     stuck: [u64; 3],
     free: [u64; 4],
@@ -166,7 +166,7 @@ fn first_taken(files: &[Vec<Entry>; 2], most: usize) -> Vec<Taken> {
 
 fn count_refused(case: &Case, number: u32, place: u32, file: u32, seen: &mut Seen) {
     seen.refused[number as usize][file as usize] += 1;
-    if number == 12 {
+    if number == 12 || number == 21 {
         let rows = rows_of(&first_taken(&entries(case), place as usize));
         let (row, before) = rows.split_last().expect("a row at the place");
         match faults(*row, before)[..] {
@@ -193,7 +193,7 @@ fn count_accepted(case: &Case, race: bool, seen: &mut Seen) {
     let in_order = taken.windows(2).all(|two| two[0].file <= two[1].file);
     let from_other = |t: &Taken| {
         let send = |s: &&Taken| s.entry.row.kind == SEND && s.entry.row.message == t.entry.row.message;
-        t.entry.row.kind == RECV && taken.iter().find(send).is_some_and(|s| s.file != t.file)
+        t.entry.row.kind == WAIT && taken.iter().find(send).is_some_and(|s| s.file != t.file)
     };
     seen.waited += u64::from(!in_order);
     seen.across += u64::from(taken.iter().any(from_other));
@@ -249,13 +249,14 @@ fn all_met(joins: u64, seen: &Seen) {
     assert!(seen.waited * 10 > joins && seen.across * 10 > joins, "many wait, and many have messages across: {seen:?}");
     assert!(seen.free.iter().chain(&seen.races).all(|n| n * 80 > joins), "many are free, and many race: {seen:?}");
     assert!(seen.empty * 4000 > joins, "some have no row: {seen:?}");
-    assert!([1, 2, 3, 6, 12, 19, 20].iter().all(|k| seen.refused[*k][0] * 400 > joins), "every refusal of a join is met: {seen:?}");
+    assert!([1, 2, 3, 6, 12, 19, 20, 21].iter().all(|k| seen.refused[*k][0] * 400 > joins), "every refusal of a join is met: {seen:?}");
     let of_files = (4..12).flat_map(|k| [seen.refused[k][1], seen.refused[k][2]]);
     assert!(of_files.into_iter().all(|n| n * 8000 > joins), "every refusal of either file is met: {seen:?}");
     assert!(seen.file_refused[1..].iter().all(|n| n * 1000 > joins) && seen.file_read > joins, "and of files by themselves: {seen:?}");
-    let [twice_sent, not_sent, own, twice_received] = seen.faults;
-    assert!([twice_sent, own, twice_received].iter().all(|n| n * 400 > joins), "every fault is met alone: {seen:?}");
-    assert!(not_sent == 0, "a message that is not sent makes a row wait: {seen:?}");
+    let mut alone = seen.faults;
+    let not_sent = std::mem::replace(&mut alone[Fault::NotSent as usize], joins);
+    assert!(alone.iter().all(|n| n * 800 > joins), "every other fault is met alone: {seen:?}");
+    assert!(not_sent == 0, "a wait whose message is not sent is not taken: {seen:?}");
     assert!(seen.stuck.iter().all(|n| n * 400 > joins), "either file waits, and both: {seen:?}");
 }
 
@@ -293,7 +294,7 @@ struct Merged {
     races: [u64; 4],
 }
 
-/// Whether a trace has a row that question 12 refuses.
+/// Whether a trace has a row that question 12 or 21 refuses.
 fn is_faulty(rows: &[Row]) -> bool {
     (0..rows.len()).any(|k| !faults(rows[k], &rows[..k]).is_empty())
 }
@@ -309,8 +310,8 @@ fn joined(texts: [&[u8]; 2], process_limit: u32) -> ([Joined; 4], Vec<u32>) {
     (answers, rows)
 }
 
-/// Fails unless the join is accepted exactly where some allowed merging passes question 12, and is then one of these mergings, all of which pass
-/// and have its verdict under every model.
+/// Fails unless the join is accepted exactly where some allowed merging passes the questions 12 and 21, and is then one of these mergings, all of
+/// which pass and have its verdict under every model.
 fn compare_mergings(files: &Files, process_limit: u32, told: &str, merged: &mut Merged) {
     let texts = files.each_ref().map(|rows| text(&mut Random::new(0), &rows.iter().map(|row| record(*row)).collect::<Vec<Record>>()));
     let (answers, rows) = joined([&texts[0], &texts[1]], process_limit);

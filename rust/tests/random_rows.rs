@@ -7,9 +7,9 @@
 #[allow(dead_code)]
 mod naive;
 
-use kiqsaryn::{check_trace, write, Checked, Refusal, Row, Settings, Written, HEADER_LINE, LONGEST_LINE, READ, RECV, SEND, WRITE};
+use kiqsaryn::{check_trace, write, Checked, Refusal, Row, Settings, Written, HEADER_LINE, LONGEST_LINE, READ, RECV, SEND, WAIT, WRITE};
 use naive::random::{setting, Random};
-use naive::reading::{self, faults};
+use naive::reading::{self, faults, FAULTS};
 use naive::rows::{numbers, some_rows};
 use naive::writing;
 
@@ -46,7 +46,7 @@ impl Case {
 
 /// A number of a row that is replaced by another, often by one that is just in or just out of a range.
 fn damage_number(r: &mut Random, row: &mut Row) {
-    let edges = [0, 1, 2, 5, 6, 7, 8, 9, 63, 64, 65, 65_535, 65_536, u32::MAX - 1, u32::MAX];
+    let edges = [0, 1, 2, 5, 6, 7, 8, 9, 10, 63, 64, 65, 65_535, 65_536, u32::MAX - 1, u32::MAX];
     let number = if r.once_in(4) { r.bits() as u32 } else { r.pick(&edges) };
     match r.below(6) {
         0 => row.process = number,
@@ -58,17 +58,25 @@ fn damage_number(r: &mut Random, row: &mut Row) {
     }
 }
 
-/// A recv more behind the row at a place: of its message by its own process, or of any message by any process.
-fn add_recv(r: &mut Random, rows: &mut Vec<Row>, k: usize) {
-    let of = rows[if r.once_in(2) { k } else { r.place(rows.len()) }];
-    let by = rows[if r.once_in(2) { k } else { r.place(rows.len()) }];
-    let to = k + 1 + r.place(rows.len() - k);
-    rows.insert(to, Row { process: by.process, kind: RECV, message: of.message, ..Row::default() });
+fn is_talk(row: Row) -> bool {
+    [SEND, RECV, WAIT].contains(&row.kind)
+}
+
+/// A send, recv or wait more behind the row at a place, right behind it or later: of its message by its own process, or of any message by any
+/// process, and now and then with a number replaced.
+fn add_talk(r: &mut Random, rows: &mut Vec<Row>, k: usize) {
+    let of = rows[if r.once_in(4) { r.place(rows.len()) } else { k }];
+    let by = rows[if r.once_in(3) { r.place(rows.len()) } else { k }];
+    let to = k + 1 + if r.once_in(2) { 0 } else { r.place(rows.len() - k) };
+    rows.insert(to, Row { process: by.process, kind: r.pick(&[SEND, RECV, WAIT]), message: of.message, ..Row::default() });
+    if r.once_in(4) {
+        damage_number(r, &mut rows[to]);
+    }
 }
 
 /// A row changed, or put elsewhere, doubled or dropped, so that messages stand out of order.
 fn damage_rows(r: &mut Random, rows: &mut Vec<Row>) {
-    let talks: Vec<usize> = (0..rows.len()).filter(|k| rows[*k].kind == SEND || rows[*k].kind == RECV).collect();
+    let talks: Vec<usize> = (0..rows.len()).filter(|k| is_talk(rows[*k])).collect();
     let k = if talks.is_empty() || r.once_in(2) { r.place(rows.len()) } else { r.pick(&talks) };
     match r.below(10) {
         0 => {
@@ -77,7 +85,7 @@ fn damage_rows(r: &mut Random, rows: &mut Vec<Row>) {
         }
         1 => rows.insert(r.place(rows.len() + 1), rows[k]),
         2 => drop(rows.remove(k)),
-        3 | 4 => add_recv(r, rows, k),
+        3 | 4 => add_talk(r, rows, k),
         5 if rows[k].kind == READ || rows[k].kind == WRITE => {
             rows[k].offset = r.bits() as u32;
             rows[k].length = (u32::MAX - rows[k].offset).saturating_add(r.below(3));
@@ -146,22 +154,22 @@ fn case(r: &mut Random, seed: u64) -> Case {
 
 // ---- Comparing
 
-/// Pairs of questions that one row can answer No, the first of them before any other. 11 and 12 are no such pair: a row that uses its range has
-/// no message.
-const PAIRS: [[u32; 2]; 5] = [[9, 10], [9, 11], [9, 12], [10, 11], [10, 12]];
+/// Pairs of questions that one row can answer No, the first of them before any other. 11 makes no such pair with 12 and 21, since a row that uses
+/// its range has no message, and 12 none with 21, since a wait passes 12.
+const PAIRS: [[u32; 2]; 7] = [[9, 10], [9, 11], [9, 12], [9, 21], [10, 11], [10, 12], [10, 21]];
 
 /// How often each answer came.
 #[derive(Default, Debug)]
 struct Seen {
-    refused: [u64; 19],
+    refused: [u64; 22],
     /// Rows refused with 9 for one number alone: file, offset, length, message.
     unused: [u64; 4],
     /// Rows refused with 10 for one number alone: process, file, message.
     past: [u64; 3],
-    /// Rows refused with 12 for one fault alone: a message sent twice, not sent, received by its sender, received twice.
-    faults: [u64; 4],
+    /// Rows refused with 12 or 21 for one fault alone.
+    faults: [u64; FAULTS],
     /// Rows whose first No is the first of a pair of questions, and that answer No to the second too.
-    pairs: [u64; 5],
+    pairs: [u64; PAIRS.len()],
     /// Texts that have a byte too few, and places past the slice's end.
     short: u64,
     far: u64,
@@ -200,7 +208,7 @@ fn count_refused(case: &Case, number: u32, place: u32, seen: &mut Seen) {
     for (seen, pair) in seen.pairs.iter_mut().zip(PAIRS) {
         *seen += u64::from(noes[0] == pair[0] && noes.contains(&pair[1]));
     }
-    let (range, message) = (row.kind == READ || row.kind == WRITE, row.kind == SEND || row.kind == RECV);
+    let (range, message) = (row.kind == READ || row.kind == WRITE, is_talk(row));
     let count = |seen: &mut [u64], k: Option<usize>| k.into_iter().for_each(|k| seen[k] += 1);
     match number {
         9 => {
@@ -208,7 +216,7 @@ fn count_refused(case: &Case, number: u32, place: u32, seen: &mut Seen) {
             count(&mut seen.unused, only(unused));
         }
         10 => count(&mut seen.past, only([row.process >= case.process_limit, row.file > 63, row.message > 65_535])),
-        12 => {
+        12 | 21 => {
             if let [fault] = faults(row, &rows[..earlier as usize])[..] {
                 seen.faults[fault as usize] += 1;
             }
@@ -291,7 +299,7 @@ fn random_rows() {
     if lists >= 20_000 {
         assert!(seen.written.iter().all(|n| n * 8 > lists), "many are written, with the header and without: {seen:?}");
         assert!(seen.exact * 8 > lists && seen.empty * 1000 > lists, "into what is just enough, and without a byte: {seen:?}");
-        assert!([1, 2, 3, 8, 9, 10, 11, 12, 18].iter().all(|k| seen.refused[*k] * 400 > lists), "every refusal is met: {seen:?}");
+        assert!([1, 2, 3, 8, 9, 10, 11, 12, 18, 21].iter().all(|k| seen.refused[*k] * 400 > lists), "every refusal is met: {seen:?}");
         assert!(seen.unused.iter().all(|n| n * 1000 > lists), "each unused number is met alone: {seen:?}");
         assert!(seen.past.iter().all(|n| n * 1000 > lists), "each number past its range is met alone: {seen:?}");
         assert!(seen.pairs.iter().all(|n| n * 4000 > lists), "each pair of questions is met in one row: {seen:?}");

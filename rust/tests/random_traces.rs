@@ -7,10 +7,10 @@
 #[allow(dead_code)]
 mod naive;
 
-use kiqsaryn::{check_trace, fill_counts, report, verdict, Checked, Model, Refusal, Row, Settings, Verdict};
+use kiqsaryn::{check_trace, fill_counts, report, verdict, Checked, Model, Refusal, Row, Settings, Verdict, KINDS, RECV, SEND, WAIT};
 use naive::order::{counts, first_race, Order};
 use naive::random::{setting, Random};
-use naive::reading;
+use naive::reading::{self, FAULTS};
 use naive::rows::{numbers, some_rows};
 use naive::texts::{damage_bytes, damage_records, header, record, text, Record};
 
@@ -105,15 +105,18 @@ fn case(r: &mut Random, seed: u64) -> Case {
 /// How often each answer came.
 #[derive(Default, Debug)]
 struct Seen {
-    refused: [u64; 18],
-    /// Traces refused with 12 for one fault alone: a message sent twice, not sent, received by its sender, received twice.
-    faults: [u64; 4],
+    refused: [u64; 22],
+    /// Traces refused with 12 or 21 for one fault alone.
+    faults: [u64; FAULTS],
     accepted: u64,
     free: [u64; 4],
     races: [u64; 4],
     late_races: u64,
     /// Traces with different verdicts under two models.
     split: u64,
+    /// Traces with a recv before its send, and traces whose verdict under some model would be another without their waits.
+    posted_early: u64,
+    decided_by_waits: u64,
     wild: [u64; 2],
 }
 
@@ -178,6 +181,16 @@ fn judge(r: &mut Random, told: &dyn Fn() -> String, rows: &[Row], lent: &[u32], 
     assert!(got == fill, "counts of a refused verdict\n{}", told());
 }
 
+/// Counts what the messages of an accepted trace do.
+fn count_messages(rows: &[Row], seen: &mut Seen) {
+    let early = |k: usize| rows[k].kind == RECV && rows[k..].iter().any(|r| r.kind == SEND && r.message == rows[k].message);
+    seen.posted_early += u64::from((0..rows.len()).any(early));
+    let without: Vec<Row> = rows.iter().map(|r| Row { kind: if r.kind == WAIT { RECV } else { r.kind }, ..*r }).collect();
+    let (order, other) = (Order::of(rows), Order::of(&without));
+    let differs = |model: u32| first_race(rows, &order, model) != first_race(rows, &other, model);
+    seen.decided_by_waits += u64::from(Model::ALL.map(Model::number).into_iter().any(differs));
+}
+
 fn compare(r: &mut Random, case: &mut Case, seen: &mut Seen) {
     let told = case.told();
     let (rows_before, counts_before) = (case.rows.clone(), case.counts.clone());
@@ -190,6 +203,7 @@ fn compare(r: &mut Random, case: &mut Case, seen: &mut Seen) {
             assert!(case.rows == padded(numbers(&rows), rows_len), "rows {:?}\n{told}", case.rows);
             assert!(case.counts.iter().all(|c| *c == 0), "counts {:?}\n{told}", case.counts);
             seen.accepted += 1;
+            count_messages(&rows, seen);
             judge(r, &|| told.clone(), &rows, &case.rows, case.s.process_limit, counts_len, seen);
         }
         Err((number, place)) => {
@@ -200,7 +214,7 @@ fn compare(r: &mut Random, case: &mut Case, seen: &mut Seen) {
             assert!(case.rows == rows, "rows {:?}\n{told}", case.rows);
             assert!(case.counts == counts, "counts {:?}\n{told}", case.counts);
             seen.refused[number as usize] += 1;
-            if number == 12 {
+            if number == 12 || number == 21 {
                 match reading::faults_at(&case.text, case.s, place)[..] {
                     [fault] => seen.faults[fault as usize] += 1,
                     [] => panic!("no fault\n{told}"),
@@ -215,9 +229,9 @@ fn compare(r: &mut Random, case: &mut Case, seen: &mut Seen) {
 /// Messages so far apart share a chain of sends when counts are filled.
 const SAME_CHAIN: u32 = 4096;
 
-/// Rows that no text gives: any kinds, processes past the limit, messages sent twice and received early, ranges past the end.
+/// Rows that no text gives: any kinds, processes past the limit, messages sent twice and waited for early, ranges past the end.
 fn wild_rows(r: &mut Random, n: u32, process_limit: u32) -> Vec<Row> {
-    let kinds = r.pick(&[8, 10]);
+    let kinds = r.pick(&[KINDS.len() as u32, KINDS.len() as u32 + 2]);
     let processes = if r.once_in(2) { process_limit.max(1) } else { process_limit + 2 };
     let far = r.pick(&[u32::MAX, 6]);
     let mut number = |most: u32| {
@@ -288,10 +302,12 @@ fn random_traces() {
     println!("{traces} traces, seed {seed}: {seen:?}");
     if traces >= 20_000 {
         assert!(seen.accepted * 3 > traces, "a third is accepted: {seen:?}");
-        assert!(seen.refused[1..=12].iter().all(|n| *n >= 20), "every refusal is met: {seen:?}");
+        assert!((1..=12).chain([21]).all(|k| seen.refused[k] >= 20), "every refusal is met: {seen:?}");
         assert!(seen.faults.iter().all(|n| *n * 400 >= traces), "every fault of a message is met alone: {seen:?}");
         assert!(seen.free.iter().all(|n| *n >= 500), "many are free: {seen:?}");
         assert!(seen.races.iter().all(|n| *n >= 500) && seen.late_races >= 500, "many race: {seen:?}");
+        assert!(seen.posted_early * 8 > traces, "many have a recv before its send: {seen:?}");
+        assert!(seen.decided_by_waits * 20 > traces, "waits decide many verdicts: {seen:?}");
         assert!(seen.wild.iter().all(|n| *n >= 1000), "many wild rows are judged, and many refused: {seen:?}");
     }
 }

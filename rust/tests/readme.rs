@@ -4,7 +4,7 @@
 mod running;
 
 use running::{err, feed, out, EXE};
-use std::path::Path;
+use std::path::{Path, PathBuf};
 use std::process::Command;
 
 const SHOWN: &str = "    rust/target/release/kiqsaryn ";
@@ -17,10 +17,40 @@ fn block(lines: &[&str]) -> String {
     text.trim_end().to_string() + "\n"
 }
 
+fn root() -> PathBuf {
+    Path::new(env!("CARGO_MANIFEST_DIR")).join("..")
+}
+
+fn readme() -> String {
+    std::fs::read_to_string(root().join("README.md")).expect("the file")
+}
+
+/// The block behind the only line that ends so.
+fn block_behind(end: &str) -> String {
+    let text = readme();
+    let lines: Vec<&str> = text.lines().collect();
+    let at: Vec<usize> = (0..lines.len()).filter(|k| lines[*k].ends_with(end)).collect();
+    assert_eq!(at.len(), 1, "lines that end in {end}");
+    block(&lines[at[0] + 1..])
+}
+
+/// What the program `verdict` prints of the first example stands beside the example as well, and the program's own test compares it.
+#[test]
+fn the_first_verdicts_are_those_beside_the_example() {
+    let beside = std::fs::read_to_string(root().join("examples/commit_missing.out")).expect("the output beside it");
+    assert_eq!(block_behind("bytes 5 to 14. It prints"), beside.replace("\r\n", "\n"));
+}
+
+#[test]
+fn the_trace_by_hand_is_cleaned_as_shown() {
+    let by_hand = block_behind("no line end behind its last record:").trim_end().replace('\n', "\r\n");
+    let o = feed(Command::new(EXE).args(["write", "-", "--header", "no", "--out-header", "yes"]), by_hand.as_bytes());
+    assert_eq!(out(&o), block_behind("writes to `clean.csv`").replace('\n', "\r\n"), "{}", err(&o));
+}
+
 #[test]
 fn every_command_prints_what_stands_behind_it() {
-    let root = Path::new(env!("CARGO_MANIFEST_DIR")).join("..");
-    let text = std::fs::read_to_string(root.join("README.md")).expect("the file");
+    let text = readme();
     let lines: Vec<&str> = text.lines().collect();
     let mut run = Vec::new();
     for (k, line) in lines.iter().enumerate() {
@@ -34,7 +64,7 @@ fn every_command_prints_what_stands_behind_it() {
         }
         let at = rest.iter().position(|l| *l == behind).expect("the line was found");
         let want = block(&rest[at + 1..]);
-        let o = feed(Command::new(EXE).args(args.split(' ')).current_dir(&root), b"");
+        let o = feed(Command::new(EXE).args(args.split(' ')).current_dir(root()), b"");
         let told = out(&o);
         let same = if behind == "prints" { told == want } else { told.ends_with(&format!("\n\n{want}")) };
         assert!(same && err(&o).is_empty(), "{args} prints\n{told}\nand not\n{want}");

@@ -7,7 +7,7 @@
 #include <stdlib.h>
 #include <string.h>
 
-enum { STACK = 1 << 20, PAINT = 0xA5, ROWS = 4096, PROCESSES = 64, SPACE = 64, MAPS = 4 * SPACE * (PROCESSES + 1), TEXT = 1 << 16 };
+enum { STACK = 1 << 20, PAINT = 0xA5, ROWS = 4096, PROCESSES = 64, SPACE = 64, MAPS = 4 * SPACE * (PROCESSES + 1), TEXT = 1 << 16, SECOND = 5 };
 
 static uint8_t text[TEXT], out[TEXT];
 static size_t text_len;
@@ -16,8 +16,8 @@ static uint16_t counts[ROWS * PROCESSES];
 static uint64_t parts[3 * ROWS];
 static uint32_t n;
 
-/* A second file for the trace, whose processes have no rows there. */
-static const uint8_t second[] = "63,write,1,0,9,\r\n63,send,,,,65535\r\n62,recv,,,,65535\r\n62,read,1,0,9,\r\n";
+/* A second file for the trace, with SECOND rows of processes that have none there. */
+static const uint8_t second[] = "63,write,1,0,9,\r\n63,send,,,,65535\r\n62,recv,,,,65535\r\n62,wait,,,,65535\r\n62,read,1,0,9,\r\n";
 
 /* A call that refuses goes less deep than one that does its work. */
 static void expect(int works) {
@@ -53,7 +53,7 @@ static void read_file(void) { expect(kiqsaryn_read_file(text, text_len, 1, ROWS,
 static void join(void) {
     uint64_t answer = kiqsaryn_join(text, text_len, 1, second, sizeof second - 1, 0, 1, ROWS, PROCESSES, rows, 6 * ROWS, counts,
                                     ROWS * PROCESSES, parts, 3 * ROWS);
-    expect(kiqsaryn_joined_rows(answer) == n + 4);
+    expect(kiqsaryn_joined_rows(answer) == n + SECOND);
 }
 
 static void make(void) { expect(kiqsaryn_make(1, PROCESSES, 1, SPACE, maps, MAPS) == 0); }

@@ -20,12 +20,13 @@ fn bound(call: &str) -> usize {
     }
 }
 
-/// A trace of all kinds of rows whose replay is accepted.
+/// A trace with data rows, commits and messages, free under commit, whose replay is accepted.
 fn trace() -> String {
     let mut text = String::from("process,kind,file,offset,length,message\r\n");
     for i in 0..40 {
         let (p, q, at) = (i % 4, (i + 1) % 4, 10 * i);
-        text += &format!("{p},write,1,{at},9,\r\n{p},commit,1,,,\r\n{p},send,,,,{i}\r\n{q},recv,,,,{i}\r\n{q},read,1,{at},9,\r\n");
+        text += &format!("{p},write,1,{at},9,\r\n{p},commit,1,,,\r\n{p},send,,,,{i}\r\n");
+        text += &format!("{q},recv,,,,{i}\r\n{q},wait,,,,{i}\r\n{q},read,1,{at},9,\r\n");
     }
     text
 }

@@ -1,87 +1,260 @@
-//! Every vector of `vectors/traces.txt` and `vectors/aimed.txt`, call by call and in one call: the answer and both slices whole.
+//! Every vector of `vectors/traces.txt` and `vectors/aimed.txt`, call by call and in one call: the answer and both slices whole, by the library
+//! and by the naive version. Then what a recv and a wait mean, and calls whose numbers do not fit.
 
+#[allow(dead_code)]
+mod naive;
 #[allow(dead_code)]
 mod vectors;
 
-use kiqsaryn::{check_trace, fill_counts, judge, verdict, Checked, Judged, Refusal, Settings, Verdict};
+use kiqsaryn::{check_trace, fill_counts, judge, verdict, Checked, Judged, Model, Refusal, Settings, Verdict};
+use naive::order::{counts, first_race, Order};
+use naive::reading::check;
+use naive::rows::numbers;
+use vectors::Line;
+
+// ---- Vectors
+
+/// A call with the numbers of a vector, what it answers, and what it leaves of the slices for rows and counts.
+struct Call {
+    line: String,
+    s: Settings,
+    text: Vec<u8>,
+    fill: u32,
+    want: Judged,
+    rows: Vec<u32>,
+    counts: Vec<u16>,
+}
 
 /// A slice that holds these numbers, then 0.
-fn padded(front: &[u32], len: usize) -> Vec<u32> {
-    let mut all = front.to_vec();
-    all.resize(len, 0);
+fn padded<T: TryFrom<u32> + Clone + Default>(front: &[u32], len: usize) -> Vec<T> {
+    let mut all: Vec<T> = front.iter().map(|x| T::try_from(*x).unwrap_or_else(|_| panic!("{x} is too large"))).collect();
+    all.resize(len, T::default());
     all
 }
 
-#[test]
-fn every_trace_vector() {
-    every_vector("traces.txt");
+/// The answer of a line `A`.
+fn answer_of(line: &Line) -> Judged {
+    let v = |k: usize| line.number(k);
+    match line.words[..] {
+        ["A", "refused", _, _] => Judged::Refused { refusal: Refusal::from_number(v(2)).expect("a refusal"), place: v(3) },
+        ["A", "accepted", _, "free"] => Judged::Free { rows: v(2) },
+        ["A", "accepted", _, "race", _, _] => Judged::Race { rows: v(2), earlier: v(4), later: v(5) },
+        _ => panic!("{line}: no answer"),
+    }
 }
 
-#[test]
-fn every_aimed_vector() {
-    every_vector("aimed.txt");
+impl Call {
+    /// The call of a line `T` and of the lines behind it.
+    fn new<'a>(line: Line, mut lines: impl Iterator<Item = Line<'a>>) -> Call {
+        line.kind(&[("T", 11)]);
+        let n = |k: usize| line.number(k);
+        let byte_limit = if line.words[9] == "-" { usize::MAX } else { n(9) as usize };
+        let s = Settings { header: n(2), model: n(3), row_limit: n(4), process_limit: n(5), byte_limit };
+        let (rows_len, counts_len, fill) = (n(6) as usize, n(7) as usize, n(8));
+        let want = answer_of(&lines.next().expect("an answer"));
+        let mut numbers = |kind: &str| lines.next().expect("numbers").numbers(kind);
+        let (rows, counts) = match want {
+            Judged::Refused { refusal, .. } if refusal.number() <= 3 => (vec![fill; rows_len], vec![fill as u16; counts_len]),
+            Judged::Refused { .. } => (vec![0; rows_len], vec![0; counts_len]),
+            _ => (padded(&numbers("R"), rows_len), padded(&numbers("C"), counts_len)),
+        };
+        let (line, text) = (line.to_string(), line.bytes(10));
+        Call { line, s, text, fill, want, rows, counts }
+    }
+
+    /// The slices before the call.
+    fn lent(&self) -> (Vec<u32>, Vec<u16>) {
+        (vec![self.fill; self.rows.len()], vec![self.fill as u16; self.counts.len()])
+    }
+
+    /// The library in one call.
+    fn run_whole(&self) {
+        let (mut rows, mut counts) = self.lent();
+        assert_eq!(judge(&self.text, self.s, &mut rows, &mut counts), self.want, "the whole call on {}", self.line);
+        assert_eq!(rows, self.rows, "rows of the whole call on {}", self.line);
+        assert_eq!(counts, self.counts, "counts of the whole call on {}", self.line);
+    }
+
+    /// The library call by call: the rows, their counts and the verdict.
+    fn run_parts(&self) {
+        let (mut rows, mut counts) = self.lent();
+        let got = check_trace(&self.text, self.s, &mut rows, &mut counts);
+        assert_eq!(rows, self.rows, "rows of {}", self.line);
+        let (n, want) = match self.want {
+            Judged::Refused { refusal, place } => {
+                assert_eq!(got, Checked::Refused { refusal, place }, "{}", self.line);
+                assert_eq!(counts, self.counts, "counts of {}", self.line);
+                return;
+            }
+            Judged::Free { rows } => (rows, Verdict::Free),
+            Judged::Race { rows, earlier, later } => (rows, Verdict::Race { earlier, later }),
+        };
+        assert_eq!(got, Checked::Accepted(n), "{}", self.line);
+        assert!(counts.iter().all(|x| *x == 0), "counts of {} are cleared", self.line);
+        assert!(fill_counts(&rows, n, self.s.process_limit, &mut counts).is_ok(), "counts of {}", self.line);
+        assert_eq!(counts, self.counts, "counts of {}", self.line);
+        assert_eq!(verdict(&rows, n, self.s.process_limit, self.s.model, &mut counts), want, "verdict of {}", self.line);
+        assert_eq!(counts, self.counts, "counts of the verdict of {}", self.line);
+    }
+
+    /// The naive version.
+    fn run_naive(&self) {
+        let rows = match check(&self.text, self.s, self.rows.len(), self.counts.len()) {
+            Ok(rows) => rows,
+            Err((number, place)) => {
+                let refusal = Refusal::from_number(number).expect("a refusal");
+                assert_eq!(Judged::Refused { refusal, place }, self.want, "the naive version on {}", self.line);
+                return;
+            }
+        };
+        let (n, order) = (rows.len() as u32, Order::of(&rows));
+        let judged = match first_race(&rows, &order, self.s.model) {
+            None => Judged::Free { rows: n },
+            Some((earlier, later)) => Judged::Race { rows: n, earlier, later },
+        };
+        assert_eq!(judged, self.want, "the naive version on {}", self.line);
+        let (numbers, counts) = (numbers(&rows), counts(&rows, &order, self.s.process_limit));
+        assert_eq!(numbers, self.rows[..numbers.len()], "the naive version's rows of {}", self.line);
+        assert_eq!(counts, self.counts[..counts.len()], "the naive version's counts of {}", self.line);
+    }
 }
 
-fn every_vector(file: &str) {
+/// Runs every vector of a file.
+fn every_vector(file: &str, run_one: fn(&Call)) {
     let text = vectors::text(file);
     let mut lines = vectors::lines(&text);
     let mut run = 0;
     while let Some(line) = lines.next() {
-        line.kind(&[("T", 11)]);
-        let w = &line.words;
-        let n = |k: usize| line.number(k);
-        let fill = n(8);
-        let settings = Settings {
-            header: n(2),
-            model: n(3),
-            row_limit: n(4),
-            process_limit: n(5),
-            byte_limit: if w[9] == "-" { usize::MAX } else { n(9) as usize },
-        };
-        let (rows_len, counts_len) = (n(6) as usize, n(7) as usize);
-        let mut rows = vec![fill; rows_len];
-        let mut counts = vec![fill as u16; counts_len];
-        let bytes = line.bytes(10);
-        let got = check_trace(&bytes, settings, &mut rows, &mut counts);
-        let mut whole_rows = vec![fill; rows_len];
-        let mut whole_counts = vec![fill as u16; counts_len];
-        let whole = judge(&bytes, settings, &mut whole_rows, &mut whole_counts);
-
-        let answer = lines.next().expect("an answer");
-        let a = &answer.words;
-        let v = |k: usize| answer.number(k);
-        let known = matches!(a[..], ["A", "refused", _, _] | ["A", "accepted", _, "free"] | ["A", "accepted", _, "race", _, _]);
-        assert!(known, "{answer}: no answer");
-        if a[1] == "refused" {
-            let (number, place) = (v(2), v(3));
-            let refusal = Refusal::from_number(number).expect("a refusal");
-            assert_eq!(got, Checked::Refused { refusal, place }, "vector {}", w[1]);
-            assert_eq!(whole, Judged::Refused { refusal, place }, "the whole call on vector {}", w[1]);
-            let left = if number <= 3 { fill } else { 0 };
-            assert!(rows.iter().all(|x| *x == left), "rows of vector {}", w[1]);
-            assert!(counts.iter().all(|x| u32::from(*x) == left), "counts of vector {}", w[1]);
-        } else {
-            assert_eq!(got, Checked::Accepted(v(2)), "vector {}", w[1]);
-            assert_eq!(rows, padded(&lines.next().expect("the rows").numbers("R"), rows_len), "rows of vector {}", w[1]);
-            assert!(counts.iter().all(|x| *x == 0), "counts of vector {} are cleared", w[1]);
-            assert!(fill_counts(&rows, v(2), settings.process_limit, &mut counts).is_ok(), "counts of vector {}", w[1]);
-            let want = if a[3] == "free" { Verdict::Free } else { Verdict::Race { earlier: v(4), later: v(5) } };
-            let judged = verdict(&rows, v(2), settings.process_limit, settings.model, &mut counts);
-            assert_eq!(judged, want, "verdict of vector {}", w[1]);
-            let want = match want {
-                Verdict::Race { earlier, later } => Judged::Race { rows: v(2), earlier, later },
-                _ => Judged::Free { rows: v(2) },
-            };
-            assert_eq!(whole, want, "the whole call on vector {}", w[1]);
-            let wide: Vec<u32> = counts.iter().map(|x| u32::from(*x)).collect();
-            assert_eq!(wide, padded(&lines.next().expect("the counts").numbers("C"), counts_len), "counts of vector {}", w[1]);
-        }
-        assert_eq!(whole_rows, rows, "rows of the whole call on vector {}", w[1]);
-        assert_eq!(whole_counts, counts, "counts of the whole call on vector {}", w[1]);
+        run_one(&Call::new(line, &mut lines));
         run += 1;
     }
     vectors::all_run(file, &text, &["T"], run);
 }
+
+#[test]
+fn every_trace_vector() {
+    every_vector("traces.txt", Call::run_parts);
+    every_vector("traces.txt", Call::run_whole);
+}
+
+#[test]
+fn every_aimed_vector() {
+    every_vector("aimed.txt", Call::run_parts);
+    every_vector("aimed.txt", Call::run_whole);
+}
+
+#[test]
+fn every_vector_through_the_naive_version() {
+    every_vector("traces.txt", Call::run_naive);
+    every_vector("aimed.txt", Call::run_naive);
+}
+
+// ---- What a recv and a wait mean
+
+const WRITE: &str = "0,write,1,0,10,\r\n";
+const COMMIT: &str = "0,commit,1,,,\r\n";
+const SEND: &str = "0,send,,,,7\r\n";
+const RECV: &str = "1,recv,,,,7\r\n";
+const WAIT: &str = "1,wait,,,,7\r\n";
+const READ: &str = "1,read,1,5,10,\r\n";
+
+/// Settings for a trace of at most eight rows without a header.
+fn settings(model: Model) -> Settings {
+    Settings { header: 0, model: model.number(), row_limit: 8, process_limit: 3, byte_limit: usize::MAX }
+}
+
+/// The first race of rows under each model.
+fn races(rows: &[&str]) -> [Option<(u32, u32)>; 4] {
+    Model::ALL.map(|model| match judge(rows.concat().as_bytes(), settings(model), &mut [7; 48], &mut [7; 24]) {
+        Judged::Free { .. } => None,
+        Judged::Race { earlier, later, .. } => Some((earlier, later)),
+        refused => panic!("{refused:?} of {rows:?}"),
+    })
+}
+
+/// The order runs from the send to the wait. Without a wait before the read, nothing orders the read behind the write.
+#[test]
+fn a_recv_gives_no_order_by_itself() {
+    let all = |race: (u32, u32)| [Some(race); 4];
+    let published_by_commit = |race: (u32, u32)| [None, None, Some(race), Some(race)];
+    assert_eq!(races(&[WRITE, COMMIT, SEND, RECV, READ]), all((1, 5)));
+    assert_eq!(races(&[WRITE, COMMIT, SEND, RECV, WAIT, READ]), published_by_commit((1, 6)));
+    assert_eq!(races(&[WRITE, COMMIT, SEND, RECV, READ, WAIT]), all((1, 5)));
+    // the receive is posted before its message is sent
+    assert_eq!(races(&[RECV, WRITE, COMMIT, SEND, READ]), all((2, 5)));
+    assert_eq!(races(&[RECV, WRITE, COMMIT, SEND, WAIT, READ]), published_by_commit((2, 6)));
+    assert_eq!(races(&[RECV, SEND, WRITE, COMMIT, WAIT, READ]), all((3, 6)));
+}
+
+#[test]
+fn the_counts_of_a_recv_and_of_its_wait() {
+    let (mut rows, mut counts) = ([7; 48], [7; 24]);
+    let text = [WRITE, SEND, RECV, WAIT].concat();
+    assert_eq!(judge(text.as_bytes(), settings(Model::Posix), &mut rows, &mut counts), Judged::Free { rows: 4 });
+    assert_eq!(counts[..12], [[1, 0, 0], [2, 0, 0], [0, 1, 0], [2, 2, 0]].concat());
+    assert_eq!(rows[18..24], [1, 8, 0, 0, 0, 7]);
+}
+
+/// The text of rows of messages, each by its process, its kind's word and its message.
+fn talks(rows: &[(u32, &str, u32)]) -> String {
+    rows.iter().map(|(process, word, message)| format!("{process},{word},,,,{message}\r\n")).collect()
+}
+
+#[test]
+fn a_receive_may_be_posted_early_and_need_not_be_over() {
+    for rows in [
+        &[(1, "recv", 7), (0, "send", 7), (1, "wait", 7)][..], // posted before it is sent
+        &[(1, "recv", 7)],                                     // never sent
+        &[(0, "send", 7), (1, "recv", 7)],                     // never waited for
+        &[(1, "recv", 7), (0, "send", 7)],
+        &[(1, "recv", 7), (1, "recv", 8), (0, "send", 8), (0, "send", 7), (1, "wait", 7), (1, "wait", 8)],
+        &[(0, "recv", 7), (1, "recv", 8), (0, "send", 8), (1, "send", 7), (1, "wait", 8), (0, "wait", 7)],
+    ] {
+        let (mut lent, mut counts) = ([7; 48], [7; 24]);
+        let got = check_trace(talks(rows).as_bytes(), settings(Model::Posix), &mut lent, &mut counts);
+        assert_eq!(got, Checked::Accepted(rows.len() as u32), "{rows:?}");
+    }
+}
+
+/// Each way in which a message can stand out of order is refused at the last row: with 12 at a send or recv, and with 21 at a wait.
+#[test]
+fn messages_out_of_order_are_refused() {
+    for (rows, number) in [
+        (&[(0, "send", 7), (1, "send", 7)][..], 12),                             // sent twice
+        (&[(1, "recv", 7), (1, "send", 7)], 12),                                 // sent by the process that has posted it
+        (&[(1, "recv", 7), (2, "recv", 7)], 12),                                 // posted twice
+        (&[(0, "send", 7), (0, "recv", 7)], 12),                                 // posted by its sender
+        (&[(0, "send", 7), (1, "wait", 7)], 21),                                 // not posted
+        (&[(0, "send", 7), (2, "recv", 7), (1, "wait", 7)], 21),                 // posted by another process
+        (&[(0, "send", 7), (1, "recv", 8), (1, "wait", 7)], 21),                 // another message is posted
+        (&[(1, "recv", 7), (1, "wait", 7)], 21),                                 // not sent
+        (&[(1, "recv", 7), (0, "send", 8), (1, "wait", 7)], 21),                 // another message is sent
+        (&[(0, "send", 7), (1, "recv", 7), (1, "wait", 7), (1, "wait", 7)], 21), // waited for twice
+        (&[(1, "wait", 7)], 21),                                                 // neither posted nor sent
+        (&[(0, "send", 7), (1, "recv", 7), (1, "wait", 7), (0, "send", 7)], 12), // sent again
+        (&[(0, "send", 7), (1, "recv", 7), (1, "wait", 7), (1, "recv", 7)], 12), // posted again
+    ] {
+        let (text, place) = (talks(rows), rows.len() as u32);
+        let refusal = Refusal::from_number(number).expect("a refusal");
+        let (mut lent, mut counts) = ([7; 48], [7; 24]);
+        assert_eq!(
+            check_trace(text.as_bytes(), settings(Model::Posix), &mut lent, &mut counts),
+            Checked::Refused { refusal, place },
+            "{text}"
+        );
+        assert!(lent == [0; 48] && counts == [0; 24], "{text}");
+        assert_eq!(
+            judge(text.as_bytes(), settings(Model::Commit), &mut [7; 48], &mut [7; 24]),
+            Judged::Refused { refusal, place },
+            "{text}"
+        );
+        let before = talks(&rows[..rows.len() - 1]);
+        let got = check_trace(before.as_bytes(), settings(Model::Posix), &mut lent, &mut counts);
+        assert_eq!(got, Checked::Accepted(place - 1), "the rows before, {text}");
+    }
+}
+
+// ---- Calls whose numbers do not fit
 
 #[test]
 fn counts_of_wild_arguments_are_refused() {

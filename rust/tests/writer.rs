@@ -1,10 +1,13 @@
-//! Every vector of `vectors/writer.txt`: the answer, and every byte of the lent slice. Then calls whose numbers do not fit the slices, and the
-//! longest lines.
+//! Every vector of `vectors/writer.txt`: the answer, and every byte of the lent slice, by the library and by the naive version. Then calls whose
+//! numbers do not fit the slices, messages in order and out of order, and the longest lines.
 
+#[allow(dead_code)]
+mod naive;
 #[allow(dead_code)]
 mod vectors;
 
-use kiqsaryn::{check_trace, write, Checked, Refusal, Settings, Written, HEADER_LINE, LONGEST_LINE, RECV, ROWS, SEND, WRITE};
+use kiqsaryn::{check_trace, write, Checked, Refusal, Settings, Written, HEADER_LINE, KINDS, LONGEST_LINE, RECV, ROWS, SEND, WAIT, WRITE};
+use naive::writing;
 
 /// The words of a line `W` before its rows.
 const BEFORE_ROWS: usize = 8;
@@ -20,8 +23,11 @@ fn refused(number: u32, place: u32) -> Written {
     Written::Refused { refusal: Refusal::from_number(number).expect("a refusal"), place }
 }
 
-#[test]
-fn every_writer_vector() {
+/// Writes rows as the library does.
+type Write = fn(&[u32], u32, u32, u32, &mut [u8], usize) -> Written;
+
+/// Runs every vector through one version.
+fn every_vector(version: Write) {
     let text = vectors::text("writer.txt");
     let mut lines = vectors::lines(&text);
     let mut run = 0;
@@ -31,7 +37,7 @@ fn every_writer_vector() {
         let (count, header, process_limit, place, out_len, fill) = (n(2), n(3), n(4), n(5) as usize, n(6) as usize, n(7) as u8);
         let rows = line.numbers_from(BEFORE_ROWS);
         let mut out = vec![fill; out_len];
-        let got = write(&rows, count, header, process_limit, &mut out, place);
+        let got = version(&rows, count, header, process_limit, &mut out, place);
 
         let answer = lines.next().expect("an answer");
         let (want, left) = match answer.words[..] {
@@ -46,9 +52,22 @@ fn every_writer_vector() {
     vectors::all_run("writer.txt", &text, &["W"], run);
 }
 
+#[test]
+fn every_writer_vector() {
+    every_vector(write);
+}
+
+#[test]
+fn every_writer_vector_through_the_naive_version() {
+    every_vector(|rows, n, header, process_limit, out, place| match writing::write(rows, n, header, process_limit, out, place) {
+        Ok(length) => Written::Length(length),
+        Err((number, place)) => refused(number, place),
+    });
+}
+
 // ---- Calls whose numbers do not fit
 
-/// Two rows that are written: process 5 sends message 9, and process 6 receives it.
+/// Two rows that are written: process 5 sends message 9, and process 6 posts a receive for it.
 const TWO: [u32; 12] = [5, SEND, 0, 0, 0, 9, 6, RECV, 0, 0, 0, 9];
 const TWO_TEXT: &[u8] = b"5,send,,,,9\r\n6,recv,,,,9\r\n";
 const ONE_TEXT: &[u8] = b"5,send,,,,9\r\n";
@@ -134,23 +153,66 @@ fn rows_behind_the_count_are_not_looked_at() {
     }
 }
 
-/// Each way in which a message can stand out of order is refused at its row.
+/// Six numbers for each row of a message: its process, its kind and its message.
+fn talks(rows: &[(u32, u32, u32)]) -> Vec<u32> {
+    rows.iter().flat_map(|(process, kind, message)| [*process, *kind, 0, 0, 0, *message]).collect()
+}
+
+/// Rows of messages in each order that is accepted are written, and read again as the same rows.
+#[test]
+fn messages_in_order_are_written() {
+    for rows in [
+        &[(0, SEND, 7), (1, RECV, 7), (1, WAIT, 7)][..],
+        &[(1, RECV, 7), (0, SEND, 7), (1, WAIT, 7)], // posted before it is sent
+        &[(1, RECV, 7), (0, SEND, 7)],               // never waited for
+        &[(1, RECV, 7), (0, SEND, 8)],               // never sent
+    ] {
+        let n = rows.len();
+        let text: String =
+            rows.iter().map(|(process, kind, message)| format!("{process},{},,,,{message}\r\n", KINDS[*kind as usize])).collect();
+        let mut out = [7; OUT];
+        assert_eq!(write(&talks(rows), n as u32, 0, 2, &mut out, 3), Written::Length(text.len()), "{rows:?}");
+        assert!(out[..] == laid(text.as_bytes(), 3, OUT, 7), "{rows:?}");
+        let (mut read, mut counts) = (vec![9; 6 * n], vec![9; 2 * n]);
+        let s = Settings { header: 0, model: 0, row_limit: n as u32, process_limit: 2, byte_limit: usize::MAX };
+        assert_eq!(check_trace(text.as_bytes(), s, &mut read, &mut counts), Checked::Accepted(n as u32), "{rows:?}");
+        assert_eq!(read, talks(rows));
+    }
+}
+
+/// Each way in which a message can stand out of order is refused at its row: with 12 at a send or recv, and with 21 at a wait.
 #[test]
 fn messages_out_of_order_are_refused() {
-    for (talks, place) in [
-        (&[(0, SEND, 7), (1, SEND, 7)][..], 2),           // sent twice
-        (&[(0, SEND, 7), (1, RECV, 7), (0, SEND, 7)], 3), // sent again once it is received
-        (&[(1, RECV, 7), (0, SEND, 7)], 1),               // received before it is sent
-        (&[(0, SEND, 7), (1, RECV, 8)], 2),               // never sent
-        (&[(0, SEND, 7), (0, RECV, 7)], 2),               // received by its sender
-        (&[(0, SEND, 7), (1, RECV, 7), (2, RECV, 7)], 3), // received twice, by two processes
-        (&[(0, SEND, 7), (1, RECV, 7), (1, RECV, 7)], 3), // received twice by one process
+    for (rows, number) in [
+        (&[(0, SEND, 7), (1, SEND, 7)][..], 12),                         // sent twice
+        (&[(0, SEND, 7), (1, RECV, 7), (0, SEND, 7)], 12),               // sent again once it is posted
+        (&[(1, RECV, 7), (1, SEND, 7)], 12),                             // sent by the process that has posted it
+        (&[(0, SEND, 7), (0, RECV, 7)], 12),                             // posted by its sender
+        (&[(0, SEND, 7), (1, RECV, 7), (2, RECV, 7)], 12),               // posted twice, by two processes
+        (&[(1, RECV, 7), (1, RECV, 7)], 12),                             // posted twice by one process
+        (&[(0, SEND, 7), (1, RECV, 7), (1, WAIT, 7), (1, RECV, 7)], 12), // posted again once it is waited for
+        (&[(0, SEND, 7), (1, RECV, 8), (1, WAIT, 7)], 21),               // not posted
+        (&[(0, SEND, 7), (2, RECV, 7), (1, WAIT, 7)], 21),               // posted by another process
+        (&[(1, RECV, 7), (0, SEND, 8), (1, WAIT, 7)], 21),               // not sent
+        (&[(0, SEND, 7), (1, RECV, 7), (1, WAIT, 7), (1, WAIT, 7)], 21), // waited for twice
+        (&[(0, SEND, 7), (1, RECV, 7), (1, WAIT, 7), (0, WAIT, 7)], 21), // waited for again by another process
     ] {
-        let rows: Vec<u32> = talks.iter().flat_map(|(process, kind, message)| [*process, *kind, 0, 0, 0, *message]).collect();
+        let (numbers, place) = (talks(rows), rows.len() as u32);
         let mut out = [7; OUT];
-        assert_eq!(write(&rows, talks.len() as u32, 0, 3, &mut out, 0), refused(12, place), "{talks:?}");
-        assert!(out == [7; OUT], "{talks:?}");
-        assert!(matches!(write(&rows, place - 1, 0, 3, &mut out, 0), Written::Length(_)), "the rows before, {talks:?}");
+        assert_eq!(write(&numbers, place, 0, 3, &mut out, 0), refused(number, place), "{rows:?}");
+        assert!(out == [7; OUT], "{rows:?}");
+        assert!(matches!(write(&numbers, place - 1, 0, 3, &mut out, 0), Written::Length(_)), "the rows before, {rows:?}");
+    }
+}
+
+/// The largest kind is written, and the number behind it gets 8.
+#[test]
+fn kinds_behind_the_last_are_unknown() {
+    for kind in [WAIT + 1, WAIT + 2, u32::MAX] {
+        let rows = [talks(&[(0, SEND, 7), (1, RECV, 7), (1, WAIT, 7)]), vec![1, kind, 0, 0, 0, 7]].concat();
+        let mut out = [7; OUT];
+        assert_eq!(write(&rows, 4, 0, 2, &mut out, 0), refused(8, 4), "kind {kind}");
+        assert_eq!(write(&rows, 3, 0, 2, &mut out, 0), Written::Length(39), "kind {kind}");
     }
 }
 

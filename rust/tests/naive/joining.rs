@@ -1,9 +1,9 @@
 //! Two files joined into one trace as document 02 has it: record after record, with a look through all rows taken so far.
 
 use super::order::{counts, first_race, Order};
-use super::reading::{entries, faults, Entry};
+use super::reading::{entries, message_refusal, Entry};
 use super::rows::numbers;
-use kiqsaryn::{JoinSettings, Joined, Refusal, Row, Settings, RECV, SEND};
+use kiqsaryn::{JoinSettings, Joined, Refusal, Row, Settings, SEND, WAIT};
 
 /// An entry of a join: the file that holds it, 1 or 2, and its row and its place there.
 #[derive(Clone, Copy, Debug, PartialEq, Eq)]
@@ -15,9 +15,9 @@ pub struct Taken {
 /// The number of a refusal, its place, and the file whose place it is, 0 for none.
 pub type Refused = (u32, u32, u32);
 
-/// Whether a row has to wait behind these rows: it receives a message that none of them has sent.
+/// Whether a row has to wait behind these rows: it is a wait for a message that none of them has sent.
 pub fn waits(row: Row, taken: &[Row]) -> bool {
-    row.kind == RECV && !taken.iter().any(|t| t.kind == SEND && t.message == row.message)
+    row.kind == WAIT && !taken.iter().any(|t| t.kind == SEND && t.message == row.message)
 }
 
 /// The entries of one file, or the number and place of its refusal by the questions 4 to 11.
@@ -73,7 +73,7 @@ pub fn turn(files: &[Vec<Entry>; 2], taken: &[Taken]) -> Turn {
     }
 }
 
-/// The joined entries of two files, or the refusal: 6 and 12 at a joined row, or 20.
+/// The joined entries of two files, or the refusal: 6, 12 or 21 at a joined row, or 20.
 fn joined(files: [Vec<Entry>; 2], row_limit: u32) -> Result<Vec<Taken>, Refused> {
     let mut taken = Vec::new();
     loop {
@@ -86,8 +86,8 @@ fn joined(files: [Vec<Entry>; 2], row_limit: u32) -> Result<Vec<Taken>, Refused>
         if place > row_limit {
             return Err((6, place, 0));
         }
-        if !faults(next.entry.row, &rows_of(&taken)).is_empty() {
-            return Err((12, place, 0));
+        if let Some(number) = message_refusal(next.entry.row, &rows_of(&taken)) {
+            return Err((number, place, 0));
         }
         taken.push(next);
     }

@@ -1,16 +1,16 @@
 //! Happens-before, counts and races.
 
-use kiqsaryn::{Row, CLOSE, COMMIT, OPEN, READ, RECV, SEND, SYNC, WRITE};
+use kiqsaryn::{Row, CLOSE, COMMIT, OPEN, READ, SEND, SYNC, WAIT, WRITE};
 
 /// Happens-before as a matrix: a bit for each pair.
 pub struct Order {
     before: Vec<Vec<u64>>,
 }
 
-/// A direct step of the order: rows of one process, or a send and the recv of its message.
+/// A direct step of the order: rows of one process, or a send and the wait for its message.
 fn edge(rows: &[Row], i: usize, j: usize) -> bool {
     let (a, b) = (rows[i], rows[j]);
-    i < j && (a.process == b.process || (a.kind == SEND && b.kind == RECV && a.message == b.message))
+    i < j && (a.process == b.process || (a.kind == SEND && b.kind == WAIT && a.message == b.message))
 }
 
 impl Order {

@@ -2,7 +2,7 @@
 
 use super::random::Random;
 use super::rows::some_rows;
-use kiqsaryn::{Row, RECV, SEND};
+use kiqsaryn::{Row, RECV, SEND, WAIT};
 
 /// The rows of two files.
 pub type Files = [Vec<Row>; 2];
@@ -27,33 +27,38 @@ fn some_row(r: &mut Random, files: &Files, kind: u32) -> Option<(usize, usize, R
     (!all.is_empty()).then(|| r.pick(&all))
 }
 
-/// Puts a row of a message into a file at any place from `from` on.
+/// Puts a row of a message into a file at the place `from` or anywhere behind it.
 fn put_talk(r: &mut Random, file: &mut Vec<Row>, from: usize, process: u32, kind: u32, message: u32) {
-    let at = from + r.place(file.len() + 1 - from);
+    let at = from + if r.once_in(2) { 0 } else { r.place(file.len() + 1 - from) };
     file.insert(at, Row { process, kind, message, ..Row::default() });
 }
 
-/// A message sent twice or received twice, in either file, or received by its sender.
+/// A message sent, posted or waited for once more: behind one of its rows by the same or another process of that file, or anywhere in the other
+/// file. Or a wait of another process of its file.
 fn damage_message(r: &mut Random, files: &mut Files) {
-    let kind = r.pick(&[SEND, RECV]);
-    let Some((k, at, row)) = some_row(r, files, kind) else {
+    let (of, kind) = (r.pick(&[SEND, RECV, WAIT]), r.pick(&[SEND, RECV, WAIT]));
+    let Some((k, at, row)) = some_row(r, files, of) else {
         return;
     };
-    if kind == SEND && r.once_in(2) {
-        put_talk(r, &mut files[k], at + 1, row.process, RECV, row.message);
+    if of == WAIT && r.once_in(3) {
+        files[k][at].process = r.pick(&files[k]).process;
         return;
     }
-    let to = r.place(2);
+    if r.once_in(2) {
+        put_talk(r, &mut files[k], at + 1, row.process, kind, row.message);
+        return;
+    }
+    let to = if r.once_in(2) { k } else { 1 - k };
     if !files[to].is_empty() {
         let process = r.pick(&files[to]).process;
-        put_talk(r, &mut files[to], 0, process, kind, row.message);
+        put_talk(r, &mut files[to], if to == k { at + 1 } else { 0 }, process, kind, row.message);
     }
 }
 
-/// A recv moved to the front, a send to the back or left out, or a row to any place, so that rows may wait for ever.
+/// A recv or wait moved to the front, a send to the back or left out, or a row to any place, so that rows may wait for ever.
 fn damage_order(r: &mut Random, files: &mut Files) {
     let other = r.below(SEND);
-    let kind = r.pick(&[SEND, RECV, RECV, other]);
+    let kind = r.pick(&[SEND, SEND, RECV, WAIT, WAIT, other]);
     let Some((k, at, row)) = some_row(r, files, kind) else {
         return;
     };
@@ -62,7 +67,7 @@ fn damage_order(r: &mut Random, files: &mut Files) {
     match kind {
         SEND if r.once_in(2) => {}
         SEND => files[k].insert(at + r.place(rest + 1), row),
-        RECV => files[k].insert(r.place(at + 1), row),
+        RECV | WAIT => files[k].insert(r.place(at + 1), row),
         _ => files[k].insert(r.place(at + rest + 1), row),
     }
 }

@@ -1,7 +1,7 @@
 //! A trace's records, the questions put to them, and what the program `verdict` prints.
 
 use super::order::{first_race, Order};
-use kiqsaryn::{Model, Row, Settings, KINDS, READ, RECV, SEND, WRITE};
+use kiqsaryn::{Model, Row, Settings, KINDS, READ, RECV, SEND, WAIT, WRITE};
 
 const NAMES: [&[u8]; 6] = [b"process", b"kind", b"file", b"offset", b"length", b"message"];
 
@@ -113,7 +113,7 @@ fn row(fields: &[Vec<u8>], process_limit: u32) -> Result<Row, u32> {
     let kind = KINDS.iter().position(|word| word.as_bytes() == fields[1]).ok_or(8u32)? as u32;
     let used = match kind {
         READ | WRITE => [true, true, true, true, true, false],
-        SEND | RECV => [true, true, false, false, false, true],
+        SEND | RECV | WAIT => [true, true, false, false, false, true],
         _ => [true, true, true, false, false, false],
     };
     if fields.iter().zip(used).any(|(field, used)| field.is_empty() == used) {
@@ -135,29 +135,65 @@ fn row(fields: &[Vec<u8>], process_limit: u32) -> Result<Row, u32> {
     Ok(row)
 }
 
-/// What question 12 finds wrong with a row's message.
+/// What the questions about messages find wrong with a row: question 12 the first four, and question 21 the others.
 #[derive(Clone, Copy, Debug, PartialEq, Eq)]
 pub enum Fault {
+    /// A send of a message that was sent before.
     SentTwice,
+    /// A send of a message whose receive the same process has posted before.
+    SentToItself,
+    /// A recv of a message whose receive was posted before.
+    PostedTwice,
+    /// A recv of a message that the same process has sent.
+    PostedBySender,
+    /// A wait for a message whose receive no process has posted before.
+    NotPosted,
+    /// A wait for a message whose receive other processes alone have posted before.
+    PostedByAnother,
+    /// A wait for a message that was not sent before.
     NotSent,
-    ReceivedBySender,
-    ReceivedTwice,
+    /// A wait for a message that was waited for before.
+    WaitedForTwice,
 }
 
-/// All faults of a row behind these rows.
+/// How many faults there are.
+pub const FAULTS: usize = 8;
+
+impl Fault {
+    /// The number of the question that finds it.
+    pub fn question(self) -> u32 {
+        match self {
+            Fault::SentTwice | Fault::SentToItself | Fault::PostedTwice | Fault::PostedBySender => 12,
+            Fault::NotPosted | Fault::PostedByAnother | Fault::NotSent | Fault::WaitedForTwice => 21,
+        }
+    }
+}
+
+/// All faults of a row behind these rows, those of question 12 first.
 pub fn faults(row: Row, rows: &[Row]) -> Vec<Fault> {
-    let sender = rows.iter().find(|r| r.kind == SEND && r.message == row.message);
-    let received = rows.iter().any(|r| r.kind == RECV && r.message == row.message);
+    let [send, recv, wait] = [SEND, RECV, WAIT].map(|kind| row.kind == kind);
+    let is = |r: &Row, kind: u32| r.kind == kind && r.message == row.message;
+    let [sent, posted, waited_for] = [SEND, RECV, WAIT].map(|kind| rows.iter().any(|r| is(r, kind)));
+    let [own_sent, own_posted] = [SEND, RECV].map(|kind| rows.iter().any(|r| is(r, kind) && r.process == row.process));
     let found = [
-        (Fault::SentTwice, row.kind == SEND && sender.is_some()),
-        (Fault::NotSent, row.kind == RECV && sender.is_none()),
-        (Fault::ReceivedBySender, row.kind == RECV && sender.is_some_and(|r| r.process == row.process)),
-        (Fault::ReceivedTwice, row.kind == RECV && received),
+        (Fault::SentTwice, send && sent),
+        (Fault::SentToItself, send && own_posted),
+        (Fault::PostedTwice, recv && posted),
+        (Fault::PostedBySender, recv && own_sent),
+        (Fault::NotPosted, wait && !posted),
+        (Fault::PostedByAnother, wait && posted && !own_posted),
+        (Fault::NotSent, wait && !sent),
+        (Fault::WaitedForTwice, wait && waited_for),
     ];
     found.into_iter().filter(|(_, holds)| *holds).map(|(fault, _)| fault).collect()
 }
 
-/// All faults of the row at the place that a trace is refused for with 12.
+/// The number of the first question about messages, 12 and then 21, that is answered No for a row behind these rows.
+pub fn message_refusal(row: Row, rows: &[Row]) -> Option<u32> {
+    faults(row, rows).first().map(|fault| fault.question())
+}
+
+/// All faults of the row at the place that a trace is refused for with 12 or 21.
 pub fn faults_at(text: &[u8], s: Settings, place: u32) -> Vec<Fault> {
     let fields = |placed: Placed| match placed.record {
         Record::Fields(fields) => Some(fields),
@@ -216,7 +252,7 @@ pub fn check(text: &[u8], s: Settings, rows_len: usize, counts_len: usize) -> Re
     if s.header > 1 {
         return Err((3, 0));
     }
-    let entries = entries(text, s, |row, rows| (!faults(row, rows).is_empty()).then_some(12))?;
+    let entries = entries(text, s, message_refusal)?;
     Ok(entries.into_iter().map(|entry| entry.row).collect())
 }
 

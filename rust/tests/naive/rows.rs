@@ -1,9 +1,16 @@
 //! Random rows of traces that are accepted.
 
 use super::random::Random;
-use kiqsaryn::{Row, CLOSE, COMMIT, OPEN, READ, RECV, SEND, SYNC, WRITE};
+use kiqsaryn::{Row, CLOSE, COMMIT, OPEN, READ, RECV, SEND, SYNC, WAIT, WRITE};
 
-/// Rows in the making, with the messages that are sent and not yet received.
+/// A message that is not yet waited for: its number, who has sent it, and who has posted a receive for it.
+struct Message {
+    number: u32,
+    sender: Option<u32>,
+    poster: Option<u32>,
+}
+
+/// Rows in the making, with the numbers of all messages and with those messages that are not yet waited for.
 struct Rows<'a> {
     r: &'a mut Random,
     all: Vec<Row>,
@@ -12,8 +19,8 @@ struct Rows<'a> {
     base: u32,
     spread: u32,
     longest: u32,
-    sent: Vec<u32>,
-    waiting: Vec<(u32, u32)>,
+    numbers: Vec<u32>,
+    open: Vec<Message>,
 }
 
 impl Rows<'_> {
@@ -24,7 +31,7 @@ impl Rows<'_> {
         let base = if r.once_in(10) { u32::MAX - r.between(100, 300) } else { r.below(5) };
         let spread = r.pick(&[4, 16, 90]);
         let longest = r.pick(&[1, 5, 20]);
-        Rows { r, all: Vec::new(), processes, files, base, spread, longest, sent: Vec::new(), waiting: Vec::new() }
+        Rows { r, all: Vec::new(), processes, files, base, spread, longest, numbers: Vec::new(), open: Vec::new() }
     }
 
     fn range(&mut self) -> (u32, u32) {
@@ -45,57 +52,87 @@ impl Rows<'_> {
         self.all.push(Row { process, kind, file, ..Row::default() });
     }
 
-    fn send(&mut self, process: u32) -> u32 {
-        let mut message = if self.r.once_in(2) { self.r.below(70) } else { self.r.below(65_536) };
-        while self.sent.contains(&message) {
-            message = (message + 1) % 65_536;
+    /// A number that no message has so far.
+    fn new_number(&mut self) -> u32 {
+        let mut number = if self.r.once_in(2) { self.r.below(70) } else { self.r.below(65_536) };
+        while self.numbers.contains(&number) {
+            number = (number + 1) % 65_536;
         }
-        self.sent.push(message);
-        self.all.push(Row { process, kind: SEND, message, ..Row::default() });
-        message
+        self.numbers.push(number);
+        number
     }
 
-    fn recv(&mut self, process: u32, message: u32) {
-        self.all.push(Row { process, kind: RECV, message, ..Row::default() });
+    fn talk(&mut self, process: u32, kind: u32, message: u32) {
+        self.all.push(Row { process, kind, message, ..Row::default() });
     }
 
-    /// Any row of any process; a recv takes a waiting message of another.
+    /// Mostly a wait of a process for a message that it has posted and that is sent. Else the send or recv of a message that another process has
+    /// posted or sent, or of a new one.
+    fn loose_talk(&mut self, process: u32) {
+        let can_wait = |m: &Message| m.poster == Some(process) && m.sender.is_some();
+        if let Some(k) = self.open.iter().position(can_wait).filter(|_| !self.r.once_in(4)) {
+            let message = self.open.remove(k);
+            return self.talk(process, WAIT, message.number);
+        }
+        let has_begun = |m: &Message| match (m.sender, m.poster) {
+            (Some(other), None) | (None, Some(other)) => other != process,
+            _ => false,
+        };
+        let k = self.open.iter().position(has_begun).filter(|_| !self.r.once_in(3)).unwrap_or(self.open.len());
+        if k == self.open.len() {
+            let number = self.new_number();
+            self.open.push(Message { number, sender: None, poster: None });
+        }
+        let posts = self.open[k].sender.is_some() || (self.open[k].poster.is_none() && self.r.once_in(2));
+        if posts {
+            self.open[k].poster = Some(process);
+        } else {
+            self.open[k].sender = Some(process);
+        }
+        self.talk(process, if posts { RECV } else { SEND }, self.open[k].number);
+    }
+
+    /// Any row of any process.
     fn loose(&mut self) {
         let process = self.r.pick(&self.processes);
         let file = self.r.pick(&self.files);
-        match self.r.below(10) {
+        match self.r.below(12) {
             0..=3 => self.data(process, file),
             4 | 5 => {
                 let kind = self.r.between(COMMIT, SYNC);
                 self.sync(process, kind, file);
             }
-            6 | 7 => {
-                let message = self.send(process);
-                self.waiting.push((message, process));
-            }
-            _ => {
-                let k = self.waiting.iter().position(|(_, sender)| *sender != process);
-                if let Some((message, _)) = k.map(|k| self.waiting.remove(k)) {
-                    self.recv(process, message);
-                }
-            }
+            _ => self.loose_talk(process),
         }
     }
 
-    /// A file goes from its holder to the next process, with these of the rows that the models ask for; now and then one is left out.
+    /// A file goes from its holder to the next process by a message, with these of the rows that the models ask for; now and then one is left out.
+    /// The receive is posted before or behind the send.
     fn hand_over(&mut self, holder: u32, file: u32, wanted: &[u32], slip: u32) -> u32 {
         let next = self.r.pick(&self.processes);
         if next == holder {
             return holder;
+        }
+        let message = (!self.r.once_in(slip)).then(|| self.new_number());
+        let early = message.filter(|_| self.r.once_in(2));
+        if let Some(message) = early {
+            self.talk(next, RECV, message);
         }
         for kind in [COMMIT, CLOSE, SYNC] {
             if wanted.contains(&kind) && !self.r.once_in(slip) {
                 self.sync(holder, kind, file);
             }
         }
-        if !self.r.once_in(slip) {
-            let message = self.send(holder);
-            self.recv(next, message);
+        if let Some(message) = message {
+            self.talk(holder, SEND, message);
+            if early.is_none() {
+                self.talk(next, RECV, message);
+            }
+            if self.r.once_in(slip) {
+                self.open.push(Message { number: message, sender: Some(holder), poster: Some(next) });
+            } else {
+                self.talk(next, WAIT, message);
+            }
         }
         for kind in [OPEN, SYNC] {
             if wanted.contains(&kind) && !self.r.once_in(slip) {

@@ -1,7 +1,7 @@
 //! Random texts of rows: fields quoted here and there, and texts that are damaged.
 
 use super::random::Random;
-use kiqsaryn::{Row, KINDS, READ, RECV, SEND, WRITE};
+use kiqsaryn::{Row, KINDS, READ, RECV, SEND, WAIT, WRITE};
 
 /// The contents of a record's fields.
 pub type Record = Vec<Vec<u8>>;
@@ -12,7 +12,7 @@ pub fn header() -> Record {
 
 pub fn record(row: Row) -> Record {
     let n = |used: bool, x: u32| if used { x.to_string().into_bytes() } else { Vec::new() };
-    let message = row.kind == SEND || row.kind == RECV;
+    let message = [SEND, RECV, WAIT].contains(&row.kind);
     let data = row.kind == READ || row.kind == WRITE;
     vec![
         n(true, row.process),
@@ -58,7 +58,7 @@ pub fn text(r: &mut Random, records: &[Record]) -> Vec<u8> {
 
 /// A field with other content.
 fn damaged_field(r: &mut Random, field: &[u8]) -> Vec<u8> {
-    let words: [&[u8]; 28] = [
+    let words: [&[u8]; 29] = [
         b"",
         b"0",
         b"1",
@@ -85,6 +85,7 @@ fn damaged_field(r: &mut Random, field: &[u8]) -> Vec<u8> {
         b"write",
         b"WRITE",
         b"recv",
+        b"wait",
         b"a\"b",
         b"a,b\r\nc",
     ];
@@ -96,22 +97,22 @@ fn damaged_field(r: &mut Random, field: &[u8]) -> Vec<u8> {
     }
 }
 
-/// A recv more, behind a send by the sender himself, or behind a recv by the same process or that of any record.
-fn add_recv(r: &mut Random, records: &mut Vec<Record>) {
-    let kind = r.pick(&[SEND, RECV]);
-    let word = KINDS[kind as usize].as_bytes();
-    let ends: Vec<usize> = (0..records.len()).filter(|j| records[*j].len() == 6 && records[*j][1] == word).collect();
+/// A send, recv or wait more of the message of such a row, right behind it or later, by its process or by that of any record.
+fn add_talk(r: &mut Random, records: &mut Vec<Record>) {
+    let word = |kind: u32| KINDS[kind as usize].as_bytes();
+    let of = r.pick(&[SEND, RECV, WAIT]);
+    let ends: Vec<usize> = (0..records.len()).filter(|j| records[*j].len() == 6 && records[*j][1] == word(of)).collect();
     if ends.is_empty() {
         return;
     }
     let behind = r.pick(&ends);
     let mut more = records[behind].clone();
-    more[1] = KINDS[RECV as usize].as_bytes().to_vec();
-    if kind == RECV && r.once_in(2) {
+    more[1] = word(r.pick(&[SEND, RECV, WAIT])).to_vec();
+    if r.once_in(3) {
         let from = r.place(records.len());
         more[0] = records[from].first().cloned().unwrap_or_default();
     }
-    let to = behind + 1 + r.place(records.len() - behind);
+    let to = behind + 1 + if r.once_in(2) { 0 } else { r.place(records.len() - behind) };
     records.insert(to, more);
 }
 
@@ -138,7 +139,7 @@ fn damage_record(r: &mut Random, records: &mut Vec<Record>, k: usize) {
             records[k][4] = length.to_string().into_bytes();
         }
         6..=9 => {
-            // the process, kind or message of another record, often of a send or recv and its message's other end
+            // the process, kind or message of another record, often of two rows of one message
             let talks: Vec<usize> = (0..records.len()).filter(|j| records[*j].len() == 6 && !records[*j][5].is_empty()).collect();
             let to = if talks.is_empty() || r.once_in(4) { k } else { r.pick(&talks) };
             let ends: Vec<usize> = talks.into_iter().filter(|j| records[*j].get(5) == records[to].get(5) && *j != to).collect();
@@ -148,7 +149,7 @@ fn damage_record(r: &mut Random, records: &mut Vec<Record>, k: usize) {
                 records[to][f] = field;
             }
         }
-        10 | 11 => add_recv(r, records),
+        10..=12 => add_talk(r, records),
         _ => {
             let f = r.place(fields);
             records[k][f] = damaged_field(r, &records[k][f]);

@@ -1,10 +1,10 @@
 //! Rows as the text of a trace, and the questions that their writing asks.
 
-use super::reading::faults;
+use super::reading::message_refusal;
 use kiqsaryn::Row;
 
 /// For each kind its word, and whether it uses the file, the range (offset and length) and the message.
-const KINDS: [(&str, bool, bool, bool); 8] = [
+const KINDS: [(&str, bool, bool, bool); 9] = [
     ("read", true, true, false),
     ("write", true, true, false),
     ("commit", true, false, false),
@@ -13,6 +13,7 @@ const KINDS: [(&str, bool, bool, bool); 8] = [
     ("sync", true, false, false),
     ("send", false, false, true),
     ("recv", false, false, true),
+    ("wait", false, false, true),
 ];
 
 /// The fields behind process and kind: whether the row's kind uses it, its number, and the largest that it can have.
@@ -42,11 +43,13 @@ pub fn noes(row: Row, earlier: &[Row], process_limit: u32) -> Vec<u32> {
     let Some(fields) = fields(row) else {
         return vec![8];
     };
+    let messages = message_refusal(row, earlier);
     let questions = [
         (9, fields.iter().all(|(used, n, _)| *used || *n == 0)),
         (10, row.process < process_limit && fields.iter().all(|(used, n, most)| !used || n <= most)),
         (11, u64::from(row.offset) + u64::from(row.length) <= u64::from(u32::MAX)),
-        (12, faults(row, earlier).is_empty()),
+        (12, messages != Some(12)),
+        (21, messages != Some(21)),
     ];
     questions.into_iter().filter(|(_, yes)| !yes).map(|(number, _)| number).collect()
 }
