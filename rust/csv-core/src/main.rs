@@ -7,6 +7,9 @@
 #[path = "../../src/bin/bench/harness.rs"]
 mod harness;
 #[allow(dead_code)]
+#[path = "../../src/bin/bench/messages.rs"]
+mod messages;
+#[allow(dead_code)]
 #[path = "../../src/bin/bench/reading.rs"]
 mod reading;
 

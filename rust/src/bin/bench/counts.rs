@@ -2,7 +2,7 @@
 
 use crate::harness::{timed, Case, Timed, SIZES};
 use crate::reading::{text, PROCESSES};
-use kiqsaryn::{check_trace, fill_counts, Checked, Settings, RECV, SEND};
+use kiqsaryn::{check_trace, fill_counts, Checked, Settings, SEND, WAIT};
 use std::hint::black_box;
 
 /// Fills the counts of the first n rows. Two tables find earlier rows: the last row of each process, and the last send of each message with
@@ -26,7 +26,7 @@ pub fn plain(rows: &[u32], n: usize, processes: usize, counts: &mut [u16]) {
         if last[process] > 0 {
             join(last[process] - 1);
         }
-        if row[1] == RECV {
+        if row[1] == WAIT {
             let mut next = sent[message];
             while next > 0 {
                 join(next as usize - 1);

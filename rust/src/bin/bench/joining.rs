@@ -1,12 +1,12 @@
 //! Joining two files of half the rows each and judging the join under commit, next to plain Rust with the same steps: every record is read once for
-//! the questions and once to be taken, and a table by message tells which rows wait. Of messages alone there is nothing to judge, and the time is
-//! that of reading, joining and counts. Then one file by itself.
+//! the questions and once to be taken, and a table by message tells which waits can be taken. Of messages alone there is nothing to judge, and the
+//! time is that of reading, joining and counts. Then one file by itself.
 
 use crate::harness::{timed, Case, Timed, SIZES};
-use crate::reading::{plain_file, read_rows, record, row, text, Field, Unasked, PROCESSES};
+use crate::messages::{ask, is_sent, Unasked, MESSAGES};
+use crate::reading::{plain_file, read_rows, record, row, text, Field, PROCESSES};
 use crate::verdict;
-use crate::writing::message_order;
-use kiqsaryn::{join, read_file, Checked, JoinSettings, Joined, Settings, COMMIT, KINDS, READ, RECV, SEND, WRITE};
+use kiqsaryn::{join, read_file, Checked, JoinSettings, Joined, Settings, COMMIT, KINDS, READ, RECV, SEND, WAIT, WRITE};
 use std::hint::black_box;
 
 /// The number of the model commit.
@@ -45,19 +45,19 @@ fn asked(text: &[u8], s: Settings, rows: &mut [u32]) -> Result<(usize, u64), (u3
 
 /// Joins the records of both files from these places on: how many there are, or the number and the place of the refusal.
 fn join_records(texts: [&[u8]; 2], starts: [usize; 2], s: Settings, rows: &mut [u32], parts: &mut [u64]) -> Result<usize, (u32, usize)> {
-    let mut marks = [0; 65_536];
+    let mut marks = [0; MESSAGES];
     let mut next = [0, 1].map(|k| next_at(texts[k], starts[k], s));
     let mut n = 0;
     loop {
-        let ready = |k: &usize| next[*k].is_some_and(|next| next.row[1] != RECV || marks[next.row[5] as usize] != 0);
+        let ready = |k: &usize| next[*k].is_some_and(|next| next.row[1] != WAIT || is_sent(marks[next.row[5] as usize]));
         let Some((k, Next { row, start, end, behind })) = [0, 1].into_iter().find(ready).and_then(|k| Some((k, next[k]?))) else {
             return if next.iter().all(Option::is_none) { Ok(n) } else { Err((20, 0)) };
         };
         if n >= s.row_limit as usize {
             return Err((6, n + 1));
         }
-        if row[1] == SEND || row[1] == RECV {
-            message_order(&row, &mut marks).map_err(|number| (number, n + 1))?;
+        if matches!(row[1], SEND | RECV | WAIT) {
+            ask(&row, &mut marks).map_err(|number| (number, n + 1))?;
         }
         rows[6 * n..6 * n + 6].copy_from_slice(&row);
         parts[3 * n..3 * n + 3].copy_from_slice(&[k as u64 + 1, start as u64, end as u64]);
@@ -119,23 +119,28 @@ fn plain(texts: [&[u8]; 2], s: JoinSettings, lent: &mut Lent) -> Answer {
 
 // ---- Two files
 
-/// Row i of a shelf whose processes hand one clip on, in turn from one file to the other: each writes, commits and sends, and the next receives.
+/// Row i of a shelf whose processes hand one clip on, in turn from one file to the other: each writes, commits and sends, and the next posts a
+/// receive and waits. Of five rows three are of a message.
 fn to_and_fro(i: usize) -> String {
-    let (turn, p) = (i / 4, i / 4 % PROCESSES);
-    match i % 4 {
+    let (turn, p) = (i / 5, i / 5 % PROCESSES);
+    let next = (p + 1) % PROCESSES;
+    match i % 5 {
         0 => format!("{p},{},1,{},90,\r\n", KINDS[WRITE as usize], 100 * p),
         1 => format!("{p},{},1,,,\r\n", KINDS[COMMIT as usize]),
         2 => format!("{p},{},,,,{turn}\r\n", KINDS[SEND as usize]),
-        _ => format!("{},{},,,,{turn}\r\n", (p + 1) % PROCESSES, KINDS[RECV as usize]),
+        3 => format!("{next},{},,,,{turn}\r\n", KINDS[RECV as usize]),
+        _ => format!("{next},{},,,,{turn}\r\n", KINDS[WAIT as usize]),
     }
 }
 
-/// Row i of a shelf whose processes do nothing but send a message and receive it, in turn from one file to the other.
+/// Row i of a shelf whose processes do nothing but send a message, post its receive and wait for it, in turn from one file to the other.
 fn messages_alone(i: usize) -> String {
-    let (turn, p) = (i / 2, i / 2 % PROCESSES);
-    match i % 2 {
+    let (turn, p) = (i / 3, i / 3 % PROCESSES);
+    let next = (p + 1) % PROCESSES;
+    match i % 3 {
         0 => format!("{p},{},,,,{turn}\r\n", KINDS[SEND as usize]),
-        _ => format!("{},{},,,,{turn}\r\n", (p + 1) % PROCESSES, KINDS[RECV as usize]),
+        1 => format!("{next},{},,,,{turn}\r\n", KINDS[RECV as usize]),
+        _ => format!("{next},{},,,,{turn}\r\n", KINDS[WAIT as usize]),
     }
 }
 

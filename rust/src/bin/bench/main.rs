@@ -9,6 +9,7 @@ mod naive;
 mod counts;
 mod harness;
 mod joining;
+mod messages;
 mod reading;
 mod replay;
 mod verdict;

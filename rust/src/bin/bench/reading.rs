@@ -1,7 +1,8 @@
 //! Reading a trace, next to a parser that goes over the bytes once and copies none.
 
 use crate::harness::{timed, Case, Timed, SIZES};
-use kiqsaryn::{check_trace, Checked, Settings, KINDS, READ, RECV, SEND, WRITE};
+use crate::messages::{Messages, Scan, Table, Unasked, MESSAGES};
+use kiqsaryn::{check_trace, Checked, Settings, CLOSE, COMMIT, KINDS, OPEN, READ, RECV, SEND, SYNC, WAIT, WRITE};
 use std::hint::black_box;
 
 // ---- The plain version
@@ -88,93 +89,23 @@ fn number(field: Field, most: u32) -> Result<u32, u32> {
     }
 }
 
-/// Where messages were sent and received: in a table by message, as in the library, or found among the rows before.
-pub trait Messages {
-    /// Whether messages are asked about at all.
-    const ASKED: bool = true;
-
-    fn sender(&self, rows: &[u32], message: u32) -> Option<u32>;
-    fn received(&self, rows: &[u32], message: u32) -> bool;
-    fn note(&mut self, kind: u32, process: u32, message: u32);
-}
-
-struct Table(Vec<u8>);
-
-impl Messages for Table {
-    fn sender(&self, _: &[u32], message: u32) -> Option<u32> {
-        self.0.get(message as usize).filter(|x| **x != 0).map(|x| u32::from(x & 127) - 1)
+fn kind(word: Field) -> Result<u32, u32> {
+    match word {
+        b"read" => Ok(READ),
+        b"write" => Ok(WRITE),
+        b"commit" => Ok(COMMIT),
+        b"open" => Ok(OPEN),
+        b"close" => Ok(CLOSE),
+        b"sync" => Ok(SYNC),
+        b"send" => Ok(SEND),
+        b"recv" => Ok(RECV),
+        b"wait" => Ok(WAIT),
+        _ => Err(8),
     }
-
-    fn received(&self, _: &[u32], message: u32) -> bool {
-        self.0.get(message as usize).is_some_and(|x| x & 128 != 0)
-    }
-
-    fn note(&mut self, kind: u32, process: u32, message: u32) {
-        self.0.resize(65_536, 0);
-        self.0[message as usize] |= if kind == SEND { process as u8 + 1 } else { 128 };
-    }
-}
-
-struct Scan;
-
-impl Messages for Scan {
-    fn sender(&self, rows: &[u32], message: u32) -> Option<u32> {
-        rows.chunks_exact(6).find(|row| row[1] == SEND && row[5] == message).map(|row| row[0])
-    }
-
-    fn received(&self, rows: &[u32], message: u32) -> bool {
-        rows.chunks_exact(6).any(|row| row[1] == RECV && row[5] == message)
-    }
-
-    fn note(&mut self, _: u32, _: u32, _: u32) {}
-}
-
-/// A file of a join is not asked about its messages.
-pub struct Unasked;
-
-impl Messages for Unasked {
-    const ASKED: bool = false;
-
-    fn sender(&self, _: &[u32], _: u32) -> Option<u32> {
-        None
-    }
-
-    fn received(&self, _: &[u32], _: u32) -> bool {
-        false
-    }
-
-    fn note(&mut self, _: u32, _: u32, _: u32) {}
-}
-
-/// Question 12 of a send or recv behind these rows, and its message noted.
-fn message_order<M: Messages>(row: &[u32; 6], rows: &[u32], messages: &mut M) -> Result<(), u32> {
-    if !M::ASKED {
-        return Ok(());
-    }
-    let sender = messages.sender(rows, row[5]);
-    let right = match row[1] {
-        SEND => sender.is_none(),
-        _ => sender.is_some_and(|p| p != row[0]) && !messages.received(rows, row[5]),
-    };
-    if !right {
-        return Err(12);
-    }
-    messages.note(row[1], row[0], row[5]);
-    Ok(())
 }
 
 pub fn row(f: &[Field; 6], s: Settings, rows: &[u32], messages: &mut impl Messages) -> Result<[u32; 6], u32> {
-    let kind = match f[1] {
-        b"read" => 0,
-        b"write" => 1,
-        b"commit" => 2,
-        b"open" => 3,
-        b"close" => 4,
-        b"sync" => 5,
-        b"send" => 6,
-        b"recv" => 7,
-        _ => return Err(8),
-    };
+    let kind = kind(f[1])?;
     let filled = |k: usize| !f[k].is_empty();
     let mut row = [0, kind, 0, 0, 0, 0];
     match kind {
@@ -188,13 +119,13 @@ pub fn row(f: &[Field; 6], s: Settings, rows: &[u32], messages: &mut impl Messag
             row[4] = number(f[4], u32::MAX)?;
             row[3].checked_add(row[4]).ok_or(11u32)?;
         }
-        SEND | RECV => {
+        SEND | RECV | WAIT => {
             if !filled(0) || filled(2) || filled(3) || filled(4) || !filled(5) {
                 return Err(9);
             }
             row[0] = number(f[0], s.process_limit - 1)?;
             row[5] = number(f[5], 65_535)?;
-            message_order(&row, rows, messages)?;
+            messages.ask(&row, rows)?;
         }
         _ => {
             if !filled(0) || !filled(2) || filled(3) || filled(4) || filled(5) {
@@ -299,24 +230,36 @@ impl Random {
     }
 }
 
-/// Rows of random kinds and processes. A recv takes a message that another process has sent, and where there is none the row sends.
+/// The line of a send, recv or wait.
+fn talk(process: usize, kind: u32, message: usize) -> String {
+    line(process, kind, [None, None, None, Some(message)], false)
+}
+
+/// Rows of random kinds and processes. A wait is for any message that is posted, by the process that has posted it, and where there is none the row
+/// posts. A recv posts a receive for a message that another process has sent, and where there is none the row sends.
 fn mixed(rows: usize) -> String {
     let mut random = Random(1);
-    let mut waiting: Vec<(usize, usize)> = Vec::new();
-    let mut messages: Vec<usize> = (0..65_536).collect();
+    let (mut sent, mut posted): (Vec<(usize, usize)>, Vec<(usize, usize)>) = (Vec::new(), Vec::new());
+    let mut messages: Vec<usize> = (0..MESSAGES).collect();
     let mut text = String::new();
     for _ in 0..rows {
-        let (p, kind, file) = (random.below(PROCESSES), random.below(8) as u32, Some(random.below(64)));
-        let due = if waiting.is_empty() { 0 } else { random.below(waiting.len()) };
+        let (p, kind, file) = (random.below(PROCESSES), random.below(KINDS.len()) as u32, Some(random.below(64)));
+        let due = random.below(sent.len().max(1));
         text += &match kind {
             READ | WRITE => line(p, kind, [file, Some(random.below(1 << 31)), Some(random.below(1 << 20)), None], false),
-            RECV if waiting.get(due).is_some_and(|(sender, _)| *sender != p) => {
-                line(p, RECV, [None, None, None, Some(waiting.swap_remove(due).1)], false)
+            WAIT if !posted.is_empty() => {
+                let (poster, message) = posted.swap_remove(random.below(posted.len()));
+                talk(poster, WAIT, message)
             }
-            SEND | RECV => {
+            RECV | WAIT if sent.get(due).is_some_and(|(sender, _)| *sender != p) => {
+                let (_, message) = sent.swap_remove(due);
+                posted.push((p, message));
+                talk(p, RECV, message)
+            }
+            SEND | RECV | WAIT => {
                 let message = messages.swap_remove(random.below(messages.len()));
-                waiting.push((p, message));
-                line(p, SEND, [None, None, None, Some(message)], false)
+                sent.push((p, message));
+                talk(p, SEND, message)
             }
             _ => line(p, kind, [file, None, None, None], false),
         };
@@ -324,24 +267,43 @@ fn mixed(rows: usize) -> String {
     text
 }
 
+/// The file and the range of a data row.
+fn range(i: usize, process: usize) -> [Option<usize>; 4] {
+    [Some(process % 8), Some(i * 48_271 % 2_147_483_647), Some(4096), None]
+}
+
+/// Row i of a trace whose processes hand their clips on: each writes, commits and sends, and the next posts a receive and waits, so that of five
+/// rows three are of a message.
+fn message_row(i: usize) -> String {
+    let (turn, p) = (i / 5, i / 5 % PROCESSES);
+    let next = (p + 1) % PROCESSES;
+    match i % 5 {
+        0 => line(p, WRITE, range(i, p), false),
+        1 => line(p, COMMIT, [Some(p % 8), None, None, None], false),
+        2 => talk(p, SEND, turn),
+        3 => talk(next, RECV, turn),
+        _ => talk(next, WAIT, turn),
+    }
+}
+
+/// Row i of a trace without messages: of four rows three are data rows, and one is a commit.
+fn data_row(i: usize, quoted: bool) -> String {
+    let p = i / 4 % PROCESSES;
+    match i % 4 {
+        1 => line(p, READ, range(i, p), quoted),
+        3 => line(p, COMMIT, [Some(p % 8), None, None, None], quoted),
+        _ => line(p, WRITE, range(i, p), quoted),
+    }
+}
+
 /// A trace of a shape, with its header.
 pub fn text(shape: &str, rows: usize) -> Vec<u8> {
-    let mut text = String::from("process,kind,file,offset,length,message\r\n");
-    if shape == "mixed" {
-        return (text + &mixed(rows)).into_bytes();
-    }
-    for i in 0..rows {
-        let (p, quoted) = (i / 4 % PROCESSES, shape == "quoted fields");
-        let data = [Some(p % 8), Some(i * 48_271 % 2_147_483_647), Some(4096), None];
-        text += &match (shape, i % 4) {
-            ("messages", 0) => line(p, WRITE, data, false),
-            ("messages", 1) => line(p, 2, [Some(p % 8), None, None, None], false),
-            ("messages", 2) => line(p, SEND, [None, None, None, Some(i / 4)], false),
-            ("messages", _) => line((p + 1) % PROCESSES, RECV, [None, None, None, Some(i / 4)], false),
-            (_, k) => line(p, [WRITE, READ, WRITE, 2][k], if k == 3 { [data[0], None, None, None] } else { data }, quoted),
-        };
-    }
-    text.into_bytes()
+    let rows: String = match shape {
+        "mixed" => mixed(rows),
+        "messages" => (0..rows).map(message_row).collect(),
+        _ => (0..rows).map(|i| data_row(i, shape == "quoted fields")).collect(),
+    };
+    format!("process,kind,file,offset,length,message\r\n{rows}").into_bytes()
 }
 
 fn case(shape: &'static str, n: usize) -> Timed {

@@ -5,7 +5,7 @@ use crate::harness::{timed, Case, Timed, SIZES};
 use crate::naive::order::{first_race, Order};
 use crate::naive::random::Random;
 use crate::reading::PROCESSES;
-use kiqsaryn::{verdict, Model, Row, Verdict, CLOSE, COMMIT, OPEN, READ, RECV, SEND, SYNC, WRITE};
+use kiqsaryn::{verdict, Model, Row, Verdict, CLOSE, COMMIT, OPEN, READ, RECV, SEND, SYNC, WAIT, WRITE};
 use std::hint::black_box;
 
 /// The same steps over the same slices: counts, then for each later row one pass for the last publishing rows, unless writes publish by
@@ -63,10 +63,10 @@ fn pairs(rows: &[u32], n: usize, model: u32) -> Option<(u32, u32)> {
 /// Where the race of the last two rows starts: behind every clip.
 const RACE_START: u32 = 1_000_000;
 
-/// Row i of a trace where a process writes so many clips, publishes and sends a message, and the next receives it, refreshes, reads as many and
-/// goes on; `clip` gives the start and the length of a process's next clip.
+/// Row i of a trace where a process writes so many clips, publishes and sends a message, and the next posts a receive for it, waits for it,
+/// refreshes, reads as many and goes on; `clip` gives the start and the length of a process's next clip.
 fn handover(i: u32, clips: u32, (publish, refresh): (u32, u32), mut clip: impl FnMut(u32) -> (u32, u32)) -> [u32; 6] {
-    let turn = 2 * clips + 4;
+    let turn = 2 * clips + 5;
     let (p, message) = (i / turn % PROCESSES as u32, i / turn);
     let next = (p + 1) % PROCESSES as u32;
     let mut data = |process: u32, kind: u32| {
@@ -78,7 +78,8 @@ fn handover(i: u32, clips: u32, (publish, refresh): (u32, u32), mut clip: impl F
         Some(0) => [p, publish, 1, 0, 0, 0],
         Some(1) => [p, SEND, 0, 0, 0, message],
         Some(2) => [next, RECV, 0, 0, 0, message],
-        Some(3) => [next, refresh, 1, 0, 0, 0],
+        Some(3) => [next, WAIT, 0, 0, 0, message],
+        Some(4) => [next, refresh, 1, 0, 0, 0],
         Some(_) => data(next, READ),
     }
 }

@@ -2,16 +2,14 @@
 
 use crate::counts::rows;
 use crate::harness::{timed, Case, Timed, SIZES};
+use crate::messages::{self, MESSAGES};
 use crate::reading::PROCESSES;
-use kiqsaryn::{write, Written, HEADER_LINE, KINDS, LONGEST_LINE, READ, RECV, SEND, WRITE};
+use kiqsaryn::{write, Written, HEADER_LINE, KINDS, LONGEST_LINE, READ, RECV, SEND, WAIT, WRITE};
 use std::hint::black_box;
 
 // ---- The plain version
 
 const NAMES: &[u8; HEADER_LINE] = b"process,kind,file,offset,length,message\r\n";
-
-/// The marks of a message: its sender plus 1, and this one once it is received.
-const RECEIVED: u8 = 128;
 
 /// The two digits of each number below 100.
 const DIGITS: [u8; 200] = {
@@ -29,19 +27,8 @@ fn digits(n: u32) -> usize {
     n.checked_ilog10().map_or(1, |log| log as usize + 1)
 }
 
-/// Question 12 of a send or recv, and the mark of its message.
-pub fn message_order(row: &[u32], marks: &mut [u8; 65_536]) -> Result<(), u32> {
-    let (own, mark) = (row[0] as u8 + 1, &mut marks[row[5] as usize]);
-    match row[1] {
-        SEND if *mark == 0 => *mark = own,
-        RECV if *mark != 0 && *mark & RECEIVED == 0 && *mark != own => *mark |= RECEIVED,
-        _ => return Err(12),
-    }
-    Ok(())
-}
-
-/// Questions 8 to 12 of a row, and the length of its line.
-fn ask(row: &[u32], process_limit: u32, marks: &mut [u8; 65_536]) -> Result<usize, u32> {
+/// Questions 8 to 12 and 21 of a row, and the length of its line.
+fn ask(row: &[u32], process_limit: u32, marks: &mut [u8; MESSAGES]) -> Result<usize, u32> {
     let word = KINDS.get(row[1] as usize).ok_or(8u32)?;
     let rest = match row[1] {
         READ | WRITE => {
@@ -54,14 +41,14 @@ fn ask(row: &[u32], process_limit: u32, marks: &mut [u8; 65_536]) -> Result<usiz
             row[3].checked_add(row[4]).ok_or(11u32)?;
             digits(row[2]) + digits(row[3]) + digits(row[4])
         }
-        SEND | RECV => {
+        SEND | RECV | WAIT => {
             if row[2] | row[3] | row[4] != 0 {
                 return Err(9);
             }
             if row[0] >= process_limit || row[5] > 65_535 {
                 return Err(10);
             }
-            message_order(row, marks)?;
+            messages::ask(row, marks)?;
             digits(row[5])
         }
         _ => {
@@ -120,7 +107,7 @@ impl Text<'_> {
                 }
                 self.put(b",\r\n");
             }
-            SEND | RECV => {
+            SEND | RECV | WAIT => {
                 self.put(b",,,,");
                 self.put_number(row[5]);
                 self.put(b"\r\n");
@@ -147,7 +134,7 @@ fn plain(rows: &[u32], n: u32, header: u32, process_limit: u32, out: &mut [u8], 
         return Err((3, 0));
     }
     let rows = &rows[..6 * n as usize];
-    let mut marks = [0; 65_536];
+    let mut marks = [0; MESSAGES];
     let mut length = if header == 1 { HEADER_LINE } else { 0 };
     for (k, row) in rows.chunks_exact(6).enumerate() {
         length += ask(row, process_limit, &mut marks).map_err(|number| (number, k + 1))?;
