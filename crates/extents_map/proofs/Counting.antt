@@ -12,10 +12,10 @@ use Rattle.extents_meaning.specs.Maps.{runs, bytesOf}
 use Rattle.extents_meaning.specs.Points.{starts}
 use Rattle.extents_meaning.proofs.Points.{begins, begins-same, begins-most, count-starts}
 use Rattle.extents_map.specs.Mixes.{mixed, mixIn}
-use Rattle.extents_map.specs.Cursors.{Passed, Seen}
-use Rattle.extents_map.specs.declared.scan.Look.{Look}
+use Rattle.extents_map.specs.Cursors.{Part, Passing, BothLooked}
+use Rattle.extents_map.specs.declared.scan.Both.{Both}
 use Rattle.extents_map.specs.declared.scan.Mix.{Mix}
-use Rattle.extents_map.proofs.Scanning.{passed-on}
+use Rattle.extents_map.proofs.Looking.{passing-on, passing-then, passing-part, both-on, both-cell, both-other, both-inside}
 
 -- ---- Starts
 
@@ -59,11 +59,11 @@ pub record Counted (map below : List ℕ) (mix : Mix) (from to x n last i j : �
   pub sum :
       starts (to - from) from 0 (mixIn mix (bytesOf map) (bytesOf below))
       ≡ n + starts (to - x) x last (mixIn mix (bytesOf map) (bytesOf below))
-  pub view : Passed (runs map) i x
-  pub under : Passed (runs below) j x
+  pub view : Passing map 0 x i
+  pub under : Passing below 0 x j
 
 -- at first no run is counted
-pub count-start : (map below : List ℕ) (mix : Mix) (from to i j : ℕ) → Passed (runs map) i from → Passed (runs below) j from →
+pub count-start : (map below : List ℕ) (mix : Mix) (from to i j : ℕ) → Passing map 0 from i → Passing below 0 from j →
     Counted map below mix from to from 0 0 i j
 count-start map below mix from to i j v u = record { sum = omega arith; view = v; under = u }
 
@@ -80,34 +80,36 @@ module _ {map below : List ℕ} {mix : Mix} {from to x n last i j : ℕ} (k : Co
   pub count-end : to ≤ x → n ≡ length (runsFrom (to - from) from mixOf)
   count-end h = omega (arith, k .sum, starts-most (to - x) x last mixOf, count-starts (to - from) from mixOf)
 
-  -- a turn goes to the nearest byte y at which a map or the range may change
-  module _ {v w : Look} {e y : ℕ} (h : x < to) (a : Seen map x v) (b : Seen below x w)
-      (d : (x < OFFSET-MAX → x < e) × ((z : ℕ) → x ≤ z → z < e → inRange (mix .start) (mix .end - mix .start) z ≡ inRange (mix .start) (mix .end - mix .start) x))
-      (l : y ≡ min (min (v .next) (w .next)) (min e to)) where
+  -- A look may start at both cursors.
+  pub count-parts : x < OFFSET-MAX → Part map i x × Part below j x
+  count-parts h = (passing-part (k .view) h, passing-part (k .under) h)
+
+  -- a turn goes to the nearest byte y at which a map or the range changes
+  module _ {s : Both} {y : ℕ} (h : x < to) (top : to ≤ OFFSET-MAX) (o : mix .start ≤ mix .end)
+      (p : BothLooked map i below j mix x s) (l : y ≡ min (s .next) to) where
     -- y lies behind x
     further : x < y
-    further = omega (arith, a .on, b .on, d .0 (omega (arith, a .on, a .most)))
+    further = omega (arith, both-on p (omega arith) o .0)
 
     -- Fewer bytes are left from y on than from x on.
     pub count-less : to - y < to - x
     count-less = omega (arith, further)
 
-    module _ {inside : Bool} {here new : ℕ} (q : inside ≡ inRange (mix .start) (mix .end - mix .start) x) (m : here ≡ mixed (mix .mode) inside (mix .cell) (v .cell) (w .cell))
-        (r : new ≡ begins here last) where
+    module _ {here new : ℕ} (m : here ≡ mixed (mix .mode) (s .inside) (mix .cell) (s .cell) (s .other)) (r : new ≡ begins here last) where
       -- up to there the mix has one cell
       same-there : (z : ℕ) → x ≤ z → z < y → mixOf z ≡ here
-      same-there z o u =
-          let i = sym (d .1 z o (omega arith)) in
-          let f = sym (a .cells z o (omega arith)) in
-          let g = sym (b .cells z o (omega arith)) in
-          sym (m ∙ (λ t. mixed (mix .mode) ((q ∙ i) t) (mix .cell) (f t) (g t)))
+      same-there z a u =
+          let below : x < OFFSET-MAX = omega arith in
+          let f = sym (k .view .same z a) ∙ both-cell p below o z a (omega arith) in
+          let g = sym (k .under .same z a) ∙ both-other p below o z a (omega arith) in
+          (λ t. mixed (mix .mode) (both-inside p below o z a (omega arith) t) (mix .cell) (f t) (g t)) ∙ sym m
 
       -- The turn counts the runs before y.
-      pub count-next : Counted map below mix from to y (n + new) here (v .at) (w .at)
+      pub count-next : Counted map below mix from to y (n + new) here (s .i) (s .j)
       count-next =
           let f : x ≤ y = omega (arith, further) in
           record {
             sum = omega (arith, k .sum, starts-on x y to last here mixOf further (omega arith) same-there, r);
-            view = passed-on (a .passed) y f;
-            under = passed-on (b .passed) y f;
+            view = passing-on (passing-then (k .view) (p .mine)) y f;
+            under = passing-on (passing-then (k .under) (p .theirs)) y f;
           }

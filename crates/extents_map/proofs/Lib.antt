@@ -1,4 +1,5 @@
 pub mod Scanning
+pub mod Looking
 pub mod Counting
 pub mod Parted
 pub mod Places

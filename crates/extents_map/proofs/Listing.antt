@@ -14,9 +14,10 @@ use Rattle.extents_meaning.specs.Cells.{Bytes, numberIn}
 use Rattle.extents_meaning.specs.Runs.{Run, runOf, joined, runsFrom}
 use Rattle.extents_meaning.specs.Maps.{threes, runs, bytesOf}
 use Rattle.extents_map.specs.declared.scan.Look.{Look}
-use Rattle.extents_map.specs.Cursors.{Passed, Seen}
+use Rattle.extents_map.specs.Cursors.{Passing, Looked}
 use Rattle.extents_map.specs.Pieces.{Room, Put}
-use Rattle.extents_map.proofs.Scanning.{passed-on}
+use Rattle.extents_meaning.proofs.Changes.{change-iff, before-change}
+use Rattle.extents_map.proofs.Looking.{passing-on, passing-then}
 
 -- ---- A run put before others
 
@@ -356,22 +357,27 @@ module _ {f : Bytes} {from to : ℕ} {xs ys : List ℕ} {x n last : ℕ} (g : Li
 abbrev pub valuesOf : List ℕ → Bytes
 valuesOf map b = suc (numberIn (bytesOf map b))
 
--- what is seen at byte x, up to the end of the range
-module _ {map : List ℕ} {from to : ℕ} {xs ys : List ℕ} {x n last : ℕ} (g : Listing (valuesOf map) from to xs ys x n last) (on : x < to) {r : Look}
-    (s : Seen map x r) {e : ℕ} (q : e ≡ min (r .next) to) where
-  -- The stretch seen is not empty.
-  seen-on : x < e
-  seen-on = omega (arith, s .on)
+-- a look at byte x, up to the end of the range
+module _ {map : List ℕ} {from to : ℕ} {xs ys : List ℕ} {x n last i : ℕ} (g : Listing (valuesOf map) from to xs ys x n last) (p : Passing map 0 x i)
+    (on : x < to) (top : to ≤ OFFSET-MAX) {r : Look} (s : Looked map i x r) {e : ℕ} (q : e ≡ min (r .next) to) where
+  -- the stretch looked at is not empty
+  pub look-further : (x < e) × (x < r .next)
+  look-further =
+      let h = change-iff (bytesOf (drop (4 * i) map)) x (r .next) (omega arith) .0 (sym (s .next)) .0 in (omega arith, h)
 
-  -- The stretch seen has one value.
-  seen-value : (b : ℕ) → x ≤ b → b < e → valuesOf map b ≡ numberIn (r .cell) + 1
-  seen-value b h k = ap (λ (c : ℕ). suc (numberIn c)) (s .cells b h (omega arith)) ∙ omega arith
+  -- The stretch looked at has one value.
+  look-value : (b : ℕ) → x ≤ b → b < e → valuesOf map b ≡ numberIn (r .cell) + 1
+  look-value b h k =
+      let m : bytesOf map b ≡ r .cell =
+      sym (p .same b h) ∙ before-change (bytesOf (drop (4 * i) map)) x b (omega arith) h (omega (arith, s .next)) ∙ sym (s .cell) in
+      ap (λ (c : ℕ). suc (numberIn c)) m ∙ omega arith
 
   -- the slice has room for it
-  pub seen-room : to ≤ OFFSET-MAX → Room ys n last (e - x) (numberIn (r .cell) + 1)
-  seen-room = list-room g seen-on (omega arith) (omega arith) seen-value
+  pub look-room : Room ys n last (e - x) (numberIn (r .cell) + 1)
+  look-room = list-room g (look-further .0) (omega arith) (omega arith) look-value top
 
   -- With the stretch in place the listing and its cursor go on.
-  pub seen-next : {k : ℕ} {zs : List ℕ} → Put ys n last x (e - x) (numberIn (r .cell) + 1) k zs →
-      Listing (valuesOf map) from to xs zs e k (numberIn (r .cell) + 1) × Passed (runs map) (r .at) e
-  seen-next u = (list-next g seen-on (omega arith) (omega arith) seen-value u, passed-on (s .passed) e (omega (arith, seen-on)))
+  pub look-next : {k : ℕ} {zs : List ℕ} → Put ys n last x (e - x) (numberIn (r .cell) + 1) k zs →
+      Listing (valuesOf map) from to xs zs e k (numberIn (r .cell) + 1) × Passing map 0 e (r .at)
+  look-next u =
+      (list-next g (look-further .0) (omega arith) (omega arith) look-value u, passing-on (passing-then p (s .passing)) e (omega (arith, look-further .0)))

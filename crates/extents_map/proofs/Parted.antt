@@ -13,7 +13,7 @@ use Rattle.rows.specs.Limits.{OFFSET-MAX}
 use Rattle.extents_meaning.specs.Cells.{Bytes, inRange, overwrite}
 use Rattle.extents_meaning.specs.Runs.{Run, runOf, cellAt, runsOf, Next, Rising}
 use Rattle.extents_meaning.proofs.Longest.{range-in, range-before, range-behind, cell-first, cell-before, cell-behind, mean-before, mean-first, unique-from}
-use Rattle.extents_map.specs.Cursors.{partOf, Passed}
+use Rattle.extents_map.specs.Cursors.{partOf}
 use Rattle.extents_map.specs.Beside.{endOf, runNo, runBefore, Met, Behind, Front, Back}
 
 -- ---- Lists of runs
@@ -330,8 +330,9 @@ pub past-stop : {rs : List Run} {x lo hi all : ℕ} → Past rs x lo hi → hi �
 past-stop {rs} {x} {lo} {hi} k h e l = let z : hi ≡ lo = omega (arith, k .order) in rw z at k .behind (omega arith)
 
 -- all before it are passed
-pub past-cursor : {rs : List Run} → Rising OFFSET-MAX 0 0 rs → {x at : ℕ} → at ≤ length rs → endOf (runBefore rs at) ≤ x → Passed rs at x
-past-cursor {rs} g {x} {at} h l = record { some = h; same = λ b k. same-behind rs g at h b (omega arith) }
+pub past-cursor : (rs : List Run) → Rising OFFSET-MAX 0 0 rs → (x at : ℕ) → at ≤ length rs → endOf (runBefore rs at) ≤ x → (b : ℕ) → x ≤ b →
+    cellAt (drop at rs) b ≡ cellAt rs b
+past-cursor rs g x at h l b k = same-behind rs g at h b (omega arith)
 
 -- run 0 ends behind the start, or there is none: it is met
 pub met-first : {rs : List Run} {start cell all i : ℕ} → (i < all → start < endOf (runNo rs i)) → i ≡ 0 → all ≡ length rs → Met rs start cell 0

@@ -8,10 +8,10 @@ ghost use Rattle.extents_meaning.specs.Cells.{inRange};
 ghost use Rattle.extents_meaning.specs.Runs.{runsFrom};
 ghost use Rattle.extents_meaning.specs.Maps.{runs, bytesOf, allZero, follows, lawful, noMarks, lawfulPublished};
 ghost use Rattle.extents_map.specs.Mixes.{mixed as Mixes·mixed, mixIn};
-ghost use Rattle.extents_map.specs.Cursors.{Passed, Seen};
+ghost use Rattle.extents_map.specs.Cursors.{Part, Passing, Looked, edgeOf, BothLooked};
 ghost use Rattle.rows.specs.Limits.{OFFSET-MAX, ROWS};
 
-// The cell of a byte, the next byte that may have another cell, and the run to go on from.
+// The cell of a byte, the next byte that has another, and the run to go on from: the first that does not end at the byte or before.
 pub struct Look {
     pub cell: u32,
     pub next: u32,
@@ -118,11 +118,10 @@ fn has_no_marks(map: &[u32]) -> bool
     true
 }
 
-// The cell at byte x. All runs before index `from` end at or before x.
+// What stands at byte x by the runs from run `from` on.
 pub fn see(map: &[u32], from: usize, x: u32) -> Look
-    requires { ⌜ lawful (now map) ≡ true ⌝ }
-    requires { ⌜ Passed (runs (now map)) from x × (x < OFFSET-MAX) ⌝ }
-    ensures { λ r. ⌜ Seen (now (map .entry)) x r ⌝ }
+    requires { ⌜ Part (now map) from x ⌝ }
+    ensures { λ r. ⌜ Looked (now (map .entry)) from x r ⌝ }
 {
     let space = map.len() / 4;
     let mut i = from;
@@ -160,10 +159,10 @@ pub fn see(map: &[u32], from: usize, x: u32) -> Look
     }
 }
 
-// An index of a run from which `see` may look for byte x: all runs before it end at or before x.
+// A run from which `see` may look for byte x: all runs before it end at x or before.
 pub fn seek(map: &[u32], x: u32) -> usize
     requires { ⌜ lawful (now map) ≡ true ⌝ }
-    ensures { λ r. ⌜ Passed (runs (now (map .entry))) r x ⌝ }
+    ensures { λ r. ⌜ Passing (now (map .entry)) 0 x r ⌝ }
 {
     let all = crate::locate::runs_in(map);
     crate::locate::first_past(map, all, x)
@@ -186,6 +185,35 @@ pub struct Mix {
     pub cell: u32,
 }
 
+// What two maps and a range have at a byte, the next byte at which one of them changes, and the runs to go on from.
+pub struct Both {
+    pub cell: u32,
+    pub other: u32,
+    pub inside: bool,
+    pub next: u32,
+    pub i: usize,
+    pub j: usize,
+}
+
+// What a map from run i on, another one from run j on and the range of a mix have at byte x. Every walk over two maps goes by it.
+pub fn see_both(map: &[u32], i: usize, other: &[u32], j: usize, mix: Mix, x: u32) -> Both
+    requires { ⌜ Part (now map) i x × Part (now other) j x × (mix .start ≤ mix .end) ⌝ }
+    ensures { λ r. ⌜ BothLooked (now (map .entry)) i (now (other .entry)) j mix x r ⌝ }
+{
+    let v = see(map, i, x);
+    let w = see(other, j, x);
+    let start = mix.start;
+    let end = mix.end;
+    Both {
+        cell: v.cell,
+        other: w.cell,
+        inside: is_inside(start, end, x),
+        next: least(least(v.next, w.next), edge(start, end, x)),
+        i: v.at,
+        j: w.at,
+    }
+}
+
 // How many runs a mix of two maps has from one byte to another.
 pub fn count(map: &[u32], below: &[u32], mix: Mix, from: u32, to: u32) -> usize
     requires { ⌜ (lawful (now map) ≡ true) × (lawful (now below) ≡ true) ⌝ }
@@ -198,23 +226,19 @@ pub fn count(map: &[u32], below: &[u32], mix: Mix, from: u32, to: u32) -> usize
     let mut i = seek(map, from);
     let mut j = seek(below, from);
     while x < to {
-        let v = see(map, i, x);
-        let w = see(below, j, x);
-        let here = mixed(mix, is_inside(mix.start, mix.end, x), v.cell, w.cell);
+        let s = see_both(map, i, below, j, mix, x);
+        let here = mixed(mix, s.inside, s.cell, s.other);
         n += begins(here, last);
         last = here;
-        i = v.at;
-        j = w.at;
-        x = least(
-            least(v.next, w.next),
-            least(edge(mix.start, mix.end, x), to),
-        );
+        i = s.i;
+        j = s.j;
+        x = least(s.next, to);
     }
     n
 }
 
 // What a mix makes of one byte, in its range or not, where the two maps have cells v and w.
-fn mixed(mix: Mix, inside: bool, v: u32, w: u32) -> u32
+pub fn mixed(mix: Mix, inside: bool, v: u32, w: u32) -> u32
     ensures { λ r. ⌜ r ≡ Mixes·mixed (mix .mode) inside (mix .cell) v w ⌝ }
 {
     let mode = mix.mode;
@@ -274,9 +298,9 @@ fn is_inside(start: u32, end: u32, x: u32) -> bool
     x < end
 }
 
-// The next byte behind x at which a range starts or ends.
+// The next byte behind x at which a range starts or ends, the end of all bytes where there is none.
 fn edge(start: u32, end: u32, x: u32) -> u32
-    ensures { λ r. ⌜ (x < OFFSET-MAX → x < r) × ((b : ℕ) → x ≤ b → b < r → inRange start (end - start) b ≡ inRange start (end - start) x) ⌝ }
+    ensures { λ r. ⌜ r ≡ edgeOf start end x ⌝ }
 {
     if x < start {
         return start;

@@ -5,3 +5,4 @@ pub mod Trips
 pub mod Threes
 pub mod Rules
 pub mod Sides
+pub mod Changes

@@ -45,6 +45,13 @@ cell-behind r rs b h = rw (range-behind (r .start) (r .length) b h)
 
 -- ---- Lists in rising order
 
+-- runs behind an end are behind an earlier one too
+pub rising-earlier : (top end c x : ℕ) (rs : List Run) → x ≤ end → Rising top end c rs → Rising top x 0 rs
+rising-earlier top end c x [] h g = tt
+rising-earlier top end c x (r ∷ rs) h g =
+    let n = g .0 in
+    (record { rising = omega arith; filled = n .filled; inside = n .inside; written = n .written; longest = λ a b. omega arith }, g .1)
+
 -- lists in rising order mean 0 before their first run and from their top on
 pub mean-before : (top end c : ℕ) (rs : List Run) → Rising top end c rs → (b : ℕ) → b < end → cellAt rs b ≡ 0
 unfolding cellAt

@@ -3,3 +3,4 @@ pub mod Runs
 pub mod Maps
 pub mod Points
 pub mod Pairs
+pub mod Lookups

@@ -4,15 +4,15 @@ use Prim.Native.Nat.{_-_}
 use native.Mathlib.Omega.{arith}
 use denote.Ref.{now}
 use Rattle.extents_meaning.specs.Runs.{piecesOf}
-use Rattle.extents_meaning.specs.Maps.{runs}
-use Rattle.extents_map.specs.Cursors.{Passed}
-use Rattle.extents_map.proofs.Listing.{Listing, list-start, list-length, list-done, valuesOf, seen-room, seen-next}
+use Rattle.extents_map.specs.Cursors.{Passing}
+use Rattle.extents_map.proofs.Listing.{Listing, list-start, list-length, list-done, valuesOf, look-further, look-room, look-next}
+use Rattle.extents_map.proofs.Looking.{passing-part}
 use Rattle.extents_map.proofs.list.list.Statement.{statement}
 use Rattle.extents_map.proofs.list.list.Tie as tie
 
 -- The n pieces of the bytes before x are in place, of which the last has the value `last`; the cursor i serves from x on.
 abbrev Inv-loop : tie.InvT-loop
-Inv-loop map from to out₀ x₀ n₀ i₀ last₀ out x n i last = Listing (valuesOf map) from to out₀ out x n last × Passed (runs map) i x
+Inv-loop map from to out₀ x₀ n₀ i₀ last₀ out x n i last = Listing (valuesOf map) from to out₀ out x n last × Passing map 0 x i
 
 abbrev μ-loop : tie.MeasureT-loop
 μ-loop map from to out₀ x₀ n₀ i₀ last₀ out x n i last = to - x
@@ -28,7 +28,7 @@ loop-holds c =
     (list-start (valuesOf (now (a .map))) (a .from) (a .to) (now (a .out)) (s .pre .1), c .seek .ensures)
 
 see-requires : tie.Need-see-requires Inv-loop μ-loop
-see-requires c κs = (c .before .before .before .before .before .pre .0 .0, (c .before .loop .inv .1, omega arith))
+see-requires c κs = passing-part (c .before .loop .inv .1) (omega arith)
 
 least-requires : tie.Need-least-requires Inv-loop μ-loop
 least-requires c κs = tt
@@ -37,24 +37,32 @@ add-value : tie.Need-add-value Inv-loop μ-loop
 add-value c = search needs
 
 sub-put-piece : tie.Need-sub-put-piece Inv-loop μ-loop
-sub-put-piece c = omega (arith, c .before .before .before .see .ensures .on, c .before .before .least .ensures)
+sub-put-piece c =
+    let e = c .before .before in
+    let s = e .before in
+    let l = s .before .before in
+    omega (arith, look-further (l .loop .inv .0) (l .loop .inv .1) (s .before .loop-test .taken) (omega arith) (s .see .ensures) (e .least .ensures) .0)
 
 put-piece-requires : tie.Need-put-piece-requires Inv-loop μ-loop
 put-piece-requires c κs =
     let e = c .before .before in
     let s = e .before in
     let l = s .before .before in
-    seen-room (l .loop .inv .0) (s .before .loop-test .taken) (s .see .ensures) (e .least .ensures) (omega arith)
+    look-room (l .loop .inv .0) (l .loop .inv .1) (s .before .loop-test .taken) (omega arith) (s .see .ensures) (e .least .ensures)
 
 loop-less : tie.Need-loop-less Inv-loop μ-loop
-loop-less c = omega arith
+loop-less c =
+    let e = c .before .before .before .before .before in
+    let s = e .before in
+    let l = s .before .before in
+    omega (arith, look-further (l .loop .inv .0) (l .loop .inv .1) (s .before .loop-test .taken) (omega arith) (s .see .ensures) (e .least .ensures) .0)
 
 loop-again : tie.Need-loop-again Inv-loop μ-loop
 loop-again c =
     let e = c .before .before .before .before .before in
     let s = e .before in
     let l = s .before .before in
-    seen-next (l .loop .inv .0) (s .before .loop-test .taken) (s .see .ensures) (e .least .ensures) (c .before .before .put-piece .ensures)
+    look-next (l .loop .inv .0) (l .loop .inv .1) (s .before .loop-test .taken) (omega arith) (s .see .ensures) (e .least .ensures) (c .before .before .put-piece .ensures)
 
 same-length : tie.Need-same-length Inv-loop μ-loop
 same-length c = list-length (c .before .loop .inv .0)

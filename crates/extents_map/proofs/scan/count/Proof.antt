@@ -1,11 +1,10 @@
 -- `extents_map::scan::count` meets its contract.
 use borrow.Author.Needs.{needs}
-use Prim.Native.Nat.{_-_, min}
+use Prim.Native.Nat.{_-_}
 use native.Mathlib.Omega.{arith}
-use mathlib.Core.Path.{_∙_}
 use denote.Ref.{now}
 use Rattle.extents_meaning.proofs.Points.{begins-most}
-use Rattle.extents_map.proofs.Counting.{Counted, count-start, count-most, count-end, count-less, count-next}
+use Rattle.extents_map.proofs.Counting.{Counted, count-start, count-parts, count-most, count-end, count-less, count-next}
 use Rattle.extents_map.proofs.scan.count.Statement.{statement}
 use Rattle.extents_map.proofs.scan.count.Tie as tie
 
@@ -25,17 +24,12 @@ seek-requires-2 c κs = search needs
 loop-holds : tie.Need-loop-holds Inv-loop μ-loop
 loop-holds c =
     let a = c .before .before .before .before .args in
-    count-start (now (a .map)) (now (a .below)) (a .mix) (a .from) (a .to) _ _
-    (c .before .seek .ensures) (c .seek2 .ensures)
+    count-start (now (a .map)) (now (a .below)) (a .mix) (a .from) (a .to) _ _ (c .before .seek .ensures) (c .seek2 .ensures)
 
-see-requires : tie.Need-see-requires Inv-loop μ-loop
-see-requires c κs = (c .before .before .before .before .before .before .pre .0 .0, (c .before .loop .inv .view, omega arith))
-
-see-requires-2 : tie.Need-see-requires-2 Inv-loop μ-loop
-see-requires-2 c κs = (c .before .before .before .before .before .before .before .pre .0 .1, (c .before .before .loop .inv .under, omega arith))
-
-is-inside-requires : tie.Need-is-inside-requires Inv-loop μ-loop
-is-inside-requires c κs = search needs
+see-both-requires : tie.Need-see-both-requires Inv-loop μ-loop
+see-both-requires c κs =
+    let p = count-parts (c .before .loop .inv) (omega arith) in
+    (p .0, p .1, c .before .before .before .before .before .before .pre .1 .1)
 
 mixed-requires : tie.Need-mixed-requires Inv-loop μ-loop
 mixed-requires c κs = search needs
@@ -45,37 +39,26 @@ begins-requires c κs = search needs
 
 add-n : tie.Need-add-n Inv-loop μ-loop
 add-n c =
-    let s = c .before .before .before .before .before .before in
-    omega (arith, count-most (s .loop .inv), begins-most (c .before .mixed .result) (s .loop .last), c .begins .ensures)
+    let l = c .before .before .before .before in
+    omega (arith, count-most (l .loop .inv), begins-most (c .before .mixed .result) (l .loop .last), c .begins .ensures)
 
 least-requires : tie.Need-least-requires Inv-loop μ-loop
 least-requires c κs = search needs
 
-edge-requires : tie.Need-edge-requires Inv-loop μ-loop
-edge-requires c κs = search needs
-
-least-requires-2 : tie.Need-least-requires-2 Inv-loop μ-loop
-least-requires-2 c κs = search needs
-
-least-requires-3 : tie.Need-least-requires-3 Inv-loop μ-loop
-least-requires-3 c κs = search needs
-
 loop-less : tie.Need-loop-less Inv-loop μ-loop
 loop-less c =
-    let t = c .before .before .before .before .before .before in
-    let s = t .before .before in
-    let e = c .before .before .edge .ensures in
-    let y = c .least3 .ensures ∙ (λ i. min (c .before .before .before .least .ensures i) (c .before .least2 .ensures i)) in
-    count-less (s .before .before .loop .inv) (s .before .loop-test .taken) (s .see .ensures) (t .before .see2 .ensures) e y
+    let s = c .before .before .before in
+    let l = s .before .before in
+    let p = l .before .before .before .before .before in
+    count-less (l .loop .inv) (s .before .loop-test .taken) (omega arith) (p .pre .1 .1) (s .see-both .ensures) (c .least .ensures)
 
 loop-again : tie.Need-loop-again Inv-loop μ-loop
 loop-again c =
-    let t = c .before .before .before .before .before .before in
-    let s = t .before .before in
-    let e = c .before .before .edge .ensures in
-    let y = c .least3 .ensures ∙ (λ i. min (c .before .before .before .least .ensures i) (c .before .least2 .ensures i)) in
-    count-next (s .before .before .loop .inv) (s .before .loop-test .taken) (s .see .ensures) (t .before .see2 .ensures) e y
-    (t .is-inside .ensures) (c .before .before .before .before .before .mixed .ensures) (c .before .before .before .before .begins .ensures)
+    let s = c .before .before .before in
+    let l = s .before .before in
+    let p = l .before .before .before .before .before in
+    count-next (l .loop .inv) (s .before .loop-test .taken) (omega arith) (p .pre .1 .1) (s .see-both .ensures) (c .least .ensures)
+    (c .before .before .mixed .ensures) (c .before .begins .ensures)
 
 returns : tie.Need-returns Inv-loop μ-loop
 returns c = count-end (c .before .loop .inv) (c .loop-test .left)
@@ -89,16 +72,11 @@ count-spec =
     seek-requires
     seek-requires-2
     loop-holds
-    see-requires
-    see-requires-2
-    is-inside-requires
+    see-both-requires
     mixed-requires
     begins-requires
     add-n
     least-requires
-    edge-requires
-    least-requires-2
-    least-requires-3
     loop-less
     loop-again
     returns)

@@ -1,20 +1,22 @@
 -- `extents_map::scan::see` meets its contract.
 use borrow.Author.Needs.{needs}
-use Prim.Native.Nat.{_-_}
+use Prim.Native.Nat.{_-_, _<_}
 use native.Mathlib.Omega.{arith}
-use Rattle.extents_map.proofs.Scanning.{Looking, see-end, see-stop, see-cell, see-inside, see-before, see-in, see-on}
+use Rattle.rows.specs.Limits.{OFFSET-MAX}
+use Rattle.extents_map.specs.Cursors.{Passing}
+use Rattle.extents_map.proofs.Looking.{passing-start, look-stop, look-end, look-cell, look-inside, look-before, look-in, look-on}
 use Rattle.extents_map.proofs.scan.see.Statement.{statement}
 use Rattle.extents_map.proofs.scan.see.Tie as tie
 
--- All runs before run i end at byte x or before.
+-- The runs from run `from` up to run i end at byte x or before.
 abbrev Inv-loop : tie.InvT-loop
-Inv-loop map from x space i₀ i = Looking map i x
+Inv-loop map from x space i₀ i = Passing map from x i × (x < OFFSET-MAX)
 
 abbrev μ-loop : tie.MeasureT-loop
 μ-loop map from x space i₀ i = space - i
 
 loop-holds : tie.Need-loop-holds Inv-loop μ-loop
-loop-holds c = record { law = c .pre .0; passed = c .pre .1 .0; below = c .pre .1 .1 }
+loop-holds c = (passing-start (c .pre), c .pre .below)
 
 mul-at : tie.Need-mul-at Inv-loop μ-loop
 mul-at c = search needs
@@ -29,7 +31,7 @@ shared-slice-read-length : tie.Need-shared-slice-read-length Inv-loop μ-loop
 shared-slice-read-length c = search needs
 
 returns : tie.Need-returns Inv-loop μ-loop
-returns c = see-stop (c .before .before .before .loop .inv) (c .if1 .taken)
+returns c = let v = c .before .before .before .loop .inv in look-stop (v .0) (v .1) (c .if1 .taken)
 
 mul-start : tie.Need-mul-start Inv-loop μ-loop
 mul-start c = search needs
@@ -40,7 +42,7 @@ shared-slice-read-start c = search needs
 returns-2 : tie.Need-returns-2 Inv-loop μ-loop
 returns-2 c =
     let s = c .before .before .before .before in
-    see-before (s .before .loop .inv) (s .loop-test .taken) (c .before .before .if1 .left) (c .if2 .taken)
+    look-before (s .before .loop .inv .0) (s .before .loop .inv .1) (s .loop-test .taken) (c .before .before .if1 .left) (c .if2 .taken)
 
 add-t16 : tie.Need-add-t16 Inv-loop μ-loop
 add-t16 c = search needs
@@ -54,7 +56,7 @@ shared-slice-read-t19 c = search needs
 mul-t20 : tie.Need-mul-t20 Inv-loop μ-loop
 mul-t20 c =
     let s = c .before .before .before .before .before .before in
-    omega (arith, see-cell (s .before .loop .inv) (s .loop-test .taken) (c .before .before .before .before .if1 .left))
+    omega (arith, look-cell (s .before .loop .inv .0) (s .before .loop .inv .1) (s .loop-test .taken) (c .before .before .before .before .if1 .left))
 
 add-t21 : tie.Need-add-t21 Inv-loop μ-loop
 add-t21 c = search needs
@@ -68,18 +70,18 @@ shared-slice-read-t24 c = search needs
 add-t25 : tie.Need-add-t25 Inv-loop μ-loop
 add-t25 c =
     let s = c .before .before .before .before .before .before .before in
-    omega (arith, see-cell (s .before .loop .inv) (s .loop-test .taken) (c .before .before .before .before .before .if1 .left))
+    omega (arith, look-cell (s .before .loop .inv .0) (s .before .loop .inv .1) (s .loop-test .taken) (c .before .before .before .before .before .if1 .left))
 
 add-t26 : tie.Need-add-t26 Inv-loop μ-loop
 add-t26 c =
     let s = c .before .before .before .before .before .before .before in
-    omega (arith, see-inside (s .before .loop .inv) (s .loop-test .taken) (c .before .before .before .before .before .if1 .left))
+    omega (arith, look-inside (s .before .loop .inv .0) (s .before .loop .inv .1) (s .loop-test .taken) (c .before .before .before .before .before .if1 .left))
 
 returns-3 : tie.Need-returns-3 Inv-loop μ-loop
 returns-3 c =
     let t = c .before .before .before in
     let s = t .before .before .before .before in
-    see-in (s .before .loop .inv) (s .loop-test .taken) (t .before .before .if1 .left) (t .if2 .left) (c .before .before .if3 .taken)
+    look-in (s .before .loop .inv .0) (s .before .loop .inv .1) (s .loop-test .taken) (t .before .before .if1 .left) (omega (arith, t .if2 .left)) (omega (arith, t .if2 .left, c .before .before .if3 .taken))
 
 add-i : tie.Need-add-i Inv-loop μ-loop
 add-i c = search needs
@@ -90,10 +92,10 @@ loop-less c = search needs
 loop-again : tie.Need-loop-again Inv-loop μ-loop
 loop-again c =
     let s = c .before .before .before .before .before in
-    see-on (s .before .loop .inv) (s .loop-test .taken) (c .before .before .before .if1 .left) (c .before .if2 .left) (c .if3 .left)
+    (look-on (s .before .loop .inv .0) (s .before .loop .inv .1) (s .loop-test .taken) (c .before .before .before .if1 .left) (omega (arith, c .before .if2 .left, c .if3 .left)), s .before .loop .inv .1)
 
 returns-4 : tie.Need-returns-4 Inv-loop μ-loop
-returns-4 c = see-end (c .before .loop .inv) (c .loop-test .left)
+returns-4 c = look-end (c .before .loop .inv .0) (c .before .loop .inv .1) (c .loop-test .left)
 
 pub see-spec : {M : Type 1} → statement M
 see-spec =

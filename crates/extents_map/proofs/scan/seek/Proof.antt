@@ -1,8 +1,12 @@
 -- `extents_map::scan::seek` meets its contract.
 use borrow.Author.Needs.{needs}
+use Prim.Native.Nat.{_≤_}
 use native.Mathlib.Omega.{arith}
+use lib.ListN.{length}
+use Rattle.extents_meaning.specs.Maps.{runs}
 use denote.Ref.{now}
 use Rattle.extents_meaning.proofs.Trips.{lawful-map}
+use Rattle.extents_map.proofs.Looking.{passing-in}
 use Rattle.extents_map.proofs.Parted.{past-cursor}
 use Rattle.extents_map.proofs.scan.seek.Statement.{statement}
 use Rattle.extents_map.proofs.scan.seek.Tie as tie
@@ -17,7 +21,8 @@ returns : tie.Need-returns
 returns c =
     let s = c .before .before .before in
     let e = c .first-past .ensures in
-    past-cursor (lawful-map (now (s .args .map)) (s .pre) .lawful-runs .in-order) (omega (arith, e .0, c .before .runs-in .ensures)) (e .1 .0)
+    let k : c .first-past .result ≤ length (runs (now (s .args .map))) = omega (arith, e .0, c .before .runs-in .ensures) in
+    passing-in (s .pre) k (past-cursor _ (lawful-map (now (s .args .map)) (s .pre) .lawful-runs .in-order) (s .args .x) _ k (e .1 .0))
 
 pub seek-spec : {M : Type 1} → statement M
 seek-spec = tie.close (tie.spec runs-in-requires first-past-requires returns)

@@ -1,0 +1,41 @@
+-- What must be kept of a target map so that the cells of its bytes can be rewritten in place. `m b c` is the result at byte b from the cell c,
+-- `t b` the target's cell: the result is m b (t b).
+use Prim.Native.Nat.{ℕ, zero, suc}
+use mathlib.Core.Path.{_≡_}
+use mathlib.Core.Bool.{Bool, cond, not}
+use lib.Dec.{eqb}
+use Rattle.extents_meaning.specs.Cells.{Bytes}
+use Rattle.extents_weave_meaning.specs.Walks.{trimmed}
+
+-- the results of all bytes, for each cell the target may have there
+abbrev pub Results : Type 0
+Results = ℕ → ℕ → ℕ
+
+abbrev pub result : Results → Bytes → Bytes
+result m t b = m b (t b)
+
+-- the cell in hand behind byte b, from the one before it: the first of the cell in hand, 0 and the target's cell that gives the result
+unfoldable pub next : Results → Bytes → ℕ → ℕ → ℕ
+next m t b c = cond (eqb (m b c) (m b (t b))) c (cond (eqb (m b 0) (m b (t b))) 0 (t b))
+
+-- before byte b
+unfoldable pub hand : Results → Bytes → ℕ → ℕ
+hand m t zero = 0
+hand m t (suc b) = next m t b (hand m t b)
+
+-- at byte b
+abbrev pub held : Results → Bytes → Bytes
+held m t b = hand m t (suc b)
+
+-- a byte needs it where 0 does not give the result
+abbrev pub needs : Results → Bytes → ℕ → Bool
+needs m t b = not (eqb (m b 0) (m b (t b)))
+
+-- what is kept of the bytes below a top
+abbrev pub kept : ℕ → Results → Bytes → Bytes
+kept top m t = trimmed top (held m t) (needs m t)
+
+-- Where 0 would give another result than a cell, that result is not 0, and wherever it is the result of any cell, it is that of this cell too.
+pub record Lasting (m : Results) : Type 0 where
+  pub written : (b c : ℕ) → (m b c ≡ m b 0 → ⊥) → m b c ≡ 0 → ⊥
+  pub sticky : (b c : ℕ) → (m b c ≡ m b 0 → ⊥) → (x d : ℕ) → m x d ≡ m b c → m x c ≡ m b c
