@@ -210,7 +210,7 @@ fn move_runs(map: &mut [u32], from: usize, all: usize, to: usize)
 }
 
 // Moves the numbers from `from` to `end` up by some places.
-fn move_up(map: &mut [u32], from: usize, end: usize, by: usize)
+pub fn move_up(map: &mut [u32], from: usize, end: usize, by: usize)
     requires { ⌜ (from ≤ end) × (end + by ≤ length (now map)) ⌝ }
     ensures { λ _. ⌜ now (map .exit) ≡ take (from + by) (now (map .entry))
         ++ (slice from end (now (map .entry)) ++ drop (end + by) (now (map .entry))) ⌝ }

@@ -12,13 +12,13 @@ use lib.Dec.{ltb}
 use borrow.Author.Tests.{lt-ltb, le-ltb}
 use Rattle.rows.specs.Limits.{OFFSET-MAX}
 use Rattle.extents_meaning.specs.Cells.{Bytes, inRange}
-use Rattle.extents_meaning.specs.Runs.{Run, cellAt, Rising, NumbersLegal, Lawful}
+use Rattle.extents_meaning.specs.Runs.{Run, cellAt, Rising, Open, NumbersLegal, Lawful}
 use Rattle.extents_meaning.specs.Maps.{runs, runsIn, spaceIn, mapOf, lawful, bytesOf}
 use Rattle.extents_meaning.specs.Lookups.{changeOf}
 use Rattle.extents_meaning.proofs.Longest.{range-in, range-before, range-behind, cell-behind, rising-earlier}
 use Rattle.extents_meaning.proofs.Trips.{runAt, runs-step, runs-stop, lawful-map, map-lawful, map-back, rest-at, run-at, run-there}
 use Rattle.extents_meaning.proofs.Changes.{change-iff, before-change, see-none, see-gap, see-run}
-use Rattle.extents_map.specs.Cursors.{ahead, Part, Open, Passing, Looked, edgeOf, BothLooked}
+use Rattle.extents_map.specs.Cursors.{ahead, Part, Passing, Looked, edgeOf, BothLooked}
 use Rattle.extents_map.specs.declared.scan.Look.{Look}
 use Rattle.extents_map.specs.declared.scan.Both.{Both}
 use Rattle.extents_map.specs.declared.scan.Mix.{Mix}

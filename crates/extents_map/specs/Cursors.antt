@@ -7,7 +7,7 @@ use lib.ListN.{length, take, drop}
 use lib.Dec.{eqb, ltb}
 use Rattle.rows.specs.Limits.{OFFSET-MAX}
 use Rattle.extents_meaning.specs.Cells.{inRange}
-use Rattle.extents_meaning.specs.Runs.{Run, runOf, cellAt}
+use Rattle.extents_meaning.specs.Runs.{Run, runOf, cellAt, Open}
 use Rattle.extents_meaning.specs.Maps.{fours, runs, bytesOf, lawful}
 use Rattle.extents_meaning.specs.Lookups.{changeOf}
 use Rattle.extents_map.specs.declared.scan.Look.{Look}
@@ -23,11 +23,6 @@ pub record Part (xs : List ℕ) (i x : ℕ) : Type 0 where
   pub fits : 4 * i ≤ length xs
   pub law : lawful (drop (4 * i) xs) ≡ true
   pub below : x < OFFSET-MAX
-
--- The first of some runs does not end at byte x or before.
-abbrev pub Open : ℕ → List Run → Type 0
-Open x [] = Unit {0}
-Open x (r ∷ rs) = x < r .start + r .length
 
 -- The runs of a slice from run `from` up to run i end at byte x or before: from x on the runs from run i on say all.
 pub record Passing (xs : List ℕ) (from x i : ℕ) : Type 0 where

@@ -39,3 +39,21 @@ isMarkPublished MarkPublished = true
 isMarkPublished Refresh = false
 isMarkPublished ReadMap = false
 isMarkPublished ReadFresh = false
+
+-- ---- A map written by a mix
+
+-- The view is the map that the mode writes; Publish writes the published map.
+abbrev pub viewIsTarget : Mode → Bool
+viewIsTarget Publish = false
+viewIsTarget MarkPublished = true
+viewIsTarget Refresh = true
+viewIsTarget ReadMap = true
+viewIsTarget ReadFresh = true
+
+-- The cell that a byte of the target becomes: t is its cell, o the other map's, c the range's.
+abbrev pub becomes : Mode → Bool → ℕ → ℕ → ℕ → ℕ
+becomes mode inside c t o = cond (viewIsTarget mode) (mixed mode inside c t o) (mixed mode inside c o t)
+
+-- What every byte of the target becomes, for each cell that it may have there: o is the other map.
+abbrev pub becomesIn : Mix → Bytes → ℕ → ℕ → ℕ
+becomesIn m o b t = becomes (m .mode) (inRange (m .start) (m .end - m .start) b) (m .cell) t (o b)

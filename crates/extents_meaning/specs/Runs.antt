@@ -1,5 +1,5 @@
 -- Longest runs: how a map stores the bytes other than 0, and how a read lists its pieces.
-use Prim.Native.Nat.{ℕ, zero, suc, _+_, _≤_}
+use Prim.Native.Nat.{ℕ, zero, suc, _+_, _≤_, _<_}
 use mathlib.Core.Path.{_≡_}
 use mathlib.Core.Bool.{Bool, cond, _&&_}
 use mathlib.Core.List.{List, [], _∷_}
@@ -56,6 +56,11 @@ pub record Next (top end c : ℕ) (r : Run) : Type 0 where
 abbrev pub Rising : ℕ → ℕ → ℕ → List Run → Type 0
 Rising top end c [] = Unit {0}
 Rising top end c (r ∷ rs) = Next top end c r × Rising top (r .start + r .length) (r .cell) rs
+
+-- The first of some runs does not end at byte x or before.
+abbrev pub Open : ℕ → List Run → Type 0
+Open x [] = Unit {0}
+Open x (r ∷ rs) = x < r .start + r .length
 
 -- row numbers are 1 to 4,096
 abbrev pub NumbersLegal : List Run → Type 0

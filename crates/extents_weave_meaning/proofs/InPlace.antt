@@ -6,11 +6,11 @@ use native.Mathlib.Decide.{decLt, ℕ-discrete}
 use mathlib.Core.Path.{_≡_, refl, sym, ap, subst, _∙_}
 use mathlib.Core.Bool.{Bool, true, false, cond}
 use mathlib.Core.List.{List, [], _∷_, _++_, append-assoc, append-nil}
-use lib.ListN.{length, take, drop, length-append, length-drop}
+use lib.ListN.{length, take, drop, replicate, length-append, length-drop}
 use lib.Seq.{length-take-le, take-at, drop-at, drop-drop, drop-append-add}
 use lib.Dec.{eqb}
 use Rattle.extents_meaning.specs.Cells.{Bytes}
-use Rattle.extents_meaning.specs.Runs.{Run, runOf, cellAt, runsFrom, Rising, NumbersLegal}
+use Rattle.extents_meaning.specs.Runs.{Run, runOf, cellAt, runsFrom, Rising, Open, NumbersLegal}
 use Rattle.extents_meaning.specs.Maps.{fours, mapOf}
 use Rattle.extents_meaning.specs.Points.{starts}
 use Rattle.extents_meaning.proofs.Longest.{cell-first, cell-behind, mean-first, rising-earlier}
@@ -20,16 +20,11 @@ use Rattle.extents_weave_meaning.specs.Walks.{last, live, trimmed, put, 
 use Rattle.extents_weave_meaning.proofs.Starts.{starts-step, starts-at, last-next, last-none}
 use Rattle.extents_weave_meaning.proofs.Rests.{rest, rest-unique, rest-none, put-none, put-some}
 use Rattle.extents_weave_meaning.proofs.Walks.{turn-on, turn-needed, turn-put, turn-none, turn-free, listed-is}
-use Rattle.extents_weave_meaning.proofs.Kept.{Roomy}
+use Rattle.extents_weave_meaning.specs.Kept.{Roomy}
 
 -- ---- Runs that are not yet passed
 
--- the first of some runs does not end at byte x or before
-abbrev pub Open : ℕ → List Run → Type 0
-Open x [] = Unit {0}
-Open x (r ∷ rs) = x < r .start + r .length
-
--- they are as many as byte x and those behind it have
+-- runs that are not passed are as many as byte x and those behind it have
 pub unread-count : (top x : ℕ) (f : Bytes) (rs : List Run) → x ≤ top → Rising top 0 0 rs → Open x rs → ((b : ℕ) → x ≤ b → b < top → cellAt rs b ≡ f b) →
     length rs ≡ starts (top - x) x 0 f
 unread-count top x f [] h g o m = ap length (sym (rest-unique top f x [] h tt m)) ∙ count-starts (top - x) x f
@@ -324,12 +319,19 @@ module _ (space top all : ℕ) (f g : Bytes) (need : ℕ → Bool) (first : Need
   unfolding listed
   end-list = let z : top - top ≡ 0 = omega arith in ap (λ (n : ℕ). listed g need n top a e c) z
 
+  -- The runs written in the end.
+  abbrev all-runs : List Run
+  all-runs = runsFrom top 0 (trimmed top g need)
+
+  -- The runs written before and the run in hand are all.
+  end-whole : w .done ++ put a e c [] ≡ all-runs
+  end-whole = ap (λ (l : List Run). w .done ++ l) (sym end-list) ∙ sym (w .whole) ∙ listed-is top g need first
+
   -- nothing is in hand
-  pub end-none : c ≡ 0 → take (4 * q) xs ≡ fours (runsFrom top 0 (trimmed top g need))
+  pub end-none : c ≡ 0 → (q ≡ length all-runs) × (take (4 * q) xs ≡ fours all-runs)
   end-none z =
-      w .front
-      ∙ ap fours (sym (append-nil (w .done)) ∙ ap (λ (l : List Run). w .done ++ l) (sym (end-list ∙ put-none a e c [] z)) ∙ sym (w .whole)
-      ∙ listed-is top g need first)
+      let d : w .done ≡ all-runs = sym (append-nil (w .done)) ∙ ap (λ (l : List Run). w .done ++ l) (sym (put-none a e c [] z)) ∙ end-whole in
+      (sym (w .many) ∙ ap length d, w .front ∙ ap fours d)
 
   -- there is room for the run in hand
   pub end-room : Roomy top all f g → (c ≡ 0 → ⊥) → q < all
@@ -340,10 +342,26 @@ module _ (space top all : ℕ) (f g : Bytes) (need : ℕ → Bool) (first : Need
 
   -- it is stored
   pub end-store : (ys : List ℕ) → (c ≡ 0 → ⊥) → q < all → ys ≡ (take (4 * q) xs ++ fours (runOf a (e - a) c ∷ [])) ++ drop (4 * q + 4) xs →
-      take (4 * suc q) ys ≡ fours (runsFrom top 0 (trimmed top g need))
+      (suc q ≡ length all-runs) × (take (4 * suc q) ys ≡ fours all-runs) × (drop (4 * all) ys ≡ drop (4 * all) xs)
   end-store ys z below s =
       let si = w .size in
-      let p = w .passed in
       let ro = w .room in
-      stored-front xs ys q (runOf a (e - a) c) (omega arith) s (w .done) (w .front)
-      ∙ ap fours (ap (λ (l : List Run). w .done ++ l) (sym (end-list ∙ put-some a e c [] z)) ∙ sym (w .whole) ∙ listed-is top g need first)
+      let r = runOf a (e - a) c in
+      let d : w .done ++ (r ∷ []) ≡ all-runs = ap (λ (l : List Run). w .done ++ l) (sym (put-some a e c [] z)) ∙ end-whole in
+      let n = w .many in (
+        omega (arith, n, length-append (w .done) (r ∷ []), ap length d),
+        stored-front xs ys q r (omega arith) s (w .done) (w .front) ∙ ap fours d,
+        stored-behind xs ys q r (omega arith) s all below,
+      )
+
+-- Behind the source's last run all is 0.
+pub rewrite-behind : (space top all : ℕ) (f g : Bytes) (need : ℕ → Bool) (xs : List ℕ) (x q i a e c : ℕ) →
+    Rewriting space top all f g need xs x q i a e c → drop (4 * all) xs ≡ replicate (4 * (space - all)) 0
+unfolding mapOf
+rewrite-behind space top all f g need xs x q i a e c w =
+    let p = w .passed in
+    let n = length (w .src) in
+    let j : 4 * all ≡ 4 * i + 4 * n = omega arith in
+    let k : space - i - n ≡ space - all = omega arith in
+    ap (λ (m : ℕ). drop m xs) j ∙ sym (drop-drop (4 * n) (4 * i) xs) ∙ ap (drop (4 * n)) (w .unread)
+    ∙ drop-at (fours (w .src)) (replicate (4 * (space - i - n)) 0) (4 * n) (length-fours (w .src)) ∙ ap (λ (m : ℕ). replicate (4 * m) 0) k

@@ -13,7 +13,7 @@ use Rattle.extents_meaning.specs.Runs.{Run, runsFrom}
 use Rattle.extents_meaning.specs.Points.{starts}
 use Rattle.extents_meaning.proofs.Points.{begins, begins-zero, begins-same, begins-one, begins-most}
 use Rattle.extents_weave_meaning.specs.Walks.{last, live, trimmed, listed, Needed}
-use Rattle.extents_weave_meaning.specs.Kept.{Results, result, next, hand, held, needs, kept, Lasting}
+use Rattle.extents_weave_meaning.specs.Kept.{Results, result, next, hand, held, needs, kept, Lasting, Roomy}
 use Rattle.extents_weave_meaning.proofs.Starts.{starts-step, starts-most, starts-more, starts-other, starts-at, starts-next, last-next, last-none}
 use Rattle.extents_weave_meaning.proofs.Walks.{live-needed, live-on, live-not, trimmed-needed, trimmed-either, runs-from, runs-free, listed-is}
 
@@ -252,11 +252,6 @@ module _ (m : Results) (t : Bytes) where
       omega (arith, a, b, c, d, taken-step x, taken-early x)
 
 -- ---- Room
-
--- A walk that writes the runs of g in front, and reads those of f behind them, up to a place `all`: where a run of g ends at byte x, the runs of g
--- that began before it, and the runs of f that byte x or a later byte has, are no more.
-abbrev pub Roomy : ℕ → ℕ → Bytes → Bytes → Type 0
-Roomy top all f g = (x n : ℕ) → x + n ≡ top → (1 ≤ n → g x ≡ last g x → ⊥) → starts x 0 0 g + starts n x 0 f ≤ all
 
 -- the third walk
 pub weave-room : (top : ℕ) (m : Results) (t : Bytes) → Lasting m → Roomy top (starts top 0 0 (result m t)) (kept top m t) (result m t)

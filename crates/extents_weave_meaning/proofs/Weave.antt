@@ -15,9 +15,9 @@ use Rattle.extents_meaning.proofs.Longest.{rising-from, mean-in, same-from}
 use Rattle.extents_meaning.proofs.Points.{count-starts, begins}
 use Rattle.extents_weave_meaning.specs.Walks.{trimmed, last}
 use Rattle.extents_weave_meaning.proofs.Starts.{last-next, last-none}
-use Rattle.extents_weave_meaning.specs.Kept.{Results, result, next, hand, held, needs, kept, Lasting}
+use Rattle.extents_weave_meaning.specs.Kept.{Results, result, next, hand, held, needs, kept, Lasting, Roomy}
 use Rattle.extents_weave_meaning.proofs.Walks.{trimmed-needed}
-use Rattle.extents_weave_meaning.proofs.Kept.{next-same, next-gives, held-next, kept-gives, few-from, Roomy, weave-room, pack-room}
+use Rattle.extents_weave_meaning.proofs.Kept.{next-same, next-gives, held-next, kept-gives, few-from, weave-room, pack-room}
 use Rattle.extents_weave_meaning.proofs.InPlace.{Rewriting, rewrite-start}
 
 -- ---- A stretch of both maps

@@ -1,11 +1,12 @@
 -- What must be kept of a target map so that the cells of its bytes can be rewritten in place. `m b c` is the result at byte b from the cell c,
 -- `t b` the target's cell: the result is m b (t b).
-use Prim.Native.Nat.{ℕ, zero, suc}
+use Prim.Native.Nat.{ℕ, zero, suc, _+_, _≤_}
 use mathlib.Core.Path.{_≡_}
 use mathlib.Core.Bool.{Bool, cond, not}
 use lib.Dec.{eqb}
 use Rattle.extents_meaning.specs.Cells.{Bytes}
-use Rattle.extents_weave_meaning.specs.Walks.{trimmed}
+use Rattle.extents_meaning.specs.Points.{starts}
+use Rattle.extents_weave_meaning.specs.Walks.{last, trimmed}
 
 -- the results of all bytes, for each cell the target may have there
 abbrev pub Results : Type 0
@@ -39,3 +40,8 @@ kept top m t = trimmed top (held m t) (needs m t)
 pub record Lasting (m : Results) : Type 0 where
   pub written : (b c : ℕ) → (m b c ≡ m b 0 → ⊥) → m b c ≡ 0 → ⊥
   pub sticky : (b c : ℕ) → (m b c ≡ m b 0 → ⊥) → (x d : ℕ) → m x d ≡ m b c → m x c ≡ m b c
+
+-- A walk that writes the runs of g in front, and reads those of f behind them, up to a place `all`: where a run of g ends at byte x, the runs of g
+-- that began before it, and the runs of f that byte x or a later byte has, are no more.
+abbrev pub Roomy : ℕ → ℕ → Bytes → Bytes → Type 0
+Roomy top all f g = (x n : ℕ) → x + n ≡ top → (1 ≤ n → g x ≡ last g x → ⊥) → starts x 0 0 g + starts n x 0 f ≤ all

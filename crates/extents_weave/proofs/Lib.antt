@@ -1,0 +1,6 @@
+pub mod Lasting
+pub mod Stepping
+pub mod Turning
+pub mod Sources
+pub mod Homes
+pub mod Walking
