@@ -4,3 +4,4 @@ pub mod Turning
 pub mod Sources
 pub mod Homes
 pub mod Walking
+pub mod Weaving

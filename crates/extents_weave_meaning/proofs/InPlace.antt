@@ -128,41 +128,6 @@ rewrite-start space top all i f g need xs src size room unread order numbered me
       passed = passed;
     }
 
--- the first run of the source ends at byte x or before
-pub rewrite-pass : (space top all : ℕ) (f g : Bytes) (need : ℕ → Bool) (xs : List ℕ) (x q i a e c : ℕ) →
-    (w : Rewriting space top all f g need xs x q i a e c) → (r : Run) (rs : List Run) → w .src ≡ r ∷ rs → r .start + r .length ≤ x →
-    Rewriting space top all f g need xs x q (suc i) a e c
-rewrite-pass space top all f g need xs x q i a e c w r rs s h =
-    let p = w .passed in
-    let ro = w .room in
-    let n : length (w .src) ≡ suc (length rs) = ap length s in
-    let k : 4 * suc i ≡ 4 * i + 4 = omega arith in
-    let u : drop (4 * i) xs ≡ fours (r ∷ []) ++ mapOf (space - i - 1) rs =
-    w .unread ∙ ap (mapOf (space - i)) s ∙ map-append (space - i) (r ∷ []) rs in
-    let v : drop (4 * suc i) xs ≡ mapOf (space - suc i) rs =
-    ap (λ (j : ℕ). drop j xs) k ∙ sym (drop-drop 4 (4 * i) xs) ∙ ap (drop 4) u
-    ∙ drop-at (fours (r ∷ [])) (mapOf (space - i - 1) rs) 4 (length-fours (r ∷ []))
-    ∙ (let j : space - i - 1 ≡ space - suc i = omega arith in ap (λ (l : ℕ). mapOf l rs) j) in
-    let g0 : Rising top 0 0 (r ∷ rs) = subst (Rising top 0 0) s (w .order) in
-    record {
-      size = w .size;
-      room = w .room;
-      cell = w .cell;
-      low = w .low;
-      high = w .high;
-      done = w .done;
-      many = w .many;
-      front = w .front;
-      count = w .count;
-      whole = w .whole;
-      src = rs;
-      unread = v;
-      order = rising-earlier top (r .start + r .length) (r .cell) 0 rs (omega arith) (g0 .1);
-      numbered = subst NumbersLegal s (w .numbered) .2;
-      means = λ b l t. sym (cell-behind r rs b (omega arith)) ∙ ap (λ (z : List Run). cellAt z b) (sym s) ∙ w .means b l t;
-      passed = omega (arith, n, p);
-    }
-
 -- where the run in hand ends at byte x, place q has been passed
 pub rewrite-room : (space top all : ℕ) (f g : Bytes) (need : ℕ → Bool) (xs : List ℕ) (x q i a e c : ℕ) →
     (w : Rewriting space top all f g need xs x q i a e c) → Roomy top all f g → Open x (w .src) → x ≤ top → (c ≡ 0 → ⊥) → (x < top → g x ≡ c → ⊥) → q < i

@@ -16,7 +16,7 @@ use Rattle.extents_meaning.proofs.Points.{count-starts, begins}
 use Rattle.extents_weave_meaning.specs.Walks.{trimmed, last}
 use Rattle.extents_weave_meaning.proofs.Starts.{last-next, last-none}
 use Rattle.extents_weave_meaning.specs.Kept.{Results, result, next, hand, held, needs, kept, Lasting, Roomy}
-use Rattle.extents_weave_meaning.proofs.Walks.{trimmed-needed}
+use Rattle.extents_weave_meaning.proofs.Walks.{trimmed-needed, trimmed-either}
 use Rattle.extents_weave_meaning.proofs.Kept.{next-same, next-gives, held-next, kept-gives, few-from, weave-room, pack-room}
 use Rattle.extents_weave_meaning.proofs.InPlace.{Rewriting, rewrite-start}
 
@@ -46,62 +46,17 @@ module _ (m : Results) (t : Bytes) (x k : ℕ) (flat : (b : ℕ) → x ≤ b →
   pub needs-flat : (b : ℕ) → x ≤ b → b < x + suc k → needs m t b ≡ needs m t x
   needs-flat b l h = λ j. not (eqb (even b l h 0 j) (result-flat b l h j))
 
--- the third walk reads the kept cells: on a stretch of theirs the result is that of the first
-pub weave-flat : (top : ℕ) (m : Results) (t : Bytes) (x k : ℕ) → x + suc k ≤ top →
-    ((b : ℕ) → x ≤ b → b < x + suc k → kept top m t b ≡ kept top m t x) → ((b : ℕ) → x ≤ b → b < x + suc k → (w : ℕ) → m b w ≡ m x w) →
-    (b : ℕ) → x ≤ b → b < x + suc k → result m t b ≡ m x (kept top m t x)
-weave-flat top m t x k i flat even b l h =
-    sym (kept-gives m t top b (omega arith)) ∙ even b l h (kept top m t b) ∙ ap (m x) (flat b l h)
-
--- ---- The second walk: from a map of the target to the kept runs in front
-
-module _ (space top : ℕ) (m : Results) (t : Bytes) (xs : List ℕ) where
-  pub pack-start : length xs ≡ 4 * space → xs ≡ mapOf space (runsFrom top 0 t) → length (runsFrom top 0 t) ≤ space → NumbersLegal (runsFrom top 0 t) →
-      Rewriting space top (starts top 0 0 t) t (held m t) (needs m t) xs 0 0 0 0 0 0
-  pack-start size whole fit numbered =
-      let n = count-starts top 0 t in
-      let z : space - 0 ≡ space = omega arith in
-      rewrite-start space top (starts top 0 0 t) 0 t (held m t) (needs m t) xs (runsFrom top 0 t) size (omega (arith, n, fit))
-      (whole ∙ ap (λ (j : ℕ). mapOf j (runsFrom top 0 t)) (sym z)) (rising-to-top top t) numbered (λ b h. mean-in top 0 t b (omega arith) (omega arith)) (omega (arith, n))
-    where
-      rising-to-top : (top : ℕ) (f : Bytes) → Rising top 0 0 (runsFrom top 0 f)
-      rising-to-top top f =
-          let e : 0 + top ≡ top = omega arith in
-          subst (λ (j : ℕ). Rising j 0 0 (runsFrom top 0 f)) e (rising-from top 0 f)
-
--- ---- The third walk: the kept runs stand up to place `all`, which the result's runs do not pass
+-- ---- The second walk: the kept runs stand up to place `all`, which the result's runs do not pass
 
 -- a place further back has room too
 pub roomy-more : (top all more : ℕ) (f g : Bytes) → all ≤ more → Roomy top all f g → Roomy top more f g
 roomy-more top all more f g h r x n e o = omega (arith, r x n e o)
 
-module _ (space top all : ℕ) (m : Results) (t : Bytes) (l : Lasting m) (fit : length (runsFrom top 0 (result m t)) ≤ all) (inside : all ≤ space) where
-  -- no more kept runs than runs of the result
-  pub few-kept : length (runsFrom top 0 (kept top m t)) ≤ length (runsFrom top 0 (result m t))
-  few-kept =
-      omega (arith, count-starts top 0 (kept top m t), count-starts top 0 (result m t), few-from m t l top 0 top (omega arith))
+-- No more runs are kept than the result has.
+pub few-kept : (top : ℕ) (m : Results) (t : Bytes) → Lasting m → length (runsFrom top 0 (kept top m t)) ≤ length (runsFrom top 0 (result m t))
+few-kept top m t l = omega (arith, count-starts top 0 (kept top m t), count-starts top 0 (result m t), few-from m t l top 0 top (omega arith))
 
-  pub weave-roomy : Roomy top all (kept top m t) (result m t)
-  weave-roomy =
-      roomy-more top (starts top 0 0 (result m t)) all (kept top m t) (result m t) (omega (arith, fit, count-starts top 0 (result m t))) (weave-room top m t l)
-
-  pub weave-start : (xs : List ℕ) (i : ℕ) → length xs ≡ 4 * space → i + length (runsFrom top 0 (kept top m t)) ≡ all →
-      drop (4 * i) xs ≡ mapOf (space - i) (runsFrom top 0 (kept top m t)) → NumbersLegal (runsFrom top 0 (kept top m t)) →
-      Rewriting space top all (kept top m t) (result m t) (λ b. true) xs 0 0 i 0 0 0
-  weave-start xs i size at u numbered =
-      let e : 0 + top ≡ top = omega arith in
-      rewrite-start space top all i (kept top m t) (result m t) (λ b. true) xs (runsFrom top 0 (kept top m t)) size inside u
-      (subst (λ (j : ℕ). Rising j 0 0 (runsFrom top 0 (kept top m t))) e (rising-from top 0 (kept top m t))) numbered
-      (λ b h. mean-in top 0 (kept top m t) b (omega arith) (omega arith)) at
-
-  -- what it leaves in front: the runs of the result
-  pub weave-end : runsFrom top 0 (trimmed top (result m t) (λ b. true)) ≡ runsFrom top 0 (result m t)
-  weave-end =
-      same-from top 0 (trimmed top (result m t) (λ b. true)) (result m t)
-      (λ b o h. let i : b < top = omega arith in trimmed-needed top (result m t) (λ b. true) b i refl)
-
--- ---- The third walk writes what it makes of the kept cells: below the top that is the result
-
+-- Bytes that are equal have as many starts.
 starts-same : (n s c : ℕ) (f g : Bytes) → ((b : ℕ) → s ≤ b → b < s + n → f b ≡ g b) → starts n s c f ≡ starts n s c g
 unfolding starts
 starts-same zero s c f g h = refl
@@ -109,20 +64,50 @@ starts-same (suc n) s c f g h =
     let e = h s (omega arith) (omega arith) in
     rw e (ap (λ (k : ℕ). begins (g s) c + k) (starts-same n (suc s) (g s) f g (λ b l u. h b (omega arith) (omega arith))))
 
+-- Bytes that are equal below byte x have one cell before it.
 last-same : (x : ℕ) (f g : Bytes) → ((b : ℕ) → b < x → f b ≡ g b) → last f x ≡ last g x
 last-same zero f g h = last-none f ∙ sym (last-none g)
 last-same (suc x) f g h = last-next x f ∙ h x (omega arith) ∙ sym (last-next x g)
 
-pub roomy-same : (top all : ℕ) (f g k : Bytes) → ((b : ℕ) → b < top → g b ≡ k b) → Roomy top all f k → Roomy top all f g
-roomy-same top all f g k h r x n e o =
+-- bytes that are equal below the top have the same room
+roomy-same : (top all : ℕ) (f g u v : Bytes) → ((b : ℕ) → b < top → f b ≡ u b) → ((b : ℕ) → b < top → g b ≡ v b) → Roomy top all u v → Roomy top all f g
+roomy-same top all f g u v i h r x n e o =
     omega (
       arith,
-      starts-same x 0 0 g k (λ b l u. h b (omega arith)),
-      r x n e (λ l z. o l (h x (omega arith) ∙ z ∙ sym (last-same x g k (λ b u. h b (omega arith))))),
+      starts-same n x 0 f u (λ b l k. i b (omega arith)),
+      starts-same x 0 0 g v (λ b l k. h b (omega arith)),
+      r x n e (λ l z. o l (h x (omega arith) ∙ z ∙ sym (last-same x g v (λ b k. h b (omega arith))))),
     )
 
--- so there is room for it
-pub weave-ready : (top all : ℕ) (m : Results) (t : Bytes) → Lasting m → length (runsFrom top 0 (result m t)) ≤ all →
-    Roomy top all (kept top m t) (result m (kept top m t))
-weave-ready top all m t l fit =
-    roomy-same top all (kept top m t) (result m (kept top m t)) (result m t) (λ b h. kept-gives m t top b h) (weave-roomy all top all m t l fit (omega arith))
+-- The second walk has room: it reads bytes that are the kept ones below the top, and writes what it makes of them.
+pub weave-ready : (top all : ℕ) (m w : Results) (t f : Bytes) → Lasting m → length (runsFrom top 0 (result m t)) ≤ all →
+    ((b : ℕ) → b < top → f b ≡ kept top m t b) → ((b c : ℕ) → w b c ≡ m b c) → Roomy top all f (result w f)
+weave-ready top all m w t f l fit e i =
+    roomy-same top all f (result w f) (kept top m t) (result m t) e (λ b h. i b (f b) ∙ ap (m b) (e b h) ∙ kept-gives m t top b h)
+    (roomy-more top (starts top 0 0 (result m t)) all (kept top m t) (result m t) (omega (arith, fit, count-starts top 0 (result m t))) (weave-room top m t l))
+
+-- What the second walk leaves in front are the runs of the result.
+pub weave-end : (top : ℕ) (m w : Results) (t f : Bytes) → ((b : ℕ) → b < top → f b ≡ kept top m t b) → ((b c : ℕ) → w b c ≡ m b c) →
+    runsFrom top 0 (trimmed top (result w f) (λ b. true)) ≡ runsFrom top 0 (result m t)
+weave-end top m w t f e i =
+    same-from top 0 (trimmed top (result w f) (λ b. true)) (result m t)
+    (λ b o k.
+    let h : b < top = omega arith in
+    trimmed-needed top (result w f) (λ b. true) b h refl ∙ i b (f b) ∙ ap (m b) (e b h) ∙ kept-gives m t top b h)
+
+-- ---- What is kept
+
+-- the cell in hand is 0 or a cell of the target
+hand-either : (P : ℕ → Type 0) (m : Results) (t : Bytes) → P 0 → ((b : ℕ) → P (t b)) → (x : ℕ) → P (hand m t x)
+unfolding hand next
+hand-either P m t z p zero = z
+hand-either P m t z p (suc x) = go (eqb (m x (hand m t x)) (m x (t x))) (eqb (m x 0) (m x (t x))) (hand-either P m t z p x)
+  where
+    go : (u v : Bool) → P (hand m t x) → P (cond u (hand m t x) (cond v 0 (t x)))
+    go true v q = q
+    go false true q = z
+    go false false q = p x
+
+-- Every kept cell is 0 or a cell of the target.
+pub kept-either : (P : ℕ → Type 0) (top : ℕ) (m : Results) (t : Bytes) → P 0 → ((b : ℕ) → P (t b)) → (b : ℕ) → b < top → P (kept top m t b)
+kept-either P top m t z p b h = trimmed-either top (held m t) (needs m t) P b h (hand-either P m t z p (suc b)) (λ q. z)
