@@ -113,6 +113,21 @@ pub fn fits(maps: &[u32], pair: Pair, mode: Mode, start: u32, end: u32, cell: u3
     count(maps, pair, made, 0, rows::OFFSET_MAX) <= space
 }
 
+// Room for the runs of a mix of a view, the published map and any range that fits a map's space: no more than the most that there can be.
+pub fn room(maps: &[u32], pair: Pair, mode: Mode) -> usize
+    requires { ⌜ (twoMapsIn pair (now maps) ≡ true) × (makesMap mode ≡ true) × OwnCounted pair (now maps) ⌝ }
+    ensures { λ r. ⌜ r ≤ pair .space ⌝ }
+    ensures { λ r. ⌜ ((start n cell : ℕ) → (let runs = length (runsOf (mix mode start n cell
+        (viewIn pair (now (maps .entry))) (belowIn pair (now (maps .entry))))) in runs ≤ pair .space → runs ≤ r)) ⌝ }
+{
+    let space = pair.space;
+    let most = most_runs(maps, pair, mode);
+    if most < space {
+        return most;
+    }
+    space
+}
+
 // The most runs that a mix of a view, the published map and any range can have.
 fn most_runs(maps: &[u32], pair: Pair, mode: Mode) -> usize
     requires { ⌜ (twoMapsIn pair (now maps) ≡ true) × (makesMap mode ≡ true) × OwnCounted pair (now maps) ⌝ }

@@ -5,3 +5,4 @@ pub mod Sources
 pub mod Homes
 pub mod Walking
 pub mod Weaving
+pub mod Pairs

@@ -11,10 +11,15 @@ use Rattle.extents_meaning.specs.Cells.{Bytes}
 use Rattle.extents_meaning.specs.Runs.{Run, runsOf}
 use Rattle.extents_meaning.specs.Maps.{fours, bytesOf, lawful, partAt, withPart}
 use Rattle.extents_map.specs.Cursors.{ahead}
-use Rattle.extents_map.specs.Mixes.{becomesIn}
+use Rattle.extents_map.specs.Mixes.{viewIsTarget, becomesIn}
 use Rattle.extents_map.specs.declared.scan.Mix.{Mix}
+use Rattle.extents_pair.specs.declared.Pair.{Pair}
 use Rattle.extents_weave_meaning.specs.Walks.{trimmed}
 use Rattle.extents_weave_meaning.specs.Kept.{Results, result, held, needs, Roomy}
+
+-- The number of the map that a mix of a pair writes.
+abbrev pub targetIn : Mix → Pair → ℕ
+targetIn mix pair = cond (viewIsTarget (mix .mode)) (pair .view) (pair .below)
 
 -- What a walk writes at each byte: the cells to keep, or the results.
 abbrev pub writtenBy : Bool → Results → Bytes → Bytes

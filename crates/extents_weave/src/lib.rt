@@ -6,15 +6,19 @@ ghost use mathlib.Core.Path.{_≡_};
 ghost use lib.ListN.{length, take, drop};
 ghost use mathlib.Core.List.{[], _∷_, _++_};
 ghost use Prim.Native.Nat.{_+_, max};
-ghost use Rattle.extents_meaning.specs.Maps.{bytesOf, mapFor, partAt, withPart};
+ghost use mathlib.Core.Bool.{true};
+ghost use Rattle.extents_meaning.specs.Runs.{runsOf};
+ghost use Rattle.extents_meaning.specs.Maps.{mapFor, withPart, withMap};
 ghost use Rattle.extents_map.specs.Cursors.{Part};
-ghost use Rattle.extents_map.specs.Mixes.{viewIsTarget as Mixes·viewIsTarget, becomes as Mixes·becomes};
+ghost use Rattle.extents_map.specs.Mixes.{makesMap, mixIn, viewIsTarget as Mixes·viewIsTarget, becomes as Mixes·becomes};
+ghost use Rattle.extents_pair.specs.InPairs.{twoMapsIn, viewIn, belowIn, OwnCounted};
 ghost use Rattle.extents_weave.specs.Turns.{Turned, turnedMap};
 ghost use Rattle.extents_weave.specs.Steps.{Stepped};
-ghost use Rattle.extents_weave.specs.Rewrites.{Ready, Rewritten, Weavable, wovenIn};
+ghost use Rattle.extents_weave.specs.Rewrites.{Ready, Rewritten, Weavable, wovenIn, targetIn};
 use extents_map::scan;
 use extents_map::scan::Mix;
 use extents_map::scan::Mode;
+use extents_pair::Pair;
 
 // The runs written so far, and a run in hand: from a start to an end, of a cell, none where the cell is 0.
 struct Hand {
@@ -33,8 +37,31 @@ struct Step {
     j: usize,
 }
 
+// Gives every byte of the view, or of the published map where the mode is Publish, the cell that a mix makes of it, where the result fits.
+pub fn weave(maps: &mut [u32], pair: Pair, mix: Mix)
+    requires { ⌜ (twoMapsIn pair (now maps) ≡ true) × OwnCounted pair (now maps) ⌝ }
+    requires { ⌜ (makesMap (mix .mode) ≡ true) × (mix .start ≤ mix .end) ⌝ }
+    requires { ⌜ length (runsOf (mixIn mix (viewIn pair (now maps)) (belowIn pair (now maps)))) ≤ pair .space ⌝ }
+    ensures { λ _. ⌜ now (maps .exit) ≡ withMap (pair .space) (targetIn mix pair)
+        (mapFor (pair .space) (mixIn mix (viewIn pair (now (maps .entry))) (belowIn pair (now (maps .entry))))) (now (maps .entry)) ⌝ }
+{
+    let mode = mix.mode;
+    let room = extents_pair::room(maps, pair, mode);
+    let space = pair.space;
+    let view = pair.view;
+    let below = pair.below;
+    let size = 4 * space;
+    let v = view * size;
+    let w = below * size;
+    if view_is_target(mode) {
+        weave_map(maps, size, v, w, mix, room);
+    } else {
+        weave_map(maps, size, w, v, mix, room);
+    }
+}
+
 // Gives every byte of the map at t the cell that a mix makes of it, where the result has at most `room` runs.
-pub fn weave(maps: &mut [u32], size: usize, t: usize, o: usize, mix: Mix, room: usize)
+fn weave_map(maps: &mut [u32], size: usize, t: usize, o: usize, mix: Mix, room: usize)
     requires { ⌜ Weavable size t o mix room (now maps) ⌝ }
     ensures { λ _. ⌜ now (maps .exit) ≡ withPart t size (mapFor (size / 4) (wovenIn size t o mix (now (maps .entry)))) (now (maps .entry)) ⌝ }
 {

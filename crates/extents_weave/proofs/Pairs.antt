@@ -1,0 +1,99 @@
+-- A pair of maps as the two parts of a slice that a rewrite takes.
+use Prim.Native.Nat.{ℕ, _+_, _*_, _-_, _/_, _≤_}
+use native.Mathlib.Omega.{arith}
+use native.Mathlib.Nat.{add-mul, one-mul}
+use mathlib.Core.Path.{_≡_, refl, sym, ap, _∙_}
+use mathlib.Core.Logic.{_⊎_, inl, inr}
+use mathlib.Core.Bool.{Bool, true, false, cond}
+use mathlib.Core.List.{List}
+use lib.ListN.{length}
+use Rattle.extents_meaning.specs.Runs.{runsOf}
+use Rattle.extents_meaning.specs.Maps.{mapOf, mapFor, withMap, withPart}
+use Rattle.extents_meaning.proofs.Longest.{runs-same}
+use Rattle.extents_map.specs.Mixes.{viewIsTarget, mixed, mixIn, becomes}
+use Rattle.extents_map.specs.declared.scan.Mix.{Mix}
+use Rattle.extents_pair.specs.InPairs.{twoMapsIn, viewIn, belowIn}
+use Rattle.extents_pair.specs.declared.Pair.{Pair}
+use Rattle.extents_pair.proofs.Pairing.{rows-apart, two-told, two-apart}
+use Rattle.extents_weave.specs.Rewrites.{wovenIn, targetIn, Weavable}
+
+module _ (pair : Pair) (mix : Mix) (xs : List ℕ) (two : twoMapsIn pair xs ≡ true) where
+  -- the numbers of a map, and where both maps start
+  abbrev size : ℕ
+  size = 4 * pair .space
+
+  abbrev v : ℕ
+  v = pair .view * size
+
+  abbrev w : ℕ
+  w = pair .below * size
+
+  -- Both maps stand in the slice.
+  pub maps-in : (v + size ≤ length xs) × (w + size ≤ length xs)
+  maps-in =
+      let t = two-told (pair .space) (pair .view) (pair .below) xs two in
+      (omega (arith, t .view-in, next (pair .view)), omega (arith, t .below-in, next (pair .below)))
+    where
+      next : (k : ℕ) → (k + 1) * size ≡ k * size + size
+      next k = add-mul k 1 size ∙ ap (λ (n : ℕ). k * size + n) (one-mul size)
+
+  -- they stand apart
+  apart : (w + size ≤ v) ⊎ (v + size ≤ w)
+  apart = rows-apart (pair .below) (pair .view) size (λ e. two-apart (pair .space) (pair .view) (pair .below) xs two (sym e))
+
+  turn : (w + size ≤ v) ⊎ (v + size ≤ w) → (v + size ≤ w) ⊎ (w + size ≤ v)
+  turn (inl h) = inr h
+  turn (inr h) = inl h
+
+  module _ {room : ℕ} (order : mix .start ≤ mix .end) (few : length (runsOf (mixIn mix (viewIn pair xs) (belowIn pair xs))) ≤ room) (fit : room ≤ pair .space) where
+    module _ (e : viewIsTarget (mix .mode) ≡ true) where
+      -- the view becomes the mix
+      view-woven : (b : ℕ) → wovenIn size v w mix xs b ≡ mixIn mix (viewIn pair xs) (belowIn pair xs) b
+      view-woven b = rw e
+
+      -- The view can be rewritten.
+      pub view-weavable : Weavable size v w mix room xs
+      view-weavable =
+          let t = two-told (pair .space) (pair .view) (pair .below) xs two in
+          record {
+            two = record { target-in = maps-in .0; other-in = maps-in .1; apart = apart; other-law = t .below-law };
+            law = t .view-law;
+            order = order;
+            few = omega (arith, few, ap length (runs-same (wovenIn size v w mix xs) (mixIn mix (viewIn pair xs) (belowIn pair xs)) (λ b _. view-woven b)));
+            fit = omega (arith, fit);
+          }
+
+      -- The view rewritten is the mix.
+      pub view-home : {ys : List ℕ} → ys ≡ withPart v size (mapFor (size / 4) (wovenIn size v w mix xs)) xs →
+          ys ≡ withMap (pair .space) (targetIn mix pair) (mapFor (pair .space) (mixIn mix (viewIn pair xs) (belowIn pair xs))) xs
+      view-home q =
+          let s : size / 4 ≡ pair .space = omega arith in
+          q
+          ∙ (λ i. withPart v size (mapOf (s i) (runs-same (wovenIn size v w mix xs) (mixIn mix (viewIn pair xs) (belowIn pair xs)) (λ b _. view-woven b) i)) xs)
+          ∙ rw e
+
+    module _ (e : viewIsTarget (mix .mode) ≡ false) where
+      -- the published map becomes the mix
+      below-woven : (b : ℕ) → wovenIn size w v mix xs b ≡ mixIn mix (viewIn pair xs) (belowIn pair xs) b
+      below-woven b = rw e
+
+      -- The published map can be rewritten.
+      pub below-weavable : Weavable size w v mix room xs
+      below-weavable =
+          let t = two-told (pair .space) (pair .view) (pair .below) xs two in
+          record {
+            two = record { target-in = maps-in .1; other-in = maps-in .0; apart = turn apart; other-law = t .view-law };
+            law = t .below-law;
+            order = order;
+            few = omega (arith, few, ap length (runs-same (wovenIn size w v mix xs) (mixIn mix (viewIn pair xs) (belowIn pair xs)) (λ b _. below-woven b)));
+            fit = omega (arith, fit);
+          }
+
+      -- The published map rewritten is the mix.
+      pub below-home : {ys : List ℕ} → ys ≡ withPart w size (mapFor (size / 4) (wovenIn size w v mix xs)) xs →
+          ys ≡ withMap (pair .space) (targetIn mix pair) (mapFor (pair .space) (mixIn mix (viewIn pair xs) (belowIn pair xs))) xs
+      below-home q =
+          let s : size / 4 ≡ pair .space = omega arith in
+          q
+          ∙ (λ i. withPart w size (mapOf (s i) (runs-same (wovenIn size w v mix xs) (mixIn mix (viewIn pair xs) (belowIn pair xs)) (λ b _. below-woven b) i)) xs)
+          ∙ rw e
