@@ -25,7 +25,7 @@ use Rattle.extents_map.specs.Mixes.{mixed, mix}
 use Rattle.extents_map.specs.declared.scan.Mode.the-variants.{Publish, MarkPublished, Refresh}
 use Rattle.extents_meaning.specs.Pairs.{twoMaps, viewOf, belowOf}
 use Rattle.extents.specs.Entries.{orRefused, orKept, listedCount, bothMaps, publishRefusal, publishedMaps, PublishEntry, refreshRefusal, refreshedMaps, RefreshEntry, syncRefusal, syncedMaps, SyncEntry, writeThroughRefusal, writtenThroughMaps, WriteThroughEntry, readRefusal, ReadEntry}
-use Rattle.extents_pair.specs.Packing.{marked}
+use Rattle.extents_pair.specs.Marks.{marked}
 use Rattle.extents.proofs.Entering.{accepted}
 use Rattle.extents_pair.proofs.Pairing.{Told, two-told, two-apart, map-space, map-whole}
 

@@ -21,7 +21,7 @@ use Rattle.extents_map.specs.Mixes.{mixed, mix, makesMap, isMarkPublished}
 use Rattle.extents_map.specs.declared.scan.Mode.{Mode}
 use Rattle.extents_map.specs.declared.scan.Mode.the-variants.{Publish, MarkPublished, Refresh, ReadMap, ReadFresh}
 use Rattle.extents_meaning.specs.Pairs.{twoMaps, viewOf, belowOf}
-use Rattle.extents_pair.specs.Packing.{marked, Marked}
+use Rattle.extents_pair.specs.Marks.{marked, Marked}
 use Rattle.extents_pair.proofs.Spots.{noRun, here-at}
 use Rattle.extents_pair.proofs.Gathering.{marked-all, marked-fewer, marked-mean}
 use Rattle.extents_pair.proofs.Pairing.{Told, two-told, lentMap, map-lent, map-space}

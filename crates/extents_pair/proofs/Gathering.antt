@@ -14,7 +14,7 @@ use Rattle.extents_meaning.specs.Runs.{Run, cellAt, Rising, NumbersLegal, Lawfu
 use Rattle.extents_meaning.specs.Maps.{fours, spaceIn, runs, lawful}
 use Rattle.extents_meaning.proofs.Longest.{cell-first, cell-before, cell-behind, mean-before}
 use Rattle.extents_meaning.proofs.Trips.{lawful-map}
-use Rattle.extents_pair.specs.Packing.{marked, Marked}
+use Rattle.extents_pair.specs.Marks.{marked, Marked}
 use Rattle.extents_pair.proofs.Spots.{Here, noRun, here-at, here-same, putAt}
 
 -- ---- Unpublished runs

@@ -7,7 +7,7 @@ use lib.ListN.{length}
 use Rattle.extents_meaning.specs.Cells.{Bytes}
 use Rattle.extents_meaning.specs.Maps.{runs, mapAt}
 use Rattle.extents_meaning.specs.Pairs.{twoMaps, viewOf, belowOf}
-use Rattle.extents_pair.specs.Packing.{marked}
+use Rattle.extents_pair.specs.Marks.{marked}
 use Rattle.extents_pair.specs.declared.Pair.{Pair}
 
 module _ (p : Pair) (xs : List ℕ) where

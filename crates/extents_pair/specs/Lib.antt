@@ -1,3 +1,3 @@
 pub mod RangeWrites
-pub mod Packing
+pub mod Marks
 pub mod InPairs

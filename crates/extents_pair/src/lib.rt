@@ -11,7 +11,7 @@ ghost use Rattle.extents_meaning.specs.Maps.{mapFor, runs, bytesOf, lawful, map
 ghost use Rattle.extents_map.specs.Mixes.{mix, mixIn, makesMap, isMarkPublished};
 ghost use Rattle.extents_meaning.specs.Pairs.{twoMaps};
 ghost use Rattle.extents_pair.specs.InPairs.{twoMapsIn, viewIn, belowIn, OwnCounted};
-ghost use Rattle.extents_pair.specs.Packing.{marked};
+ghost use Rattle.extents_pair.specs.Marks.{marked};
 ghost use Rattle.rows.specs.Limits.{OFFSET-MAX, ROWS};
 use extents_map::scan::Mix;
 use extents_map::scan::Mode;

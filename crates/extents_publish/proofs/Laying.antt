@@ -15,7 +15,7 @@ use Rattle.extents_meaning.proofs.Longest.{Fine, runs-same, runs-back}
 use Rattle.extents_meaning.proofs.Trips.{lawful-map}
 use Rattle.extents_pair.specs.declared.RangeWrite.{RangeWrite}
 use Rattle.extents_pair.specs.RangeWrites.{rangeWriteOf, rangeWrite, withBytes, MapsApart}
-use Rattle.extents_pair.specs.Packing.{marked}
+use Rattle.extents_pair.specs.Marks.{marked}
 use Rattle.extents_pair.proofs.Sweeps.{Good, Fits, good-over, over-same}
 use Rattle.extents_publish.proofs.Overwriting.{clear-fine}
 use Rattle.extents_pair.proofs.Parts.{Holds, holds-start, holds-same, lent-view, lent-space, lent-bytes, lent-next}

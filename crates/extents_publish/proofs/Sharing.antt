@@ -22,7 +22,7 @@ use Rattle.extents_pair.specs.declared.RangeWrite.{RangeWrite}
 use Rattle.extents_map.specs.Mixes.{mixed, mix}
 use Rattle.extents_map.specs.declared.scan.Mode.the-variants.{Publish}
 use Rattle.extents_meaning.specs.Pairs.{twoMaps, viewOf, belowOf}
-use Rattle.extents_pair.specs.Packing.{marked}
+use Rattle.extents_pair.specs.Marks.{marked}
 use Rattle.extents_pair.specs.RangeWrites.{rangeWriteOf, rangeWrites, filled, downs, taken, MapsApart, passedDown, passedUp, withBytes, PassUpReady}
 use Rattle.extents_pair.proofs.Pairing.{rows-apart}
 use Rattle.extents_pair.proofs.Gathering.{published-none}

@@ -12,7 +12,7 @@ ghost use Rattle.extents_meaning.specs.Runs.{runOf, runsOf};
 ghost use Rattle.extents_meaning.specs.Maps.{mapFor, spaceIn, runs, bytesOf, lawful, mapAt, withMap, partAt};
 ghost use Rattle.extents_map.specs.Mixes.{mix};
 ghost use Rattle.extents_map.specs.declared.scan.Mode.the-variants.{Publish};
-ghost use Rattle.extents_pair.specs.Packing.{marked};
+ghost use Rattle.extents_pair.specs.Marks.{marked};
 ghost use Rattle.extents_pair.specs.InPairs.{twoMapsIn, viewIn, belowIn, OwnCounted};
 ghost use Rattle.extents_pair.specs.RangeWrites.{clamped, rangeWrite, filled, withBytes, MapsApart, passedDown, passedUp, PassUpReady};
 use extents_pair::Pair;

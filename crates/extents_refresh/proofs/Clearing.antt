@@ -15,9 +15,10 @@ use Rattle.extents_meaning.specs.Runs.{Run, runOf, cellAt, Rising, NumbersLegal
 use Rattle.extents_meaning.specs.Maps.{fours, mapOf, mapFor, spaceIn, runs, bytesOf, lawful}
 use Rattle.extents_meaning.proofs.Longest.{runs-same, runs-back}
 use Rattle.extents_meaning.proofs.Trips.{length-fours, map-back, map-lawful, lawful-map}
-use Rattle.extents_pair.specs.Packing.{marked, Meet, Alone}
+use Rattle.extents_pair.specs.Marks.{marked}
+use Rattle.extents_refresh.specs.Clearing.{Meet, Alone, Cleared}
 use Rattle.extents_pair.proofs.Spots.{noRun, here-at}
-use Rattle.extents_refresh.proofs.Marking.{next-at}
+use Rattle.extents_map.proofs.Parted.{next-at}
 use Rattle.extents_pair.proofs.Gathering.{marked-fewer, as-published-none}
 use Rattle.extents_pair.proofs.Bounds.{marked-first}
 
@@ -194,7 +195,7 @@ module _ (xs : List ℕ) (law : lawful xs ≡ true) (i : ℕ) (h : i < length (r
       let e : i * 4 ≡ 4 * i = omega arith in
       let s : getD xs (i * 4) 0 ≡ getD xs (4 * i) 0 = ap (λ (p : ℕ). getD xs p 0) e in
       let l : getD xs (i * 4 + 1) 0 ≡ getD xs (4 * i + 1) 0 = ap (λ (p : ℕ). getD xs (p + 1) 0) e in
-      omega (arith, s, l, r .start, r .size, next-at OFFSET-MAX 0 0 (runs xs) i (lawful-map xs law .lawful-runs .in-order) h)
+      omega (arith, s, l, r .start, r .size, next-at (runs xs) (lawful-map xs law .lawful-runs .in-order) i h .0 .inside)
 
   -- a run and the one behind it that meet are found
   pub meet-not : {t : Bool} →
@@ -245,20 +246,9 @@ module _ (xs₀ : List ℕ) {xs : List ℕ} {left i : ℕ} (k : Clearing xs₀ x
           let d : length (runs xs) ≤ i = omega (arith, l) in
           absurd (omega (arith, h, k .rest, ap (λ (q : List Run). length (marked q)) (drop-of-length-le (runs xs) d), marked-fewer []))
 
-  -- all through at once: the rest is marked published as the whole
-  pub clear-all : {ys : List ℕ} → ys ≡ mapFor (spaceIn xs) (asPublished (bytesOf xs)) → ys ≡ mapFor (spaceIn xs₀) (asPublished (bytesOf xs₀))
-  clear-all e =
-      let s : spaceIn xs ≡ spaceIn xs₀ = omega (arith, k .same) in
-      e ∙ (λ j. mapOf (s j) (runs-same (asPublished (bytesOf xs)) (asPublished (bytesOf xs₀)) (λ b _. k .mean b) j))
-
-  -- With no unpublished run left the map is marked published.
-  pub clear-end : left ≤ 0 → xs ≡ mapFor (spaceIn xs₀) (asPublished (bytesOf xs₀))
-  clear-end h =
-      let m = lawful-map xs (k .law) in
-      let l = m .lawful-runs in
-      let z : length (marked (runs xs)) ≡ 0 = omega (arith, k .all, h) in
-      let e = runs-same (asPublished (bytesOf xs)) (bytesOf xs) (λ b _. as-published-none (runs xs) l z b) ∙ runs-back (runs xs) l in
-      clear-all (m .whole ∙ ap (mapOf (spaceIn xs)) (sym e))
+  -- what the loop leaves
+  pub clear-left : Cleared xs₀ left xs
+  clear-left = record { law = k .law; same = k .same; mean = k .mean; all = k .all }
 
   module _ (h : 0 < left) where
     -- a published run is passed
@@ -298,3 +288,12 @@ module _ (xs₀ : List ℕ) {xs : List ℕ} {left i : ℕ} (k : Clearing xs₀ x
               ∙ (λ j. length (marked (drop (e j) (sym u j))));
           all = w ∙ ap (λ (q : List Run). length (marked q)) (sym u);
         }
+
+-- A map without an unpublished run left is marked published.
+pub cleared-all : {xs ys : List ℕ} {left : ℕ} → Cleared xs left ys → left ≡ 0 → ys ≡ mapFor (spaceIn xs) (asPublished (bytesOf xs))
+cleared-all {xs} {ys} k z =
+    let m = lawful-map ys (k .law) in
+    let l = m .lawful-runs in
+    let s : spaceIn ys ≡ spaceIn xs = omega (arith, k .same) in
+    let e = runs-same (asPublished (bytesOf ys)) (bytesOf ys) (λ b _. as-published-none (runs ys) l (sym (k .all) ∙ z) b) ∙ runs-back (runs ys) l in
+    m .whole ∙ ap (mapOf (spaceIn ys)) (sym e) ∙ (λ j. mapOf (s j) (runs-same (asPublished (bytesOf ys)) (asPublished (bytesOf xs)) (λ b _. k .mean b) j))

@@ -1,7 +1,2 @@
-pub mod Rests
-pub mod Gluing
-pub mod Marking
-pub mod Ahead
-pub mod Filling
-pub mod Viewing
 pub mod Clearing
+pub mod Viewing

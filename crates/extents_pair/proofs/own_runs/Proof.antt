@@ -7,7 +7,7 @@ use Prim.Native.Nat.{ℕ}
 use lib.ListN.{length}
 use denote.Ref.{now}
 use Rattle.extents_meaning.specs.Maps.{runs, lawful}
-use Rattle.extents_pair.specs.Packing.{marked}
+use Rattle.extents_pair.specs.Marks.{marked}
 use Rattle.extents_pair.proofs.Pairing.{map-lent}
 use Rattle.extents_pair.proofs.own_runs.Statement.{statement}
 use Rattle.extents_pair.proofs.own_runs.Tie as tie

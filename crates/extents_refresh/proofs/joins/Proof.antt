@@ -7,7 +7,7 @@ use mathlib.Core.Logic.{⊎-elim}
 use mathlib.Core.Bool.{false≢true}
 use denote.Ref.{now}
 use Rattle.extents_meaning.specs.Maps.{runs}
-use Rattle.extents_pair.specs.Packing.{Meet}
+use Rattle.extents_refresh.specs.Clearing.{Meet}
 use Rattle.extents_meaning.proofs.Trips.{lawful-map}
 use Rattle.extents_refresh.proofs.Clearing.{no-behind}
 use Rattle.extents_refresh.proofs.joins.Statement.{statement}

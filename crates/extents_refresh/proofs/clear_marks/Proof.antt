@@ -1,4 +1,4 @@
--- `extents_refresh::mark_runs_published` meets its contract.
+-- `extents_refresh::clear_marks` meets its contract.
 use Prim.Native.Nat.{_+_, _*_, _-_, _≤_, _<_}
 use native.Mathlib.Omega.{arith}
 use mathlib.Core.Path.{_≡_, _∙_}
@@ -6,9 +6,9 @@ use mathlib.Core.Logic.{⊎-elim}
 use lib.ListN.{length}
 use denote.Ref.{now}
 use Rattle.extents_meaning.specs.Maps.{runs}
-use Rattle.extents_refresh.proofs.Clearing.{Clearing, clear-start, clear-room, clear-all, clear-end, clear-skip, clear-one}
-use Rattle.extents_refresh.proofs.mark_runs_published.Statement.{statement}
-use Rattle.extents_refresh.proofs.mark_runs_published.Tie as tie
+use Rattle.extents_refresh.proofs.Clearing.{Clearing, clear-start, clear-room, clear-left, clear-skip, clear-one}
+use Rattle.extents_refresh.proofs.clear_marks.Statement.{statement}
+use Rattle.extents_refresh.proofs.clear_marks.Tie as tie
 
 -- None of the first i runs is unpublished, `left` others are, and every byte marked published is as it was at the start.
 abbrev Inv-loop : tie.InvT-loop
@@ -41,19 +41,11 @@ slice-read-if1 c = omega (arith, room (c .before) .1)
 joins-requires : tie.Need-joins-requires Inv-loop μ-loop
 joins-requires c κs = (c .before .before .before .before .loop .inv .law, room (c .before .before .before) .0)
 
-mark-all-published-requires : tie.Need-mark-all-published-requires Inv-loop μ-loop
-mark-all-published-requires c κs = c .before .before .before .before .before .before .before .loop .inv .law
-
 same-length : tie.Need-same-length Inv-loop μ-loop
-same-length c =
-    let a = c .before .before in
-    a .mark-all-published .kept .0 ∙ a .before .before .before .before .before .before .before .before .loop .inv .same
+same-length c = c .before .before .before .before .before .before .loop .inv .same
 
 returns : tie.Need-returns Inv-loop μ-loop
-returns c =
-    let a = c .before .before in
-    let l = a .before .before .before .before .before .before .before .before in
-    clear-all (now (l .before .before .args .map)) (l .loop .inv) (a .mark-all-published .ensures)
+returns c = clear-left (now (c .before .before .before .before .before .before .before .before .args .map)) (c .before .before .before .before .before .before .loop .inv)
 
 mul-map : tie.Need-mul-map Inv-loop μ-loop
 mul-map c =
@@ -102,10 +94,10 @@ same-length-2 : tie.Need-same-length-2 Inv-loop μ-loop
 same-length-2 c = c .before .loop .inv .same
 
 returns-2 : tie.Need-returns-2 Inv-loop μ-loop
-returns-2 c = let l = c .before in clear-end (now (l .before .before .args .map)) (l .loop .inv) (c .loop-test .left)
+returns-2 c = clear-left (now (c .before .before .before .args .map)) (c .before .loop .inv)
 
-pub mark-runs-published-spec : {M : Type 1} → statement M
-mark-runs-published-spec =
+pub clear-marks-spec : {M : Type 1} → statement M
+clear-marks-spec =
     tie.close
     (tie.spec
     Inv-loop
@@ -116,7 +108,6 @@ mark-runs-published-spec =
     mul-if1-2
     slice-read-if1
     joins-requires
-    mark-all-published-requires
     same-length
     returns
     mul-map
