@@ -11,18 +11,24 @@ use lib.Dec.{leb}
 use borrow.Author.Tests.{le-leb, lt-leb, ne-eqb}
 use Rattle.rows.specs.Limits.{ROWS, OFFSET-MAX}
 use Rattle.rows.specs.Questions.{firstNo}
-use Rattle.extents_meaning.specs.Cells.{Bytes, cellOf, numberIn, overwrite}
+use Rattle.extents_meaning.specs.Cells.{Bytes, cellOf, numberIn, markIn, overwrite}
 use Rattle.extents_meaning.specs.Runs.{Run, runsOf, piecesOf}
 use Rattle.extents_meaning.specs.Maps.{mapOf, mapFor, spaceIn, bytesOf, runs, lawful, listedIn}
+use Rattle.extents_meaning.specs.Lookups.{changeOf}
 use Rattle.extents_meaning.proofs.Longest.{runs-same, runs-back}
 use Rattle.extents_meaning.proofs.Trips.{lawful-map}
 use Rattle.extents_meaning.proofs.Points.{count-starts}
 use Rattle.extents_meaning.proofs.Passes.{over-before, over-behind}
+use Rattle.extents_meaning.proofs.Changes.{change-same}
+use Rattle.extents_map.specs.Cursors.{Passing, Looked}
+use Rattle.extents_map.specs.declared.scan.Look.{Look}
 use Rattle.extents_map.proofs.Counting.{starts-most}
 use Rattle.extents.specs.declared.Answer.{Answer}
 use Rattle.extents.specs.declared.Answer.the-variants.{Done, Listed, Refused}
+use Rattle.extents.specs.declared.Stretch.{Stretch}
+use Rattle.extents.specs.declared.LookupAnswer.the-variants as looked
 use Rattle.extents_pair.proofs.Rooms.{pieces-there}
-use Rattle.extents.specs.Entries.{listedCount, markBit, Entry, writeRefusal, writtenMap, WriteEntry, listRefusal}
+use Rattle.extents.specs.Entries.{listedCount, markBit, Entry, writeRefusal, writtenMap, WriteEntry, listRefusal, lookupOf, lookupRefusal, LookupEntry}
 
 -- ---- Answers
 
@@ -171,3 +177,38 @@ accepted-list xs start n out e q z =
       answer = rw e (ap Listed (q ∙ ap (λ (l : List Run). length l) p));
       left = rw e (z ∙ ap (λ (l : List Run). listedIn l out) p);
     }
+
+-- ---- Looking a byte up
+
+-- what stands at a byte, by its numbers
+abbrev stretch : ℕ → ℕ → ℕ → Stretch
+stretch number mark next = record { number = number; mark = mark; next = next }
+
+module _ (xs : List ℕ) (byte : ℕ) where
+  lookup-asks : byte ≤ OFFSET-MAX → lookupRefusal xs byte ≡ cond (lawful xs) (cond (leb (byte + 1) OFFSET-MAX) 0 11) 13
+  unfolding lookupRefusal firstNo
+  lookup-asks s = rw (le-leb byte OFFSET-MAX s)
+
+  -- A lookup refuses an unlawful map with 13.
+  pub lookup-unlawful : byte ≤ OFFSET-MAX → lawful xs ≡ false → LookupEntry xs byte (looked.Refused 13)
+  lookup-unlawful s e = let q : lookupRefusal xs byte ≡ 13 = lookup-asks s ∙ rw e in rw q refl
+
+  module _ (law : lawful xs ≡ true) where
+    -- A lookup refuses with 11 where a range of length 1 ends past the offset range.
+    pub lookup-past : byte ≡ OFFSET-MAX → LookupEntry xs byte (looked.Refused 11)
+    lookup-past e =
+        let q : lookupRefusal xs byte ≡ 11 = lookup-asks (omega arith) ∙ rw (law, lt-leb (byte + 1) OFFSET-MAX (omega arith)) in
+        rw q refl
+
+    -- A lookup answers the row number, the mark and the next change of a byte.
+    pub lookup-found : byte < OFFSET-MAX → {number mark next : ℕ} → number ≡ numberIn (bytesOf xs byte) → mark ≡ markIn (bytesOf xs byte) →
+        next ≡ changeOf (bytesOf xs) byte → LookupEntry xs byte (looked.Found (stretch number mark next))
+    unfolding lookupOf
+    lookup-found h n m t =
+        let q : lookupRefusal xs byte ≡ 0 = lookup-asks (omega arith) ∙ rw (law, le-leb (byte + 1) OFFSET-MAX (omega arith)) in
+        rw q (λ i. looked.Found (stretch (n i) (m i) (t i)))
+
+-- A look from a run on, where the runs before it are passed, tells the cell and the next change in the whole map.
+pub looked-whole : {xs : List ℕ} {x i : ℕ} {r : Look} → x < OFFSET-MAX → Passing xs 0 x i → Looked xs i x r →
+    (r .cell ≡ bytesOf xs x) × (r .next ≡ changeOf (bytesOf xs) x)
+looked-whole {xs} {x} {i} h p l = (l .cell ∙ p .same x (omega arith), l .next ∙ change-same _ (bytesOf xs) x h (p .same))

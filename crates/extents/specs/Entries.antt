@@ -7,12 +7,16 @@ use lib.ListN.{length}
 use lib.Dec.{leb, eqb}
 use Rattle.rows.specs.Limits.{ROWS, OFFSET-MAX}
 use Rattle.rows.specs.Questions.{Question, firstNo}
-use Rattle.extents_meaning.specs.Cells.{Bytes, cellOf, overwrite, published, asPublished, refreshed}
+use Rattle.extents_meaning.specs.Cells.{Bytes, cellOf, numberIn, markIn, overwrite, published, asPublished, refreshed}
 use Rattle.extents_meaning.specs.Runs.{Run, runsOf, piecesOf}
 use Rattle.extents_meaning.specs.Maps.{mapFor, spaceIn, bytesOf, lawful, withMap, listedIn}
+use Rattle.extents_meaning.specs.Lookups.{changeOf}
 use Rattle.extents_meaning.specs.Pairs.{twoMaps, viewOf, belowOf}
 use Rattle.extents.specs.declared.Answer.{Answer}
 use Rattle.extents.specs.declared.Answer.the-variants.{Done, Listed, Refused}
+use Rattle.extents.specs.declared.Stretch.{Stretch}
+use Rattle.extents.specs.declared.LookupAnswer.{LookupAnswer}
+use Rattle.extents.specs.declared.LookupAnswer.the-variants as looked
 
 -- ---- Questions
 
@@ -90,6 +94,22 @@ listRefusal xs start length room =
 abbrev pub ListEntry : List ℕ → ℕ → ℕ → List ℕ → Answer → List ℕ → Type 0
 ListEntry xs start n out =
     Entry (listRefusal xs start n (length out)) (listedCount (piecesOf (bytesOf xs) start n)) (listedIn (piecesOf (bytesOf xs) start n) out) out
+
+-- The row number and the mark of a byte, and the first byte behind it where either differs.
+unfoldable pub lookupOf : Bytes → ℕ → Stretch
+lookupOf f b = record { number = numberIn (f b); mark = markIn (f b); next = changeOf f b }
+
+-- The refusal of a lookup of a byte, which is asked as a range of length 1; 0 where the entry accepts.
+unfoldable pub lookupRefusal : List ℕ → ℕ → ℕ
+lookupRefusal xs byte = firstNo (asksLaw (lawful xs) ∷ asksRange byte 1)
+
+-- What a lookup answers: a refusal's number, or what stands at the byte.
+abbrev pub lookedUp : List ℕ → ℕ → LookupAnswer
+lookedUp xs byte = cond (eqb (lookupRefusal xs byte) 0) (looked.Found (lookupOf (bytesOf xs) byte)) (looked.Refused (lookupRefusal xs byte))
+
+-- A lookup answers r.
+abbrev pub LookupEntry : List ℕ → ℕ → LookupAnswer → Type 0
+LookupEntry xs byte r = r ≡ lookedUp xs byte
 
 -- ---- A view and the published map
 

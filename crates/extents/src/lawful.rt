@@ -1,5 +1,7 @@
 // The entries without question 13, for a caller that knows its maps to be lawful.
 use crate::Answer;
+use crate::LookupAnswer;
+use crate::Stretch;
 use extents_map::scan::Mix;
 use extents_map::scan::Mode;
 use extents_pair::Pair;
@@ -14,7 +16,7 @@ ghost use Rattle.extents_meaning.specs.Cells.{cellOf};
 ghost use Rattle.extents_meaning.specs.Runs.{piecesOf};
 ghost use Rattle.extents_meaning.specs.Maps.{bytesOf, lawful};
 ghost use Rattle.extents_meaning.specs.Pairs.{twoMaps};
-ghost use Rattle.extents.specs.Entries.{markBit, WriteEntry, ListEntry, PublishEntry, RefreshEntry, SyncEntry, WriteThroughEntry, ReadEntry};
+ghost use Rattle.extents.specs.Entries.{markBit, WriteEntry, ListEntry, PublishEntry, RefreshEntry, SyncEntry, WriteThroughEntry, ReadEntry, LookupEntry};
 
 // Gives a range of a map a row number and a mark.
 pub fn write(map: &mut [u32], start: u32, length: u32, number: u32, unpublished: bool) -> Answer
@@ -82,6 +84,23 @@ fn lacks(map: &[u32], from: u32, to: u32, room: usize) -> bool
         cell: 0,
     };
     room < extents_map::scan::count(map, map, pieces, from, to)
+}
+
+// Looks a byte up in a map. At 4,294,967,295 a range of length 1 ends past the offset range.
+pub fn lookup(map: &[u32], byte: u32) -> LookupAnswer
+    requires { ⌜ lawful (now map) ≡ true ⌝ }
+    ensures { λ r. ⌜ LookupEntry (now (map .entry)) byte r ⌝ }
+{
+    if byte == rows::OFFSET_MAX {
+        return LookupAnswer::Refused(refusal::RANGE_END);
+    }
+    let from = extents_map::scan::seek(map, byte);
+    let seen = extents_map::scan::see(map, from, byte);
+    LookupAnswer::Found(Stretch {
+        number: extents_map::scan::number_in(seen.cell),
+        mark: extents_map::scan::mark_in(seen.cell),
+        next: seen.next,
+    })
 }
 
 // Publishes a view.

@@ -1,7 +1,7 @@
 // The map of pieces: which row number and mark every byte of a file has, kept as longest runs in a lent slice.
 ghost use mathlib.Core.Path.{_≡_};
 ghost use Rattle.extents_meaning.specs.Maps.{lawful, lawfulPublished};
-ghost use Rattle.extents.specs.Entries.{WriteEntry, ListEntry, PublishEntry, RefreshEntry, SyncEntry, WriteThroughEntry, ReadEntry};
+ghost use Rattle.extents.specs.Entries.{WriteEntry, ListEntry, PublishEntry, RefreshEntry, SyncEntry, WriteThroughEntry, ReadEntry, LookupEntry};
 
 pub mod lawful;
 
@@ -11,6 +11,19 @@ use rows::refusal;
 pub enum Answer {
     Done,
     Listed(u32),
+    Refused(u32),
+}
+
+// The row number and the mark of a byte, and the first byte behind it where either differs, 4,294,967,295 where there is none.
+pub struct Stretch {
+    pub number: u32,
+    pub mark: u32,
+    pub next: u32,
+}
+
+// What a lookup finds, or a refusal's number.
+pub enum LookupAnswer {
+    Found(Stretch),
     Refused(u32),
 }
 
@@ -46,6 +59,16 @@ pub fn list_range(map: &[u32], start: u32, length: u32, out: &mut [u32]) -> Answ
         return Answer::Refused(refusal::STATE);
     }
     lawful::list_range(map, start, length, out)
+}
+
+// Looks a byte up in a map.
+pub fn lookup(map: &[u32], byte: u32) -> LookupAnswer
+    ensures { λ r. ⌜ LookupEntry (now (map .entry)) byte r ⌝ }
+{
+    if !extents_map::scan::is_lawful(map) {
+        return LookupAnswer::Refused(refusal::STATE);
+    }
+    lawful::lookup(map, byte)
 }
 
 // Publishes a view.

@@ -4,7 +4,7 @@ ghost use mathlib.Core.Path.{_≡_};
 ghost use mathlib.Core.Bool.{true, cond, not, _&&_};
 ghost use lib.ListN.{length, drop};
 ghost use lib.Dec.{eqb};
-ghost use Rattle.extents_meaning.specs.Cells.{inRange};
+ghost use Rattle.extents_meaning.specs.Cells.{numberIn, markIn, inRange};
 ghost use Rattle.extents_meaning.specs.Runs.{runsFrom};
 ghost use Rattle.extents_meaning.specs.Maps.{runs, bytesOf, allZero, follows, lawful, noMarks, lawfulPublished};
 ghost use Rattle.extents_map.specs.Mixes.{mixed as Mixes·mixed, mixIn};
@@ -166,6 +166,20 @@ pub fn seek(map: &[u32], x: u32) -> usize
 {
     let all = crate::locate::runs_in(map);
     crate::locate::first_past(map, all, x)
+}
+
+// The row number of a cell.
+pub fn number_in(cell: u32) -> u32
+    ensures { λ r. ⌜ r ≡ numberIn cell ⌝ }
+{
+    cell / 2
+}
+
+// The mark of a cell.
+pub fn mark_in(cell: u32) -> u32
+    ensures { λ r. ⌜ r ≡ markIn cell ⌝ }
+{
+    cell % 2
 }
 
 // What a mix makes of the cells of two maps, a view and the published map.

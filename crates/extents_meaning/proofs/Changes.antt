@@ -98,6 +98,14 @@ change-is f x y c h k same other =
           (record { low = h; high = k; same = λ b l i. same b (omega arith) i ∙ sym e; other = λ l z. other l (z ∙ e) }),
     )
 
+-- Where bytes f and g are the same from x on, so is the next change of byte x.
+pub change-same : (f g : Bytes) (x : ℕ) → x < OFFSET-MAX → ((b : ℕ) → x ≤ b → f b ≡ g b) → changeOf f x ≡ changeOf g x
+change-same f g x h same =
+    let y = changeOf g x in
+    let r = change-iff g x y h .0 refl in
+    let l : x < y = r .0 in
+    change-is f x y (g x) l (r .1) (λ b k i. same b k ∙ r .2 b k i) (λ k z. r .3 k (sym (same y (omega arith)) ∙ z)) .1
+
 module _ (f : Bytes) (x : ℕ) (inside : x < OFFSET-MAX) where
   -- Runs mean the bytes f from x on.
   abbrev Means : List Run → Type 0
