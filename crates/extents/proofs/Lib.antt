@@ -1,3 +1,4 @@
 pub mod Entering
 pub mod Doubles
 pub mod Lent
+pub mod Sizes

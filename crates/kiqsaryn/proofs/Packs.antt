@@ -19,6 +19,10 @@ use Rattle.checker.specs.Judging.{judgedOf, Decides}
 use Rattle.checker.proofs.Sizes.{judged-small}
 use Rattle.extents.specs.declared.Answer as extents
 use Rattle.extents.specs.declared.Answer.the-variants.{Done, Listed, Refused}
+use Rattle.extents.specs.declared.LookupAnswer.{LookupAnswer}
+use Rattle.extents.specs.Entries.{LookupEntry}
+use Rattle.extents.proofs.Sizes as lookup
+use Rattle.extents.proofs.Sizes.{lookup-small}
 use Rattle.machine_meaning.specs.States.{Header}
 use Rattle.machine_meaning.specs.Steps as steps
 use Rattle.machine_meaning.specs.Steps.{Step, madeTo}
@@ -31,14 +35,14 @@ use Rattle.machine_state.specs.Makes.{madeOf}
 use Rattle.machine_state.specs.Replays.{Replay, Replays}
 use Rattle.writer.specs.declared.Written.{Written}
 use Rattle.writer.specs.Writing.{Writing, Writes}
-use Rattle.kiqsaryn.specs.Packing.{Gives, JudgeGives, FileGives, JoinGives, Fills, Judges, Makes, packedStep, StepGives, ReplayGives, WriteGives}
-use Rattle.kiqsaryn_packing.specs.Packing.{UPPER, packed, FitsWords, packedWords, packedJudged, FitsJoinWords, packedJoinWords, packedJoin, packedFound, packedWritten}
+use Rattle.kiqsaryn.specs.Packing.{Gives, JudgeGives, FileGives, JoinGives, Fills, Judges, Makes, packedStep, StepGives, ReplayGives, WriteGives, LookupGives}
+use Rattle.kiqsaryn_packing.specs.Packing.{UPPER, packed, FitsWords, packedWords, packedJudged, FitsJoinWords, packedJoinWords, packedJoin, packedFound, packedWritten, packedLookupWords, packedLookup}
 use Rattle.join_meaning.specs.Joining.{joinTraces}
 use Rattle.join_reading.specs.Reading.{ReadsFile}
 use Rattle.join_checker.specs.declared.JudgedJoin.{JudgedJoin}
 use Rattle.join_checker.specs.Judging as joins
 use Rattle.join_checker.proofs.Sizes.{join-small}
-use Rattle.kiqsaryn_packing.proofs.Packs.{small-fits, words-packed, small-join-fits, join-words-packed}
+use Rattle.kiqsaryn_packing.proofs.Packs.{small-fits, words-packed, small-join-fits, join-words-packed, lookup-words-packed}
 
 -- A packed answer of a check, with what the check leaves.
 pub packs : {o : Outcome} {a : Checked} {r : ℕ} {rows rows′ counts counts′ : List ℕ} → Leaves o a rows rows′ counts counts′ → r ≡ packed a →
@@ -167,3 +171,9 @@ packs-replay replay {h} {m} e {r} {ys} {cs} {zs} s =
 pub packs-written : {w : Writing} {a : Written} {r place : ℕ} {out out′ : List ℕ} → Writes w a place out out′ → r ≡ packedWritten a →
     WriteGives w r place out out′
 packs-written s e = record { answered = e ∙ ap packedWritten (s .answered); out-left = s .out-left }
+
+-- ---- Looking a byte up
+
+-- A packed answer of a lookup.
+pub packs-lookup : (map : List ℕ) (byte : ℕ) {a : LookupAnswer} {r : ℕ} → LookupEntry map byte a → r ≡ packedLookupWords a → LookupGives map byte r
+packs-lookup map byte {a} e q = q ∙ lookup-words-packed a (subst lookup.Small (sym e) (lookup-small map byte)) ∙ ap packedLookup e

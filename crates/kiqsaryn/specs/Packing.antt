@@ -2,6 +2,7 @@
 use Prim.Native.Nat.{ℕ, _+_, _*_}
 use mathlib.Core.Path.{_≡_}
 use mathlib.Core.List.{List}
+use Rattle.extents.specs.Entries.{lookedUp}
 use Rattle.happens_before.specs.Filling.{filledLeft}
 use Rattle.races.specs.Answers.{foundOf}
 use Rattle.rows.specs.declared.Row.{Row}
@@ -16,7 +17,7 @@ use Rattle.join_meaning.specs.Joining.{Joining}
 use Rattle.join.specs.Leaving as joined
 use Rattle.join_checker.specs.Judging as joins
 use Rattle.writer.specs.Writing.{Writing, writtenOf, outLeft}
-use Rattle.kiqsaryn_packing.specs.Packing.{UPPER, packed, packedJudged, packedJoin, packedFound, packedWritten}
+use Rattle.kiqsaryn_packing.specs.Packing.{UPPER, packed, packedJudged, packedJoin, packedFound, packedWritten, packedLookup}
 
 -- What a check answers and leaves.
 pub record Gives (o : Outcome) (answer : ℕ) (rows rows′ counts counts′ : List ℕ) : Type 0 where
@@ -96,3 +97,9 @@ pub record ReplayGives (s : Replay) (answer : ℕ) (maps′ counts′ out′ : L
 pub record WriteGives (w : Writing) (answer place : ℕ) (out out′ : List ℕ) : Type 0 where
   pub answered : answer ≡ packedWritten (writtenOf w)
   pub out-left : out′ ≡ outLeft w place out
+
+-- ---- Looking a byte up
+
+-- What a lookup answers.
+abbrev pub LookupGives : List ℕ → ℕ → ℕ → Type 0
+LookupGives map byte answer = answer ≡ packedLookup (lookedUp map byte)

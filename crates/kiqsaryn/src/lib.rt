@@ -11,7 +11,7 @@ ghost use Rattle.machine_state.specs.Replays.{replayOf, plainReplayOf};
 ghost use Rattle.join_reading.specs.Reading.{checkFile};
 ghost use Rattle.join_meaning.specs.Joining.{joinTraces};
 ghost use Rattle.writer.specs.Writing.{writeTrace};
-ghost use Rattle.kiqsaryn.specs.Packing.{Gives, JudgeGives, FileGives, JoinGives, Fills, Judges, NO-MODEL, headerFrom, rowFrom, Makes, StepGives, ReplayGives, WriteGives};
+ghost use Rattle.kiqsaryn.specs.Packing.{Gives, JudgeGives, FileGives, JoinGives, Fills, Judges, NO-MODEL, headerFrom, rowFrom, Makes, StepGives, ReplayGives, WriteGives, LookupGives};
 use extents::Answer;
 use happens_before::Filled;
 use join::JoinCall;
@@ -354,4 +354,14 @@ pub extern "C" fn kiqsaryn_write(
 {
     let answer = writer::write_trace(rows, n, header, process_limit, out, place);
     kiqsaryn_packing::pack_written(answer)
+}
+
+// Looks a byte up in a map of pieces, as extents::lookup does. The answer is the first byte behind it where the row number or the mark differs, plus
+// 2^32 times the mark plus 2^34 times the row number, and of a refusal its number times 2^48.
+#[no_mangle]
+pub extern "C" fn kiqsaryn_lookup(map: &[u32], byte: u32) -> u64
+    ensures { λ r. ⌜ LookupGives (now (map .entry)) byte r ⌝ }
+{
+    let answer = extents::lookup(map, byte);
+    kiqsaryn_packing::pack_lookup(answer)
 }

@@ -23,6 +23,12 @@ use Rattle.checker.specs.declared.Judged.the-variants as judged
 use Rattle.checker.specs.Judging.{judgedOf}
 use Rattle.checker.proofs.Sizes as judging
 use Rattle.checker.proofs.Sizes.{judged-small}
+use Rattle.extents.specs.declared.Stretch.{Stretch}
+use Rattle.extents.specs.declared.LookupAnswer.{LookupAnswer}
+use Rattle.extents.specs.declared.LookupAnswer.the-variants as looked
+use Rattle.extents.specs.Entries.{lookedUp}
+use Rattle.extents.proofs.Sizes as lookup
+use Rattle.extents.proofs.Sizes.{lookup-small}
 use Rattle.join_meaning.specs.Joining.{joinTraces}
 use Rattle.join_checker.specs.declared.JudgedJoin.{JudgedJoin}
 use Rattle.join_checker.specs.declared.JudgedJoin.the-variants as join
@@ -33,7 +39,7 @@ use Rattle.writer.specs.declared.Written.{Written}
 use Rattle.writer.specs.declared.Written.the-variants as written
 use Rattle.writer.specs.Writing.{writeTrace, writtenOf}
 use Rattle.writer.proofs.Sizes.{Small, written-small}
-use Rattle.kiqsaryn_packing.specs.Packing.{UPPER, WORD, WORD-3, WORD-4, packedJudged, packedWords, FitsWords, unpackedJudged, packedJoin, packedJoinWords, FitsJoinWords, unpackedJoin, packedFound, unpackedFound, packedWritten, unpackedWritten}
+use Rattle.kiqsaryn_packing.specs.Packing.{UPPER, WORD, WORD-3, WORD-4, packedJudged, packedWords, FitsWords, unpackedJudged, packedJoin, packedJoinWords, FitsJoinWords, unpackedJoin, packedFound, unpackedFound, packedWritten, unpackedWritten, MARKS, packedLookup, packedLookupWords, stretchIn, unpackedLookup}
 
 -- ---- The whole call
 
@@ -210,3 +216,45 @@ small-back (written.Refused number place) s =
 pub written-back : (xs : List ℕ) (n header P outLength place : ℕ) →
     unpackedWritten (packedWritten (writtenOf (writeTrace xs n header P outLength place))) ≡ writtenOf (writeTrace xs n header P outLength place)
 written-back xs n header P outLength place = small-back _ (written-small xs n header P outLength place)
+
+-- ---- A lookup
+
+-- The number of an answer that tells what stands at a byte.
+pub packs-stretch : {a : LookupAnswer} {s : Stretch} {w : ℕ} → a ≡ looked.Found s → w ≡ s .number % WORD →
+    (w * MARKS + s .mark % MARKS) * UPPER + s .next ≡ packedLookupWords a
+packs-stretch {a} {s} q d = (λ i. (d i * MARKS + s .mark % MARKS) * UPPER + s .next) ∙ sym (ap packedLookupWords q)
+
+-- The number of a lookup's refusal.
+pub packs-lookup-refused : {a : LookupAnswer} {number w : ℕ} → a ≡ looked.Refused number → w ≡ number % WORD → w * WORD-4 ≡ packedLookupWords a
+packs-lookup-refused q d = (λ i. d i * WORD-4) ∙ sym (ap packedLookupWords q)
+
+-- The number of a small answer holds all its bits.
+pub lookup-words-packed : (a : LookupAnswer) → lookup.Small a → packedLookupWords a ≡ packedLookup a
+lookup-words-packed (looked.Found s) l = let n = l .0 in let m = l .1 in omega arith
+lookup-words-packed (looked.Refused number) l = let n = l .1 in omega arith
+
+-- A small answer of a lookup is read back from its number.
+lookup-read-back : (a : LookupAnswer) → lookup.Small a → unpackedLookup (packedLookup a) ≡ a
+lookup-read-back (looked.Found s) l =
+    let number = s .number in
+    let mark = s .mark in
+    let next = s .next in
+    let answer = (number * MARKS + mark) * UPPER + next in
+    let n = l .0 in
+    let m = l .1 in
+    let t = l .2 in
+    let z : answer / WORD-4 ≡ 0 = omega arith in
+    let u : answer / UPPER / MARKS ≡ number = omega arith in
+    let v : answer / UPPER % MARKS ≡ mark = omega arith in
+    let w : answer % UPPER ≡ next = omega arith in
+    λ k. cond (eqb (z k) 0) (looked.Found (record { number = u k; mark = v k; next = w k })) (looked.Refused (z k))
+lookup-read-back (looked.Refused number) l =
+    let answer = number * WORD-4 in
+    let n = l .0 in
+    let z : answer / WORD-4 ≡ number = omega arith in
+    (λ k. cond (eqb (z k) 0) (looked.Found (stretchIn (answer / UPPER) (answer % UPPER))) (looked.Refused (z k)))
+    ∙ rw (ne-eqb number 0 (λ e. omega arith))
+
+-- Every answer of a lookup is read back from its number.
+pub lookup-back : (xs : List ℕ) (byte : ℕ) → unpackedLookup (packedLookup (lookedUp xs byte)) ≡ lookedUp xs byte
+lookup-back xs byte = lookup-read-back _ (lookup-small xs byte)

@@ -1,4 +1,5 @@
--- How the answers of a check, of a whole call on one trace or on two files, of a verdict and of writing are packed into one number each, and read back.
+-- How the answers of a check, of a whole call on one trace or on two files, of a verdict, of writing and of a lookup are packed into one number each,
+-- and read back.
 use Prim.Native.Nat.{ℕ, _+_, _*_, _/_, _%_, _<_}
 use mathlib.Core.Bool.{cond}
 use lib.Dec.{eqb}
@@ -8,6 +9,9 @@ use Rattle.trace.specs.declared.Checked.{Checked}
 use Rattle.trace.specs.declared.Checked.the-variants as checked
 use Rattle.checker.specs.declared.Judged.{Judged}
 use Rattle.checker.specs.declared.Judged.the-variants as judged
+use Rattle.extents.specs.declared.Stretch.{Stretch}
+use Rattle.extents.specs.declared.LookupAnswer.{LookupAnswer}
+use Rattle.extents.specs.declared.LookupAnswer.the-variants as looked
 use Rattle.join_checker.specs.declared.JudgedJoin.{JudgedJoin}
 use Rattle.join_checker.specs.declared.JudgedJoin.the-variants as join
 use Rattle.writer.specs.declared.Written as writer
@@ -28,6 +32,10 @@ WORD-3 = 4294967296
 -- The factor of the fourth word.
 abbrev pub WORD-4 : ℕ
 WORD-4 = 281474976710656
+
+-- The factor of the row number in the upper half of a lookup's answer: below it stands the mark, with room for two bits.
+abbrev pub MARKS : ℕ
+MARKS = 4
 
 -- A check's answer: the row count, or the refusal's number in the upper half and its place in the lower.
 abbrev pub packed : Checked → ℕ
@@ -115,3 +123,25 @@ unpackedWritten answer =
     let high = answer / UPPER in
     let low = answer % UPPER in
     cond (eqb high 0) (written.Length low) (written.Refused high low)
+
+-- The answer of a lookup: the next byte in the lower half, four times the row number and the mark in the upper one; of a refusal its number in the
+-- highest word.
+abbrev pub packedLookup : LookupAnswer → ℕ
+packedLookup (looked.Found s) = (s .number * MARKS + s .mark) * UPPER + s .next
+packedLookup (looked.Refused number) = number * WORD-4
+
+-- The number of any such answer: it holds the lowest 16 bits of a row number and of a refusal's number, the lowest two bits of a mark, and the next
+-- byte. The answers of a lookup have no more bits.
+abbrev pub packedLookupWords : LookupAnswer → ℕ
+packedLookupWords (looked.Found s) = (s .number % WORD * MARKS + s .mark % MARKS) * UPPER + s .next
+packedLookupWords (looked.Refused number) = number % WORD * WORD-4
+
+-- What stands at a byte, by the two halves of a lookup's answer.
+abbrev pub stretchIn : ℕ → ℕ → Stretch
+stretchIn upper lower = record { number = upper / MARKS; mark = upper % MARKS; next = lower }
+
+-- The answer of a lookup that such a number tells. The number of a refusal is not 0.
+abbrev pub unpackedLookup : ℕ → LookupAnswer
+unpackedLookup answer =
+    let number = answer / WORD-4 in
+    cond (eqb number 0) (looked.Found (stretchIn (answer / UPPER) (answer % UPPER))) (looked.Refused number)

@@ -1,8 +1,9 @@
-// Packs the answers of a check, of a whole call on one trace or on two files, of a verdict and of writing into one number each, for C.
+// Packs the answers of a check, of a whole call on one trace or on two files, of a verdict, of writing and of a lookup into one number each, for C.
 ghost use mathlib.Core.Path.{_≡_};
 ghost use Prim.Native.Nat.{_%_};
-ghost use Rattle.kiqsaryn_packing.specs.Packing.{WORD, packed, packedWords, packedJoinWords, packedFound, packedWritten};
+ghost use Rattle.kiqsaryn_packing.specs.Packing.{WORD, packed, packedWords, packedJoinWords, packedFound, packedWritten, packedLookupWords};
 use checker::Judged;
+use extents::LookupAnswer;
 use join_checker::JudgedJoin;
 use races::Found;
 use trace::Checked;
@@ -17,6 +18,9 @@ const WORD: u64 = 65536;
 const WORD_3: u64 = 4294967296;
 
 const WORD_4: u64 = 281474976710656;
+
+// The factor of the row number in the upper half of a lookup's answer. Below it there is room for a mark of two bits.
+const MARKS: u64 = 4;
 
 // Packs what a check answers: the row count of an accepted trace, and of a refusal its number in the upper half and its place in the lower.
 pub fn pack_checked(answer: Checked) -> u64
@@ -84,5 +88,18 @@ pub fn pack_written(answer: Written) -> u64
     match answer {
         Written::Length(length) => length as u64,
         Written::Refused(number, row) => number as u64 * UPPER + row as u64,
+    }
+}
+
+// Packs what a lookup answers: the next byte in the lower half, four times the row number and the mark in the upper one, and of a refusal its number
+// in the highest word. A lookup's row number has 13 bits and its mark one; a larger number is packed by its lowest bits.
+pub fn pack_lookup(answer: LookupAnswer) -> u64
+    ensures { λ r. ⌜ r ≡ packedLookupWords answer ⌝ }
+{
+    match answer {
+        LookupAnswer::Found(s) => {
+            (word(s.number) * MARKS + s.mark as u64 % MARKS) * UPPER + s.next as u64
+        }
+        LookupAnswer::Refused(number) => word(number) * WORD_4,
     }
 }
