@@ -1,5 +1,6 @@
 /* Trace B with a wait through the library for C: in one call, with and without the wait, then from its text to the verdicts, its rows written as
- * text again, and its read replayed on a machine for session and on the plain file. Then the same rows as two controllers record them, joined. */
+ * text again, its read replayed on a machine for session and on the plain file, and bytes looked up in their maps. Then the same rows as two
+ * controllers record them, joined. */
 #include "kiqsaryn.h"
 #include <stdio.h>
 #include <string.h>
@@ -70,6 +71,29 @@ static int join_two(void) {
     return 0;
 }
 
+/* Goes over all bytes of a map, from each to the next that has another row number or another mark, and prints what they have. */
+static void print_map(const char *name, const uint32_t *map, size_t map_len) {
+    uint32_t byte = 0;
+    while (byte < UINT32_MAX) {
+        uint64_t looked = kiqsaryn_lookup(map, map_len, byte);
+        if (kiqsaryn_looked_refusal(looked)) {
+            printf("%s: refused %u\n", name, (unsigned)kiqsaryn_looked_refusal(looked));
+            return;
+        }
+        printf("%s: from %u up to %u row %u, mark %u\n", name, (unsigned)byte, (unsigned)kiqsaryn_looked_next(looked),
+               (unsigned)kiqsaryn_looked_number(looked), (unsigned)kiqsaryn_looked_mark(looked));
+        byte = kiqsaryn_looked_next(looked);
+    }
+}
+
+/* Prints the plain file's map, the view of process 0 on a machine, and what a lookup answers to numbers that are no map. */
+static void look_up(const uint32_t *map, const uint32_t *maps) {
+    print_map("plain file", map, 4 * SPACE);
+    print_map("process 0", maps + 4 * SPACE, 4 * SPACE);
+    print_map("three numbers", map, 3);
+    printf("byte %u: refused %u\n", (unsigned)UINT32_MAX, (unsigned)kiqsaryn_looked_refusal(kiqsaryn_lookup(map, 4 * SPACE, UINT32_MAX)));
+}
+
 int main(void) {
     const char *text = "process,kind,file,offset,length,message\r\n"
                        "0,write,1,0,10,\r\n0,commit,1,,,\r\n0,send,,,,7\r\n1,recv,,,,7\r\n1,wait,,,,7\r\n1,read,1,5,10,\r\n";
@@ -115,5 +139,6 @@ int main(void) {
         return 2;
     for (uint32_t i = 0; i < seen[5]; i++)
         printf("plain: %u bytes from %u are of row %u\n", (unsigned)pieces[3 * i + 1], (unsigned)pieces[3 * i], (unsigned)pieces[3 * i + 2]);
+    look_up(map, maps);
     return join_two();
 }

@@ -160,6 +160,27 @@ uint64_t kiqsaryn_replay(uint32_t model, uint32_t process_limit, uint32_t file, 
 uint64_t kiqsaryn_replay_plain(uint32_t process_limit, uint32_t file, uint32_t map_space, uint32_t *map, size_t map_len, const uint32_t *rows,
                                size_t rows_len, uint32_t first, uint32_t n, uint32_t *counts, size_t counts_len, uint32_t *out, size_t out_len);
 
+/* Looks a byte up in a map. `map` is the 4 * map_space numbers of one map: a plain file has one, and a machine the published map and then one for
+ * each process. The answer is the first byte behind it that has another row number or another mark, 4,294,967,295 where none has, plus 2^32 times
+ * its mark plus 2^34 times its row number (both are 0 for an unwritten byte). Or it is a refusal's number times 2^48: 13 for a map that is not
+ * lawful, also for a slice whose length is no multiple of 4; 11 for byte 4,294,967,295, where a range of length 1 ends past the offset range. */
+uint64_t kiqsaryn_lookup(const uint32_t *map, size_t map_len, uint32_t byte);
+
+/* The parts of that answer: the number of a refusal, 0 for none; else the row number and the mark of the byte, and the next byte that has others. A
+ * part that the answer does not have is 0. */
+static inline uint32_t kiqsaryn_looked_refusal(uint64_t looked) {
+    return (uint32_t)(looked >> 48);
+}
+static inline uint32_t kiqsaryn_looked_number(uint64_t looked) {
+    return (uint32_t)(looked >> 34 & 0x3fff);
+}
+static inline uint32_t kiqsaryn_looked_mark(uint64_t looked) {
+    return (uint32_t)(looked >> 32 & 3);
+}
+static inline uint32_t kiqsaryn_looked_next(uint64_t looked) {
+    return (uint32_t)looked;
+}
+
 #ifdef __cplusplus
 }
 #endif

@@ -152,4 +152,6 @@ extern "C" {
         out: *mut u32,
         out_len: usize,
     ) -> u64;
+
+    pub fn kiqsaryn_lookup(map: *const u32, map_len: usize, byte: u32) -> u64;
 }

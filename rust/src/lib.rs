@@ -492,3 +492,25 @@ pub fn replay_plain(h: Header, map: &mut [u32], rows: &[u32], first: u32, n: u32
         )
     })
 }
+
+/// What stands at a byte of a map.
+#[derive(Clone, Copy, Debug, PartialEq, Eq)]
+pub struct Stretch {
+    /// The byte's row number, 0 where nothing was written.
+    pub number: u32,
+    /// 1 while the byte is unpublished, else 0.
+    pub mark: u32,
+    /// The first byte behind it that has another row number or another mark, 4,294,967,295 where none has.
+    pub next: u32,
+}
+
+/// Looks a byte up in a map, which is the `4 * map_space` numbers of a plain file, or of the published map or a process's map of a machine. A map
+/// that is not lawful is refused with 13, also a slice whose length is no multiple of 4, and byte 4,294,967,295 with 11.
+pub fn lookup(map: &[u32], byte: u32) -> Result<Stretch, Refusal> {
+    // The slice is live for the call.
+    let answer = unsafe { ffi::kiqsaryn_lookup(map.as_ptr(), map.len(), byte) };
+    match (answer >> 48) as u32 {
+        0 => Ok(Stretch { number: (answer >> 34) as u32, mark: (answer >> 32) as u32 % 4, next: answer as u32 }),
+        number => Err(refused(number)),
+    }
+}

@@ -72,12 +72,15 @@ static void replay_plain(void) {
 
 static void step_plain(void) { expect(kiqsaryn_step_plain(PROCESSES, 1, SPACE, maps, MAPS, 0, 0, 1, 5, 7, n + 1, pieces, 3 * ROWS) > 0); }
 
+static void lookup(void) { expect(kiqsaryn_looked_number(kiqsaryn_lookup(maps, 4 * SPACE, 5)) > 0); }
+
 static const struct {
     const char *name;
     void (*call)(void);
 } calls[] = {{"none", none}, {"check_trace", check_trace}, {"judge", judge}, {"report", report}, {"write", write_rows},
              {"fill_counts", fill_counts}, {"verdict", verdict}, {"read_file", read_file}, {"make", make}, {"replay", replay}, {"step", step},
-             {"make_plain", make_plain}, {"replay_plain", replay_plain}, {"step_plain", step_plain}, {"join", join}};
+             {"make_plain", make_plain}, {"replay_plain", replay_plain}, {"step_plain", step_plain}, {"lookup", lookup},
+             {"join", join}};
 
 static void *run(void *call) {
     (*(void (**)(void))call)();
