@@ -1,5 +1,8 @@
-//! Every vector of `vectors/machine.txt`: the answer, the whole slice of maps and the whole answer slice. Then steps with rows of messages.
+//! Every vector of `vectors/machine.txt`, and the sequences at the end of `vectors/lookup.txt`: the answer, the whole slice of maps and the whole
+//! answer slice, each step through the naive version too. Then steps with rows of messages.
 
+#[allow(dead_code)]
+mod naive;
 #[allow(dead_code)]
 mod state;
 #[allow(dead_code)]
@@ -8,10 +11,10 @@ mod vectors;
 use kiqsaryn::{Header, Model, Refusal, Row, READ, RECV, SEND, WAIT, WRITE};
 use state::State;
 
-#[test]
-fn every_machine_vector() {
-    let text = vectors::text("machine.txt");
-    let mut lines = vectors::lines(&text).peekable();
+/// Runs the sequences of a file, from the first that is made on.
+fn run_sequences(file: &str) {
+    let text = vectors::text(file);
+    let mut lines = vectors::lines(&text).skip_while(|line| ["K", "L", ">"].contains(&line.words[0])).peekable();
     let mut state = None;
     let mut fill = 0;
     let mut run = 0;
@@ -43,7 +46,11 @@ fn every_machine_vector() {
                 let row = Row { process: n(2), kind: n(3), file: n(4), offset: n(5), length: n(6), message: n(7) };
                 let blank = fill + 1;
                 let mut out = vec![blank; n(8) as usize];
+                let (mut maps, mut pieces) = (s.maps.clone(), out.clone());
+                let naive = naive::machine::step(s.model, s.header, &mut maps, row, n(1), &mut pieces);
                 let answer = s.step(row, n(1), &mut out);
+                assert_eq!(answer.map_err(Refusal::number), naive, "the naive answer of {line}");
+                assert!(s.maps == maps && out == pieces, "the naive slices of {line}");
                 let count = answer.unwrap_or(0) as usize;
                 assert!(out[3 * count..].iter().all(|x| *x == blank), "the answer slice of {line}");
                 run += 1;
@@ -65,7 +72,17 @@ fn every_machine_vector() {
         }
         assert_eq!(state.as_ref().expect("a state").maps, expected, "the maps of {line}");
     }
-    vectors::all_run("machine.txt", &text, &["M", "F", "S"], run);
+    vectors::all_run(file, &text, &["M", "F", "S"], run);
+}
+
+#[test]
+fn every_machine_vector() {
+    run_sequences("machine.txt");
+}
+
+#[test]
+fn every_sequence_of_the_lookup_vectors() {
+    run_sequences("lookup.txt");
 }
 
 /// A machine and a plain file refuse a row that names no file with 15, and change nothing.

@@ -3,7 +3,7 @@
 
 use kiqsaryn::{Header, Row, CLOSE, COMMIT, OPEN, READ, SYNC, WRITE};
 
-const END: u64 = u32::MAX as u64;
+pub const END: u64 = u32::MAX as u64;
 
 /// What a byte holds in a map: a row number, 0 if never written, and whether it is unpublished.
 #[derive(Clone, Copy, PartialEq, Debug)]
@@ -12,7 +12,7 @@ pub struct Cell {
     pub unpublished: bool,
 }
 
-const NEVER: Cell = Cell { row: 0, unpublished: false };
+pub const NEVER: Cell = Cell { row: 0, unpublished: false };
 
 #[derive(Clone, Copy, PartialEq, Debug)]
 pub struct Run {

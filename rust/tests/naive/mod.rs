@@ -3,6 +3,7 @@
 //! as `docs/DECISIONS.md` has it, and a replay, which they do not have, as the library's interface describes it: row by row.
 
 pub mod joining;
+pub mod lookup;
 pub mod machine;
 pub mod order;
 pub mod pairs;
