@@ -1,8 +1,8 @@
 -- How large the numbers of a lookup's answer can be.
-use Prim.Native.Nat.{ℕ, suc, _+_, _≤_, _<_}
+use Prim.Native.Nat.{ℕ, _+_, _≤_, _<_}
 use native.Mathlib.Omega.{arith}
-use mathlib.Core.Path.{_≡_, refl, sym, ap, _∙_}
-use mathlib.Core.Logic.{_⊎_, inl, inr}
+use mathlib.Core.Path.{_≡_, refl}
+use mathlib.Core.Logic.{inl, inr}
 use mathlib.Core.Bool.{Bool, true, false, cond, _&&_}
 use mathlib.Core.List.{List, _∷_}
 use lib.Dec.{leb, eqb}
@@ -10,7 +10,7 @@ use borrow.Author.Tests.{eqb-true, eqb-false, leb-true}
 use Rattle.rows.specs.Limits.{ROWS, OFFSET-MAX}
 use Rattle.rows.specs.Questions.{firstNo}
 use Rattle.rows.proofs.Asking.{all-yes}
-use Rattle.extents_meaning.specs.Cells.{numberIn, markIn}
+use Rattle.extents_meaning.specs.Cells.{numberIn}
 use Rattle.extents_meaning.specs.Maps.{bytesOf, lawful}
 use Rattle.extents_meaning.specs.Lookups.{changeOf}
 use Rattle.extents_meaning.proofs.Longest.{Fine, lawful-fine}
