@@ -1,5 +1,5 @@
 //! Every vector of `vectors/machine.txt`, and the sequences at the end of `vectors/lookup.txt`: the answer, the whole slice of maps and the whole
-//! answer slice, each step through the naive version too. Then steps with rows of messages.
+//! answer slice, each call through the naive version too. Then steps with rows of messages.
 
 #[allow(dead_code)]
 mod naive;
@@ -29,7 +29,11 @@ fn run_sequences(file: &str) {
                 fill = n(at + 4);
                 let mut s = State { model, header, maps: vec![fill; n(at + 3) as usize] };
                 expected = s.maps.clone();
-                let answer = match s.make() {
+                let mut maps = s.maps.clone();
+                let naive = naive::machine::make(s.model, s.header, &mut maps);
+                let made = s.make();
+                assert!(made.map_err(Refusal::number) == naive && s.maps == maps, "the naive making of {line}");
+                let answer = match made {
                     Ok(()) => "made".to_string(),
                     Err(refusal) => format!("refused {}", refusal.number()),
                 };

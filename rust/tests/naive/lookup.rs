@@ -6,7 +6,7 @@ use kiqsaryn::Stretch;
 /// What a lookup finds, or the number of its refusal: 13 of the whole map first, then 11 of the byte as a range of length 1. A byte has another cell
 /// than the one before it only where a run starts or ends, so these are the bytes to try.
 pub fn lookup(map: &[u32], byte: u32) -> Result<Stretch, u32> {
-    let runs = if map.len() % 4 == 0 { decode(map) } else { None };
+    let runs = if map.len().is_multiple_of(4) { decode(map) } else { None };
     let runs = runs.ok_or(13u32)?;
     let byte = u64::from(byte);
     if byte + 1 > END {
