@@ -4,7 +4,7 @@ use native.Mathlib.Omega.{arith}
 use native.Mathlib.Decide.{decLt}
 use mathlib.Core.Path.{_≡_, refl, sym, ap, _∙_}
 use mathlib.Core.Logic.{inl, inr}
-use mathlib.Core.Bool.{Bool, true, false, cond, not, _&&_, and-false, false≢true}
+use mathlib.Core.Bool.{Bool, true, false, cond, not, _&&_, and-false}
 use mathlib.Core.List.{List}
 use lib.ListN.{length}
 use lib.Dec.{leb}
@@ -17,9 +17,8 @@ use Rattle.extents_meaning.specs.Maps.{mapOf, mapFor, bytesOf, runs, lawful, ma
 use Rattle.extents_meaning.proofs.Longest.{same-from, runs-same, runs-back, runs-mean, runs-lawful, lawful-fine, Fine, pieces-same, range-behind}
 use Rattle.extents_meaning.proofs.Trips.{lawful-map, length-map, map-lawful, map-back}
 use Rattle.extents_meaning.proofs.Points.{runs-by}
-use Rattle.extents_meaning.proofs.Passes.{over-before, over-behind}
+use Rattle.extents_meaning.proofs.Overwrites.{over-before, over-behind}
 use Rattle.extents_meaning.proofs.Sides.{with-length, at-same, at-other, with-same, with-comm, with-over}
-use Rattle.extents.specs.declared.Answer.{Answer}
 use Rattle.extents.specs.declared.Answer.the-variants.{Done, Listed, Refused}
 use Rattle.extents_map.specs.Mixes.{mixed, mix}
 use Rattle.extents_map.specs.declared.scan.Mode.the-variants.{Publish, MarkPublished, Refresh}
@@ -191,35 +190,9 @@ module _ (space view below : ℕ) (xs : List ℕ) where
         pub after-share : ys ≡ shared two (published own base) fit
         after-share = y ∙ ap (λ (l : List Run). withMap space below (mapOf space l) xs) same-runs
 
-        -- After `share` the view stands inside the slice.
-        pub view-in-after : (view + 1) * (4 * space) ≤ length ys
-        view-in-after = omega (arith, told two .view-in, ap length after-share, shared-length two (published own base) fit)
-
-        -- After `share` the published map stands inside the slice.
-        pub below-in-after : (below + 1) * (4 * space) ≤ length ys
-        below-in-after = omega (arith, told two .below-in, ap length after-share, shared-length two (published own base) fit)
-
+        -- `share` leaves the view as it was.
         view-after : mapAt space view ys ≡ mapAt space view xs
         view-after = ap (mapAt space view) after-share ∙ shared-view two (published own base) fit
-
-        -- After `share` the view is lawful.
-        pub view-law-after : lawful (mapAt space view ys) ≡ true
-        view-law-after = ap lawful view-after ∙ told two .view-law
-
-        -- The view has as many unpublished runs as before.
-        pub own-after : {k : ℕ} → k ≡ length (marked (runs (mapAt space view xs))) → k ≡ length (marked (runs (mapAt space view ys)))
-        own-after e = e ∙ ap (λ (m : List ℕ). length (marked (runs m))) (sym view-after)
-
-        -- After `share` the published map is lawful.
-        pub below-law-after : lawful (mapAt space below ys) ≡ true
-        below-law-after =
-            ap lawful (ap (mapAt space below) after-share ∙ shared-below two (published own base) fit)
-            ∙ map-lawful space (runsOf (published own base)) (runs-lawful (published own base) (λ b l. go b (unpublished (own b)))) fit
-          where
-            go : (b : ℕ) (x : Bool) → Fine (cond x (cleared (own b)) (base b))
-            go b true =
-                clear-fine (own b) (lawful-fine (runs (mapAt space view xs)) (lawful-map (mapAt space view xs) (told two .view-law) .lawful-runs) b)
-            go b false = lawful-fine (runs (mapAt space below xs)) (lawful-map (mapAt space below xs) (told two .below-law) .lawful-runs) b
 
         -- The steps of publishing meet the entry.
         pub publish-done : {zs : List ℕ} → zs ≡ withMap space view (mapFor space (asPublished (bytesOf (mapAt space view ys)))) ys →
@@ -502,20 +475,9 @@ module _ (space view below : ℕ) (xs : List ℕ) where
                 written-through : ys ≡ shared two (published wrote base) fit
                 written-through = y ∙ ap (λ (l : List Run). withMap space below (mapOf space l) xs) written-through-runs
 
-                -- After `share` the view stands inside the slice.
-                pub view-in-written-through : (view + 1) * (4 * space) ≤ length ys
-                view-in-written-through = omega (arith, told two .view-in, ap length written-through, shared-length two (published wrote base) fit)
-
+                -- `share` leaves the view as it was.
                 view-written-through : mapAt space view ys ≡ mapAt space view xs
                 view-written-through = ap (mapAt space view) written-through ∙ shared-view two (published wrote base) fit
-
-                -- After `share` the view is lawful.
-                pub view-law-written-through : lawful (mapAt space view ys) ≡ true
-                view-law-written-through = ap lawful view-written-through ∙ told two .view-law
-
-                -- The view has as many unpublished runs as before.
-                pub own-written-through : {k : ℕ} → k ≡ length (marked (runs (mapAt space view xs))) → k ≡ length (marked (runs (mapAt space view ys)))
-                own-written-through e = e ∙ ap (λ (m : List ℕ). length (marked (runs m))) (sym view-written-through)
 
                 module _ {zs : List ℕ} (z : zs ≡ withMap space view (mapFor space (asPublished (bytesOf (mapAt space view ys)))) ys) where
                   as-published-there : zs ≡ withMap space view (mapFor space (asPublished own)) (shared two (published wrote base) fit)

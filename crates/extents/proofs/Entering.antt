@@ -18,7 +18,7 @@ use Rattle.extents_meaning.specs.Lookups.{changeOf}
 use Rattle.extents_meaning.proofs.Longest.{runs-same, runs-back}
 use Rattle.extents_meaning.proofs.Trips.{lawful-map}
 use Rattle.extents_meaning.proofs.Points.{count-starts}
-use Rattle.extents_meaning.proofs.Passes.{over-before, over-behind}
+use Rattle.extents_meaning.proofs.Overwrites.{over-before, over-behind}
 use Rattle.extents_meaning.proofs.Changes.{change-same}
 use Rattle.extents_map.specs.Cursors.{Passing, Looked}
 use Rattle.extents_map.specs.declared.scan.Look.{Look}

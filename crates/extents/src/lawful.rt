@@ -119,7 +119,7 @@ pub fn publish(maps: &mut [u32], space: usize, view: usize, below: usize) -> Ans
         return Answer::Refused(refusal::MAP_SPACE);
     }
     extents_publish::share(maps, pair, 0, 0, 0);
-    extents_refresh::mark_published(maps, space, view, own);
+    extents_refresh::mark_published(maps, pair);
     Answer::Done
 }
 
@@ -138,7 +138,7 @@ pub fn refresh(maps: &mut [u32], space: usize, view: usize, below: usize) -> Ans
     if !extents_pair::fits(maps, pair, Mode::Refresh, 0, 0, 0) {
         return Answer::Refused(refusal::MAP_SPACE);
     }
-    extents_refresh::refresh(maps, space, view, below, own);
+    extents_refresh::refresh(maps, pair);
     Answer::Done
 }
 
@@ -200,7 +200,7 @@ pub fn write_through(
         return Answer::Refused(refusal::MAP_SPACE);
     }
     extents_publish::share(maps, pair, start, end, number);
-    extents_refresh::mark_published(maps, space, view, own);
+    extents_refresh::mark_published(maps, pair);
     if start < end {
         extents_pair::lay(maps, space, view, start, end, cell);
     }
@@ -237,7 +237,7 @@ pub fn read(
     if extents_pair::lacks(maps, pair, start, end, out.len() / 3) {
         return Answer::Refused(refusal::ANSWER_SPACE);
     }
-    extents_refresh::refresh(maps, space, view, below, own);
+    extents_refresh::refresh(maps, pair);
     let n = extents_pair::list(maps, space, view, start, end, out);
     let listed = n as u32;
     Answer::Listed(listed)

@@ -1,5 +1,5 @@
 -- Scans of one map, run by run: whether it is lawful, and whether it has marks.
-use Prim.Native.Nat.{ℕ, zero, suc, _+_, _*_, _-_, _%_, _≤_, _<_}
+use Prim.Native.Nat.{ℕ, _+_, _*_, _-_, _%_, _≤_, _<_}
 use native.Mathlib.Nat.{sub-zero}
 use native.Mathlib.Decide.{ℕ-discrete}
 use native.Mathlib.Numerals.{add-one}
@@ -7,13 +7,12 @@ use native.Mathlib.Omega.{arith}
 use mathlib.Core.Path.{_≡_, refl, sym, ap, _∙_}
 use mathlib.Core.Logic.{_≢_}
 use mathlib.Core.Bool.{Bool, true, false, not, _&&_, and-true, and-false, and-assoc}
-use mathlib.Core.List.{List, [], _∷_}
+use mathlib.Core.List.{List}
 use lib.ListN.{length, getD, drop, drop-of-length-le}
 use lib.Seq.{drop-cons}
 use lib.Dec.{eqb}
 use lib.Bits.{bitOr, or-zero-r, or-add-and, and-le-l}
 use borrow.Author.Tests.{not-true, not-false, eq-eqb, ne-eqb}
-use Rattle.extents_meaning.specs.Runs.{Run}
 use Rattle.extents_meaning.specs.Maps.{runsIn, spaceIn, runs, allZero, lawfulFrom, lawful, noMarks}
 use Rattle.extents_meaning.proofs.Trips.{May, may-out, runAt, followsAt, read-stop, read-on, scan-stop, scan-bad, scan-on}
 

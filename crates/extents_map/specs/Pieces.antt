@@ -4,8 +4,6 @@ use mathlib.Core.Path.{_≡_}
 use mathlib.Core.List.{List, _∷_, _++_}
 use lib.ListN.{length, getD, take, drop, set}
 use Rattle.rows.specs.Limits.{OFFSET-MAX}
-use Rattle.extents_meaning.specs.Runs.{Run}
-use Rattle.extents_meaning.specs.Maps.{threes}
 
 -- there is room for a piece behind n others, or for its bytes in the last of them where that has its value
 pub record Room (xs : List ℕ) (n last size value : ℕ) : Type 0 where

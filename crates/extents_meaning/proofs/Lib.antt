@@ -1,6 +1,6 @@
 pub mod Longest
 pub mod Points
-pub mod Passes
+pub mod Overwrites
 pub mod Trips
 pub mod Threes
 pub mod Rules

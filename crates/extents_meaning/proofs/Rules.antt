@@ -5,7 +5,7 @@ use mathlib.Core.Path.{_≡_, refl}
 use mathlib.Core.Bool.{true, false}
 use borrow.Author.Tests.{eq-eqb}
 use Rattle.extents_meaning.specs.Cells.{Bytes, cellOf, numberIn, markIn, unpublished, cleared, published, asPublished, refreshed, overwrite}
-use Rattle.extents_meaning.proofs.Passes.{over-in, over-before, over-behind}
+use Rattle.extents_meaning.proofs.Overwrites.{over-in, over-before, over-behind}
 
 -- a write puts its row number into its range, with its mark
 pub write-number : (start n number : ℕ) (f : Bytes) (b : ℕ) → start ≤ b → b < start + n → numberIn (overwrite start n (cellOf number 1) f b) ≡ number

@@ -16,7 +16,7 @@ use Rattle.extents_meaning.specs.Points.{starts}
 use Rattle.extents_meaning.proofs.Longest.{runs-same, runs-back}
 use Rattle.extents_meaning.proofs.Trips.{lawful-map}
 use Rattle.extents_meaning.proofs.Points.{begins, begins-same, begins-most, count-starts, runs-by}
-use Rattle.extents_meaning.proofs.Passes.{over-in, over-before, over-behind}
+use Rattle.extents_meaning.proofs.Overwrites.{over-in, over-before, over-behind}
 use Rattle.extents_map.specs.Mixes.{mixed, mix, makesMap, isMarkPublished}
 use Rattle.extents_map.specs.declared.scan.Mode.{Mode}
 use Rattle.extents_map.specs.declared.scan.Mode.the-variants.{Publish, MarkPublished, Refresh, ReadMap, ReadFresh}

@@ -5,7 +5,7 @@ use native.Mathlib.Decide.{decLt}
 use mathlib.Core.Path.{_≡_, sym, ap, subst, _∙_}
 use mathlib.Core.Logic.{_⊎_, inl, inr}
 use mathlib.Core.Bool.{Bool, true, cond}
-use mathlib.Core.List.{List, [], _∷_, _++_, append-assoc}
+use mathlib.Core.List.{List, _++_, append-assoc}
 use lib.ListN.{length, take, drop, length-append, length-drop, take-append-drop}
 use lib.Seq.{length-take-le, drop-drop, take-at, drop-at, take-append-le, drop-append-le}
 use lib.Dec.{leb}
@@ -17,8 +17,8 @@ use Rattle.extents_meaning.specs.Runs.{Run, cellAt, runsOf, Lawful}
 use Rattle.extents_meaning.specs.Maps.{mapOf, mapFor, spaceIn, runs, bytesOf, lawful, partAt, withPart}
 use Rattle.extents_meaning.proofs.Longest.{mean-behind, runs-mean, runs-same, runs-lawful, runs-back, lawful-fine}
 use Rattle.extents_meaning.proofs.Trips.{length-map, map-back, map-lawful, lawful-map}
-use Rattle.extents_pair.specs.RangeWrites.{rangeWriteOf, filled, downs, withBytes, MapsApart}
-use Rattle.extents_pair.proofs.Sweeps.{over-none, Fits, downs-fits}
+use Rattle.extents_pair.specs.RangeWrites.{withBytes, MapsApart}
+use Rattle.extents_pair.proofs.Sweeps.{over-none, Fits}
 
 -- ---- A part lent and home again
 
@@ -256,21 +256,7 @@ module _ (xs : List ℕ) (e : lawful xs ≡ true) (from to : ℕ) where
       let f = overwrite from (to - from) c (bytesOf xs) in
       sym (map-same (spaceIn xs) f (bytesOf xs) (λ b. over-none from to c (bytesOf xs) b h) ∙ bytes-map xs e)
 
-  -- the cell behind it makes no more runs
-  filled-fit : from ≤ to → to ≤ OFFSET-MAX → length (runsOf (filled from to (bytesOf xs))) ≤ spaceIn xs
-  unfolding downs
-  filled-fit h k = downs-fits (rangeWriteOf from to 0 ∷ []) from (bytesOf xs) (spaceIn xs) (omega arith, h, k, tt) (bytes-fit xs e) .few
-
 -- what fits is laid
 pub laid-fit : (xs : List ℕ) (f : Bytes) {r : Bool} {ys : List ℕ} → length (runsOf f) ≤ spaceIn xs →
     r ≡ leb (length (runsOf f)) (spaceIn xs) → ys ≡ cond r (mapFor (spaceIn xs) f) xs → ys ≡ mapFor (spaceIn xs) f
 laid-fit xs f {r} {ys} h a b = b ∙ ap (λ (x : Bool). cond x (mapFor (spaceIn xs) f) xs) (a ∙ le-leb (length (runsOf f)) (spaceIn xs) h)
-
--- Giving a range the cell behind it always fits.
-pub laid-filled : (xs : List ℕ) → lawful xs ≡ true → (from to : ℕ) → from ≤ to → to ≤ OFFSET-MAX →
-    {c : ℕ} → c ≡ bytesOf xs to → {r : Bool} {ys : List ℕ} → r ≡ leb (length (runsOf (overwrite from (to - from) c (bytesOf xs)))) (spaceIn xs) →
-    ys ≡ cond r (mapFor (spaceIn xs) (overwrite from (to - from) c (bytesOf xs))) xs → ys ≡ mapFor (spaceIn xs) (filled from to (bytesOf xs))
-laid-filled xs e from to h k {c} q {r} {ys} a b =
-    let g : ℕ → Bytes = λ d. overwrite from (to - from) d (bytesOf xs) in
-    laid-fit xs (g (bytesOf xs to)) (filled-fit xs e from to h k) (a ∙ ap (λ (d : ℕ). leb (length (runsOf (g d))) (spaceIn xs)) q)
-    (b ∙ ap (λ (d : ℕ). cond r (mapFor (spaceIn xs) (g d)) xs) q)

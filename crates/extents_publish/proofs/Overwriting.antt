@@ -11,7 +11,7 @@ use Rattle.rows.specs.Limits.{OFFSET-MAX}
 use Rattle.extents_meaning.specs.Cells.{Bytes, unpublished, cleared, inRange, overwrite, published}
 use Rattle.extents_meaning.specs.Runs.{Run, cellAt, Rising, Lawful}
 use Rattle.extents_meaning.proofs.Longest.{Fine, range-in, range-before, range-behind, cell-first, cell-behind, mean-before, mean-behind, mean-first, lawful-fine}
-use Rattle.extents_meaning.proofs.Passes.{over-before}
+use Rattle.extents_meaning.proofs.Overwrites.{over-before}
 use Rattle.extents_pair.specs.declared.RangeWrite.{RangeWrite}
 use Rattle.extents_pair.specs.RangeWrites.{rangeWriteOf, clamped, rangeWrite, rangeWrites, downs, taken}
 use Rattle.extents_pair.proofs.Sweeps.{over-at, over-past, over-none, Good, good-over, Rises, Overwritten, downs-before, downs-overwritten, overwritten-self, overwritten-downs, overwritten-one}

@@ -2,15 +2,14 @@
 use Prim.Native.Nat.{ℕ, _+_, _*_, _-_, _≤_}
 use native.Mathlib.Omega.{arith}
 use mathlib.Core.Path.{_≡_, refl, sym, ap, _∙_}
-use mathlib.Core.Bool.{Bool, true, false, not, _&&_}
+use mathlib.Core.Bool.{true, not, _&&_}
 use mathlib.Core.List.{List}
-use lib.ListN.{length, take, drop}
+use lib.ListN.{length}
 use lib.Dec.{leb, eqb}
-use borrow.Author.Tests.{le-leb, ne-eqb}
 use borrow.Rule.Slice.PartMut.{putMid}
 use Rattle.extents_meaning.specs.Cells.{Bytes, cleared, asPublished, refreshed}
 use Rattle.extents_meaning.specs.Runs.{runsOf}
-use Rattle.extents_meaning.specs.Maps.{mapOf, mapFor, spaceIn, runs, bytesOf, lawful, lawfulPublished, mapAt, withMap}
+use Rattle.extents_meaning.specs.Maps.{mapOf, mapFor, runs, bytesOf, lawful, lawfulPublished, mapAt, withMap}
 use Rattle.extents_meaning.specs.Pairs.{twoMaps, viewOf, belowOf}
 use Rattle.extents_meaning.proofs.Longest.{range-behind, runs-same, runs-back}
 use Rattle.extents_meaning.proofs.Points.{runs-by}

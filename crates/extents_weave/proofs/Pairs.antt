@@ -2,15 +2,15 @@
 use Prim.Native.Nat.{ℕ, _+_, _*_, _-_, _/_, _≤_}
 use native.Mathlib.Omega.{arith}
 use native.Mathlib.Nat.{add-mul, one-mul}
-use mathlib.Core.Path.{_≡_, refl, sym, ap, _∙_}
+use mathlib.Core.Path.{_≡_, sym, ap, _∙_}
 use mathlib.Core.Logic.{_⊎_, inl, inr}
-use mathlib.Core.Bool.{Bool, true, false, cond}
+use mathlib.Core.Bool.{true, false}
 use mathlib.Core.List.{List}
 use lib.ListN.{length}
 use Rattle.extents_meaning.specs.Runs.{runsOf}
 use Rattle.extents_meaning.specs.Maps.{mapOf, mapFor, withMap, withPart}
 use Rattle.extents_meaning.proofs.Longest.{runs-same}
-use Rattle.extents_map.specs.Mixes.{viewIsTarget, mixed, mixIn, becomes}
+use Rattle.extents_map.specs.Mixes.{viewIsTarget, mixIn, becomes}
 use Rattle.extents_map.specs.declared.scan.Mix.{Mix}
 use Rattle.extents_pair.specs.InPairs.{twoMapsIn, viewIn, belowIn}
 use Rattle.extents_pair.specs.declared.Pair.{Pair}

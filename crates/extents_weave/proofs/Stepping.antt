@@ -1,21 +1,17 @@
 -- A step from a look at both maps.
-use Prim.Native.Nat.{ℕ, _*_, _-_, _≤_, _<_}
-use mathlib.Core.Path.{_≡_, refl, sym, _∙_}
-use mathlib.Core.Bool.{Bool, true, false, cond, not}
+use Prim.Native.Nat.{ℕ, _-_, _≤_, _<_}
+use mathlib.Core.Path.{_≡_, sym, _∙_}
+use mathlib.Core.Bool.{Bool, true, false, not}
 use mathlib.Core.List.{List}
-use lib.ListN.{drop}
 use lib.Dec.{eqb}
 use borrow.Author.Tests.{eq-eqb, ne-eqb}
 use Rattle.rows.specs.Limits.{OFFSET-MAX}
-use Rattle.extents_meaning.specs.Cells.{inRange}
-use Rattle.extents_meaning.specs.Maps.{bytesOf}
 use Rattle.extents_map.specs.Cursors.{BothLooked}
-use Rattle.extents_map.specs.Mixes.{becomes, becomesIn}
+use Rattle.extents_map.specs.Mixes.{becomes}
 use Rattle.extents_map.specs.declared.scan.Both.{Both}
 use Rattle.extents_map.specs.declared.scan.Mix.{Mix}
 use Rattle.extents_map.proofs.Looking.{both-on, both-cell, both-other, both-inside}
 use Rattle.extents_weave.specs.Steps.{stepCell, stepNeed, Stepped}
-use Rattle.extents_weave.specs.declared.Step.{Step}
 
 module _ (xs : List ℕ) (i : ℕ) (os : List ℕ) (j : ℕ) (mix : Mix) (hand : ℕ) (keep : Bool) (x : ℕ) (s : Both) (below : x < OFFSET-MAX)
     (order : mix .start ≤ mix .end) (p : BothLooked xs i os j mix x s) where

@@ -3,7 +3,7 @@ use Prim.Native.Nat.{ℕ, suc, _+_, _*_, _-_, _/_, _≤_, _<_}
 use native.Mathlib.Omega.{arith}
 use native.Mathlib.Decide.{ℕ-discrete}
 use mathlib.Core.Path.{_≡_, refl, sym, ap, subst, _∙_}
-use mathlib.Core.Bool.{Bool, true, false, cond, false≢true}
+use mathlib.Core.Bool.{Bool, true, false, false≢true}
 use mathlib.Core.List.{List}
 use lib.ListN.{length, take, drop, replicate, length-drop}
 use borrow.Author.Tests.{eq-eqb, ne-eqb}
@@ -25,7 +25,7 @@ use Rattle.extents_weave_meaning.proofs.InPlace.{Rewriting, stored-size, rewrit
 use Rattle.extents_weave_meaning.proofs.Weave.{held-flat, needs-flat, result-flat}
 use Rattle.extents_weave.specs.Turns.{turnedMap, Turned}
 use Rattle.extents_weave.specs.Steps.{stepCell, stepNeed, Stepped}
-use Rattle.extents_weave.specs.Rewrites.{writtenBy, neededBy, resultsIn, sourceIn, sourceEnd, runsWritten, OnlyPart, Ready, Rewritten}
+use Rattle.extents_weave.specs.Rewrites.{writtenBy, neededBy, resultsIn, sourceIn, sourceEnd, OnlyPart, Ready, Rewritten}
 use Rattle.extents_weave.specs.declared.Hand.{Hand}
 use Rattle.extents_weave.specs.declared.Step.{Step}
 use Rattle.extents_weave.proofs.Homes.{only-start, only-length, only-apart, home-part, home-only}

@@ -8,18 +8,17 @@ use mathlib.Core.Bool.{Bool, true, false, cond}
 use mathlib.Core.List.{List, [], _∷_, _++_, append-assoc, append-nil}
 use lib.ListN.{length, take, drop, replicate, length-append, length-drop}
 use lib.Seq.{length-take-le, take-at, drop-at, drop-drop, drop-append-add}
-use lib.Dec.{eqb}
 use Rattle.extents_meaning.specs.Cells.{Bytes}
 use Rattle.extents_meaning.specs.Runs.{Run, runOf, cellAt, runsFrom, Rising, Open, NumbersLegal}
 use Rattle.extents_meaning.specs.Maps.{fours, mapOf}
 use Rattle.extents_meaning.specs.Points.{starts}
-use Rattle.extents_meaning.proofs.Longest.{cell-first, cell-behind, mean-first, rising-earlier}
-use Rattle.extents_meaning.proofs.Trips.{length-fours, fours-append, map-append}
+use Rattle.extents_meaning.proofs.Longest.{cell-first, cell-behind}
+use Rattle.extents_meaning.proofs.Trips.{length-fours, fours-append}
 use Rattle.extents_meaning.proofs.Points.{begins, begins-zero, begins-same, begins-one, count-starts}
-use Rattle.extents_weave_meaning.specs.Walks.{last, live, trimmed, put, listed, Needed}
+use Rattle.extents_weave_meaning.specs.Walks.{last, trimmed, put, listed, Needed}
 use Rattle.extents_weave_meaning.proofs.Starts.{starts-step, starts-at, last-next, last-none}
-use Rattle.extents_weave_meaning.proofs.Rests.{rest, rest-unique, rest-none, put-none, put-some}
-use Rattle.extents_weave_meaning.proofs.Walks.{turn-on, turn-needed, turn-put, turn-none, turn-free, listed-is}
+use Rattle.extents_weave_meaning.proofs.Rests.{rest-unique, put-none, put-some}
+use Rattle.extents_weave_meaning.proofs.Walks.{turn-on, turn-needed, turn-put, turn-none, listed-is}
 use Rattle.extents_weave_meaning.specs.Kept.{Roomy}
 
 -- ---- Runs that are not yet passed

@@ -2,20 +2,17 @@
 use Prim.Native.Nat.{ℕ, zero, suc, _+_, _-_, _≤_, _<_}
 use native.Mathlib.Omega.{arith}
 use native.Mathlib.Decide.{ℕ-discrete}
-use mathlib.Core.Path.{_≡_, refl, sym, ap, subst, _∙_}
-use mathlib.Core.Bool.{Bool, true, false, cond, not}
-use mathlib.Core.List.{List}
-use lib.ListN.{length}
+use mathlib.Core.Path.{_≡_, refl, sym, ap, _∙_}
+use mathlib.Core.Bool.{true, false, not}
 use lib.Dec.{eqb}
-use borrow.Author.Tests.{eq-eqb, ne-eqb, eqb-true, eqb-false, not-true, not-false}
+use borrow.Author.Tests.{eq-eqb, ne-eqb, eqb-true, not-false}
 use Rattle.extents_meaning.specs.Cells.{Bytes}
-use Rattle.extents_meaning.specs.Runs.{Run, runsFrom}
 use Rattle.extents_meaning.specs.Points.{starts}
 use Rattle.extents_meaning.proofs.Points.{begins, begins-zero, begins-same, begins-one, begins-most}
-use Rattle.extents_weave_meaning.specs.Walks.{last, live, trimmed, listed, Needed}
+use Rattle.extents_weave_meaning.specs.Walks.{last, live, Needed}
 use Rattle.extents_weave_meaning.specs.Kept.{Results, result, next, hand, held, needs, kept, Lasting, Roomy}
 use Rattle.extents_weave_meaning.proofs.Starts.{starts-step, starts-most, starts-more, starts-other, starts-at, starts-next, last-next, last-none}
-use Rattle.extents_weave_meaning.proofs.Walks.{live-needed, live-on, live-not, trimmed-needed, trimmed-either, runs-from, runs-free, listed-is}
+use Rattle.extents_weave_meaning.proofs.Walks.{live-needed, live-on, live-not, trimmed-either, runs-from, runs-free}
 
 -- ---- The four cases of a byte
 
@@ -96,10 +93,6 @@ module _ (m : Results) (t : Bytes) where
   pub kept-gives : (top b : ℕ) → b < top → m b (kept top m t b) ≡ m b (t b)
   kept-gives top b h =
       trimmed-either top (held m t) (needs m t) (λ c. m b c ≡ m b (t b)) b h (ap (m b) (held-next b) ∙ next-gives m t b (hand m t b)) (needs-false b)
-
-  -- and is what the second walk lists
-  pub pack-is : (top : ℕ) → listed (held m t) (needs m t) top 0 0 0 0 ≡ runsFrom top 0 (kept top m t)
-  pack-is top = listed-is top (held m t) (needs m t) held-needed
 
 -- ---- No more than the runs of the result
 

@@ -1,16 +1,13 @@
 -- The runs of bytes from x up to a top, and how a walk takes one off. Assumes nothing.
-use Prim.Native.Nat.{ℕ, zero, suc, _+_, _-_, _≤_, _<_}
+use Prim.Native.Nat.{ℕ, _+_, _-_, _≤_, _<_}
 use native.Mathlib.Omega.{arith}
-use native.Mathlib.Decide.{decLt, ℕ-discrete}
-use mathlib.Core.Path.{_≡_, refl, sym, ap, subst, _∙_}
-use mathlib.Core.Bool.{Bool, true, false, cond}
+use native.Mathlib.Decide.{decLt}
+use mathlib.Core.Path.{_≡_, sym, ap, subst, _∙_}
 use mathlib.Core.List.{List, [], _∷_}
-use lib.ListN.{length}
-use lib.Dec.{eqb}
 use borrow.Author.Tests.{eq-eqb, ne-eqb}
 use Rattle.extents_meaning.specs.Cells.{Bytes}
 use Rattle.extents_meaning.specs.Runs.{Run, runOf, cellAt, runsFrom, Rising}
-use Rattle.extents_meaning.proofs.Longest.{cell-first, cell-before, cell-behind, mean-before, mean-behind, rising-from, mean-in, unique-from, rising-earlier}
+use Rattle.extents_meaning.proofs.Longest.{cell-first, cell-behind, mean-before, mean-behind, rising-from, mean-in, unique-from, rising-earlier}
 use Rattle.extents_weave_meaning.specs.Walks.{put}
 
 -- the runs from x on

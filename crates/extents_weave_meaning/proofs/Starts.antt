@@ -1,11 +1,11 @@
 -- How many bytes start a run. Assumes nothing.
-use Prim.Native.Nat.{ℕ, zero, suc, _+_, _-_, _≤_, _<_}
+use Prim.Native.Nat.{ℕ, zero, suc, _+_, _-_, _≤_}
 use native.Mathlib.Omega.{arith}
 use native.Mathlib.Decide.{ℕ-discrete}
-use mathlib.Core.Path.{_≡_, refl, sym, ap, _∙_}
+use mathlib.Core.Path.{_≡_, refl, ap, _∙_}
 use Rattle.extents_meaning.specs.Cells.{Bytes}
 use Rattle.extents_meaning.specs.Points.{starts}
-use Rattle.extents_meaning.proofs.Points.{begins, begins-zero, begins-same, begins-one, begins-most}
+use Rattle.extents_meaning.proofs.Points.{begins, begins-zero, begins-one, begins-most}
 use Rattle.extents_weave_meaning.specs.Walks.{before, last}
 
 -- one step

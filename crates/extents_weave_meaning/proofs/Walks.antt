@@ -5,16 +5,16 @@ use native.Mathlib.Decide.{decLt, ℕ-discrete}
 use mathlib.Core.Path.{_≡_, refl, sym, ap, subst, _∙_}
 use mathlib.Core.Logic.{_⊎_, inl, inr}
 use mathlib.Core.Bool.{Bool, true, false, cond}
-use mathlib.Core.List.{List, [], _∷_}
+use mathlib.Core.List.{List, []}
 use lib.Dec.{eqb}
 use borrow.Author.Tests.{eq-eqb, ne-eqb}
 use Rattle.extents_meaning.specs.Cells.{Bytes}
-use Rattle.extents_meaning.specs.Runs.{Run, runOf, runsFrom}
+use Rattle.extents_meaning.specs.Runs.{Run, runsFrom}
 use Rattle.extents_meaning.specs.Points.{starts}
 use Rattle.extents_meaning.proofs.Points.{begins, begins-zero, begins-same, begins-one}
 use Rattle.extents_weave_meaning.specs.Walks.{last, live, trimmed, put, listed, Needed}
 use Rattle.extents_weave_meaning.proofs.Starts.{starts-step, last-next, last-none}
-use Rattle.extents_weave_meaning.proofs.Rests.{rest, rest-none, rest-skip, close, put-none, put-some}
+use Rattle.extents_weave_meaning.proofs.Rests.{rest, rest-none, rest-skip, close, put-none}
 
 module _ (g : Bytes) (need : ℕ → Bool) where
   -- ---- One byte

@@ -1,24 +1,20 @@
 -- The second and the third walk as rewrites in place: how they start, what a stretch of both maps tells them, and what they leave. Assumes nothing.
-use Prim.Native.Nat.{ℕ, zero, suc, _+_, _*_, _-_, _≤_, _<_}
+use Prim.Native.Nat.{ℕ, zero, suc, _+_, _-_, _≤_, _<_}
 use native.Mathlib.Omega.{arith}
-use native.Mathlib.Decide.{decLt}
-use mathlib.Core.Path.{_≡_, refl, sym, ap, subst, _∙_}
+use mathlib.Core.Path.{_≡_, refl, sym, ap, _∙_}
 use mathlib.Core.Bool.{Bool, true, false, cond, not}
-use mathlib.Core.List.{List, [], _∷_, _++_}
-use lib.ListN.{length, take, drop}
+use lib.ListN.{length}
 use lib.Dec.{eqb}
-use Rattle.extents_meaning.specs.Cells.{Bytes, inRange}
-use Rattle.extents_meaning.specs.Runs.{runsFrom, Rising, NumbersLegal}
-use Rattle.extents_meaning.specs.Maps.{fours, mapOf}
+use Rattle.extents_meaning.specs.Cells.{Bytes}
+use Rattle.extents_meaning.specs.Runs.{runsFrom}
 use Rattle.extents_meaning.specs.Points.{starts}
-use Rattle.extents_meaning.proofs.Longest.{rising-from, mean-in, same-from}
+use Rattle.extents_meaning.proofs.Longest.{same-from}
 use Rattle.extents_meaning.proofs.Points.{count-starts, begins}
 use Rattle.extents_weave_meaning.specs.Walks.{trimmed, last}
 use Rattle.extents_weave_meaning.proofs.Starts.{last-next, last-none}
 use Rattle.extents_weave_meaning.specs.Kept.{Results, result, next, hand, held, needs, kept, Lasting, Roomy}
 use Rattle.extents_weave_meaning.proofs.Walks.{trimmed-needed, trimmed-either}
-use Rattle.extents_weave_meaning.proofs.Kept.{next-same, next-gives, held-next, kept-gives, few-from, weave-room, pack-room}
-use Rattle.extents_weave_meaning.proofs.InPlace.{Rewriting, rewrite-start}
+use Rattle.extents_weave_meaning.proofs.Kept.{next-same, next-gives, held-next, kept-gives, few-from, weave-room}
 
 -- ---- A stretch of both maps
 

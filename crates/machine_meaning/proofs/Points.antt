@@ -18,7 +18,7 @@ use Rattle.extents_meaning.specs.Runs.{runsOf, piecesOf}
 use Rattle.rows.specs.Lists.{In}
 use Rattle.extents_meaning.proofs.Longest.{Fine}
 use Rattle.extents_meaning.proofs.Points.{few-runs, few-pieces}
-use Rattle.extents_meaning.proofs.Passes.{over-in, over-before, over-behind}
+use Rattle.extents_meaning.proofs.Overwrites.{over-in, over-before, over-behind}
 use Rattle.machine_meaning.specs.Layers.{Layers, nothing, fresh, withView, written, publishing, refreshing, afterRow, afterPlain}
 
 -- A property of both branches holds of the branch that a test picks.

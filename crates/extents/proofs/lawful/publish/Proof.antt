@@ -1,6 +1,6 @@
 -- `extents::lawful::publish` meets its contract.
 use borrow.Author.Needs.{needs}
-use Rattle.extents.proofs.Doubles.{publish-enough, publish-short, publish-full, share-fits, view-in-after, view-law-after, own-after, publish-done}
+use Rattle.extents.proofs.Doubles.{publish-enough, publish-short, publish-full, share-fits, publish-done}
 use Rattle.extents.specs.Entries.{publishedMaps}
 use Rattle.extents.proofs.Entering.{refused}
 use Rattle.extents.specs.declared.Answer.the-variants.{Done}
@@ -48,21 +48,7 @@ share-requires c κs =
     )
 
 mark-published-requires : tie.Need-mark-published-requires
-mark-published-requires c κs =
-    let p3 = c .before .before .before in
-    let p5 = p3 .before .before in
-    let p6 = p5 .before in
-    let p8 = p6 .before .before in
-    let p11 = p8 .before .before .before in
-    let a = p11 .args in
-    let xs = now (a .maps) in
-    let n = publish-enough (a .space) (a .view) (a .below) xs (p6 .fits2 .ensures) (p5 .if1 .left) in (
-      view-in-after (a .space) (a .view) (a .below) xs (p11 .pre) n (p3 .share .ensures),
-      (
-        view-law-after (a .space) (a .view) (a .below) xs (p11 .pre) n (p3 .share .ensures),
-        own-after (a .space) (a .view) (a .below) xs (p11 .pre) n (p3 .share .ensures) (p8 .own-runs .ensures),
-      ),
-    )
+mark-published-requires c κs = c .before .before .before .share .ensures .1
 
 same-length-2 : tie.Need-same-length-2
 same-length-2 c = search needs
@@ -75,7 +61,7 @@ returns-2 c =
     let p14 = p9 .before .before .before .before .before in
     let a = p14 .args in
     publish-done (a .space) (a .view) (a .below) (now (a .maps)) (p14 .pre)
-    (publish-enough (a .space) (a .view) (a .below) (now (a .maps)) (p9 .fits2 .ensures) (p8 .if1 .left)) (p6 .share .ensures)
+    (publish-enough (a .space) (a .view) (a .below) (now (a .maps)) (p9 .fits2 .ensures) (p8 .if1 .left)) (p6 .share .ensures .0)
     (c .before .before .mark-published .ensures)
 
 pub publish-spec : {M : Type 1} → statement M

@@ -83,8 +83,8 @@ refresh-requires c κs =
     let p7 = p5 .before .before in
     let p12 = p7 .before .before .before .before .before in
     let a = p12 .args in (
-      p12 .pre,
-      (refresh-enough (a .space) (a .view) (a .below) (now (a .maps)) (p5 .fits2 .ensures) (p4 .if2 .left), p7 .own-runs .ensures),
+      (p12 .pre, p7 .own-runs .ensures),
+      refresh-enough (a .space) (a .view) (a .below) (now (a .maps)) (p5 .fits2 .ensures) (p4 .if2 .left),
     )
 
 list-requires : tie.Need-list-requires

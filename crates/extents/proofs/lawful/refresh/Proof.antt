@@ -39,8 +39,8 @@ refresh-requires c κs =
     let p4 = c .before .before .before .before in
     let p7 = p4 .before .before .before in
     let a = p7 .args in (
-      p7 .pre,
-      (refresh-enough (a .space) (a .view) (a .below) (now (a .maps)) (c .before .before .fits2 .ensures) (c .before .if1 .left), p4 .own-runs .ensures),
+      (p7 .pre, p4 .own-runs .ensures),
+      refresh-enough (a .space) (a .view) (a .below) (now (a .maps)) (c .before .before .fits2 .ensures) (c .before .if1 .left),
     )
 
 same-length-2 : tie.Need-same-length-2

@@ -1,6 +1,7 @@
 -- `extents::lawful::sync` meets its contract.
 use borrow.Author.Needs.{needs}
-use Rattle.extents.proofs.Doubles.{publish-enough, publish-short, sync-full, share-fits, sync-done, view-in-after, below-in-after, view-law-after, below-law-after}
+use Rattle.extents.proofs.Doubles.{publish-enough, publish-short, sync-full, share-fits, sync-done}
+use Rattle.extents_refresh.proofs.Viewing.{copy-ready}
 use Rattle.extents.specs.Entries.{syncedMaps}
 use Rattle.extents.proofs.Entering.{refused}
 use Rattle.extents.specs.declared.Answer.the-variants.{Done}
@@ -49,23 +50,9 @@ share-requires c κs =
 
 copy-requires : tie.Need-copy-requires
 copy-requires c κs =
-    let p3 = c .before .before .before in
-    let p5 = p3 .before .before in
-    let p6 = p5 .before in
-    let p11 = p6 .before .before .before .before .before in
-    let a = p11 .args in
-    let xs = now (a .maps) in
-    let n = publish-enough (a .space) (a .view) (a .below) xs (p6 .fits2 .ensures) in (
-      (
-        below-in-after (a .space) (a .view) (a .below) xs (p11 .pre) (n (p5 .if1 .left)) (p3 .share .ensures),
-        view-in-after (a .space) (a .view) (a .below) xs (p11 .pre) (n (p5 .if1 .left)) (p3 .share .ensures),
-        λ q. two-apart (a .space) (a .view) (a .below) xs (p11 .pre) (sym q),
-      ),
-      (
-        below-law-after (a .space) (a .view) (a .below) xs (p11 .pre) (n (p5 .if1 .left)) (p3 .share .ensures),
-        view-law-after (a .space) (a .view) (a .below) xs (p11 .pre) (n (p5 .if1 .left)) (p3 .share .ensures),
-      ),
-    )
+    let s = c .before .before .before in
+    let a = s .before .before .before .before .before .before .before .before .args in
+    copy-ready (a .space) (a .view) (a .below) _ (s .share .ensures .1 .0)
 
 same-length-2 : tie.Need-same-length-2
 same-length-2 c = search needs
@@ -78,7 +65,7 @@ returns-2 c =
     let p14 = p9 .before .before .before .before .before in
     let a = p14 .args in
     sync-done (a .space) (a .view) (a .below) (now (a .maps)) (p14 .pre)
-    (publish-enough (a .space) (a .view) (a .below) (now (a .maps)) (p9 .fits2 .ensures) (p8 .if1 .left)) (p6 .share .ensures)
+    (publish-enough (a .space) (a .view) (a .below) (now (a .maps)) (p9 .fits2 .ensures) (p8 .if1 .left)) (p6 .share .ensures .0)
     (c .before .before .copy .ensures)
 
 pub sync-spec : {M : Type 1} → statement M

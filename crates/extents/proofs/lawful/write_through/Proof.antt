@@ -1,6 +1,6 @@
 -- `extents::lawful::write_through` meets its contract.
 use borrow.Author.Needs.{needs}
-use Rattle.extents.proofs.Doubles.{view-in-written-through, view-law-written-through, own-written-through, view-in-as-published, view-law-as-published, write-through-lay, write-through-done, write-through-empty, write-through-enough, write-through-short, mark-published-enough, mark-published-short, cell-zero, write-through-low, write-through-high, write-through-past, write-through-full, write-through-view-full, write-through-share}
+use Rattle.extents.proofs.Doubles.{view-in-as-published, view-law-as-published, write-through-lay, write-through-done, write-through-empty, write-through-enough, write-through-short, mark-published-enough, mark-published-short, cell-zero, write-through-low, write-through-high, write-through-past, write-through-full, write-through-view-full, write-through-share}
 use Rattle.extents.proofs.Entering.{cell-fine, refused}
 use Rattle.extents.specs.Entries.{writtenThroughMaps}
 use mathlib.Core.Bool.{false}
@@ -132,30 +132,7 @@ share-requires c κs =
     )
 
 mark-published-requires : tie.Need-mark-published-requires
-mark-published-requires c κs =
-    let p3 = c .before .before .before in
-    let p5 = p3 .before .before in
-    let p6 = p5 .before in
-    let p8 = p6 .before .before in
-    let p9 = p8 .before in
-    let p11 = p9 .before .before in
-    let p13 = p11 .before .before in
-    let p14 = p13 .before in
-    let p15 = p14 .before in
-    let p17 = p15 .before .before in
-    let a = p17 .args in
-    let xs = now (a .maps) in
-    let m = write-through-enough (a .space) (a .view) (a .below) xs (a .start) (a .length) (a .number) (cell-zero (a .number)) (p9 .fits2 .ensures) (p8 .if4 .left) in
-    let n = mark-published-enough (a .space) (a .view) (a .below) xs (a .start) (a .length) (a .number) (cell-zero (a .number)) (p6 .fits3 .ensures) (p5 .if5 .left) in (
-      view-in-written-through (a .space) (a .view) (a .below) xs (a .start) (a .length) (a .number) (omega arith) (omega arith) (p17 .pre)
-          (omega (arith, p15 .if1 .left)) (omega (arith, p14 .if2 .left)) (omega (arith, p13 .if3 .left)) m n (p3 .share .ensures),
-      (
-        view-law-written-through (a .space) (a .view) (a .below) xs (a .start) (a .length) (a .number) (omega arith) (omega arith) (p17 .pre)
-            (omega (arith, p15 .if1 .left)) (omega (arith, p14 .if2 .left)) (omega (arith, p13 .if3 .left)) m n (p3 .share .ensures),
-        own-written-through (a .space) (a .view) (a .below) xs (a .start) (a .length) (a .number) (omega arith) (omega arith) (p17 .pre)
-            (omega (arith, p15 .if1 .left)) (omega (arith, p14 .if2 .left)) (omega (arith, p13 .if3 .left)) m n (p3 .share .ensures) (p11 .own-runs .ensures),
-      ),
-    )
+mark-published-requires c κs = c .before .before .before .share .ensures .1
 
 lay-requires : tie.Need-lay-requires
 lay-requires c κs =
@@ -174,14 +151,14 @@ lay-requires c κs =
           (omega (arith, p20 .if1 .left)) (omega (arith, p19 .if2 .left))
           (omega (arith, p18 .if3 .left)) (write-through-enough (a .space) (a .view) (a .below) (now (a .maps)) (a .start) (a .length)
           (a .number) (cell-zero (a .number)) (p14 .fits2 .ensures) (p13 .if4 .left)) (mark-published-enough (a .space) (a .view) (a .below) (now
-          (a .maps)) (a .start) (a .length) (a .number) (cell-zero (a .number)) (p11 .fits3 .ensures) (p10 .if5 .left)) (p8 .share .ensures)
+          (a .maps)) (a .start) (a .length) (a .number) (cell-zero (a .number)) (p11 .fits3 .ensures) (p10 .if5 .left)) (p8 .share .ensures .0)
           (p4 .mark-published .ensures),
       (
         view-law-as-published (a .space) (a .view) (a .below) (now (a .maps)) (a .start) (a .length) (a .number) (omega arith) (omega arith) (p22 .pre)
             (omega (arith, p20 .if1 .left)) (omega (arith, p19 .if2 .left))
             (omega (arith, p18 .if3 .left)) (write-through-enough (a .space) (a .view) (a .below) (now (a .maps)) (a .start) (a .length)
             (a .number) (cell-zero (a .number)) (p14 .fits2 .ensures) (p13 .if4 .left)) (mark-published-enough (a .space) (a .view) (a .below) (now
-            (a .maps)) (a .start) (a .length) (a .number) (cell-zero (a .number)) (p11 .fits3 .ensures) (p10 .if5 .left)) (p8 .share .ensures)
+            (a .maps)) (a .start) (a .length) (a .number) (cell-zero (a .number)) (p11 .fits3 .ensures) (p10 .if5 .left)) (p8 .share .ensures .0)
             (p4 .mark-published .ensures),
         (
           (c .before .if6 .taken, cell-fine (a .number) false (omega (arith, p20 .if1 .left)) (omega (arith, p19 .if2 .left)) (cell-zero (a .number))),
@@ -192,7 +169,7 @@ lay-requires c κs =
                 p18 .if3 .left,
               )) (write-through-enough (a .space) (a .view) (a .below) (now (a .maps)) (a .start) (a .length) (a .number)
               (cell-zero (a .number)) (p14 .fits2 .ensures) (p13 .if4 .left)) (mark-published-enough (a .space) (a .view) (a .below) (now (a .maps))
-              (a .start) (a .length) (a .number) (cell-zero (a .number)) (p11 .fits3 .ensures) (p10 .if5 .left)) (p8 .share .ensures)
+              (a .start) (a .length) (a .number) (cell-zero (a .number)) (p11 .fits3 .ensures) (p10 .if5 .left)) (p8 .share .ensures .0)
               (p4 .mark-published .ensures) (cell-zero
               (a .number)),
         ),
@@ -219,7 +196,7 @@ returns-6 c =
     (arith, p23 .if1 .left)) (omega (arith, p22 .if2 .left))
     (omega (arith, p21 .if3 .left)) (write-through-enough (a .space) (a .view) (a .below) (now (a .maps)) (a .start) (a .length)
     (a .number) (cell-zero (a .number)) (p17 .fits2 .ensures) (p16 .if4 .left)) (mark-published-enough (a .space) (a .view) (a .below) (now
-    (a .maps)) (a .start) (a .length) (a .number) (cell-zero (a .number)) (p14 .fits3 .ensures) (p13 .if5 .left)) (p11 .share .ensures)
+    (a .maps)) (a .start) (a .length) (a .number) (cell-zero (a .number)) (p14 .fits3 .ensures) (p13 .if5 .left)) (p11 .share .ensures .0)
     (p7 .mark-published .ensures)
     (cell-zero (a .number)) (c .before .before .lay .ensures)
 
@@ -243,7 +220,7 @@ returns-7 c =
     (arith, p19 .if1 .left)) (omega (arith, p18 .if2 .left))
     (omega (arith, p17 .if3 .left)) (write-through-enough (a .space) (a .view) (a .below) (now (a .maps)) (a .start) (a .length)
     (a .number) (cell-zero (a .number)) (p13 .fits2 .ensures) (p12 .if4 .left)) (mark-published-enough (a .space) (a .view) (a .below) (now
-    (a .maps)) (a .start) (a .length) (a .number) (cell-zero (a .number)) (p10 .fits3 .ensures) (p9 .if5 .left)) (p7 .share .ensures)
+    (a .maps)) (a .start) (a .length) (a .number) (cell-zero (a .number)) (p10 .fits3 .ensures) (p9 .if5 .left)) (p7 .share .ensures .0)
     (p3 .mark-published .ensures)
     (c .if6 .left)
 
