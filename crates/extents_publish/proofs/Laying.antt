@@ -1,8 +1,8 @@
 -- The unpublished runs of a view laid on the published map one by one, where there is room for two runs more for each.
-use Prim.Native.Nat.{ℕ, zero, suc, _+_, _*_, _-_, _/_, _≤_, _<_, min, max}
+use Prim.Native.Nat.{ℕ, zero, suc, _+_, _*_, _-_, _/_, _≤_, _<_}
 use native.Mathlib.Omega.{arith}
 use mathlib.Core.Path.{_≡_, refl, sym, ap, subst, _∙_}
-use mathlib.Core.Bool.{Bool, true, false, cond}
+use mathlib.Core.Bool.{Bool, true, false}
 use mathlib.Core.List.{List, [], _∷_}
 use lib.ListN.{length, take, drop, drop-of-length-le}
 use lib.Seq.{drop-cons}
@@ -14,23 +14,14 @@ use Rattle.extents_meaning.specs.Maps.{mapFor, spaceIn, runs, bytesOf, partAt}
 use Rattle.extents_meaning.proofs.Longest.{Fine, runs-same, runs-back}
 use Rattle.extents_meaning.proofs.Trips.{lawful-map}
 use Rattle.extents_pair.specs.declared.RangeWrite.{RangeWrite}
-use Rattle.extents_pair.specs.RangeWrites.{rangeWriteOf, rangeWrite, withBytes, MapsApart}
+use Rattle.extents_pair.specs.RangeWrites.{withBytes, MapsApart}
+use Rattle.extents_publish.specs.Ranges.{rangeOf}
 use Rattle.extents_pair.specs.Marks.{marked}
 use Rattle.extents_pair.proofs.Sweeps.{Good, Fits, good-over, over-same}
-use Rattle.extents_publish.proofs.Overwriting.{clear-fine}
 use Rattle.extents_pair.proofs.Parts.{Holds, holds-start, holds-same, lent-view, lent-space, lent-bytes, lent-next}
-use Rattle.extents_publish.proofs.Taking.{runAmong, inside-at, fine-at}
+use Rattle.extents_publish.proofs.Taking.{runAmong, inside-at, fine-at, clear-fine}
 use Rattle.extents_pair.proofs.Gathering.{marked-in, marked-out}
 use Rattle.extents_pair.proofs.Bounds.{laid, laid-more, laid-over, marked-first}
-
--- an unpublished run of all bytes is written whole
-whole-range-write : (r : Run) → unpublished (r .cell) ≡ true → r .start + r .length ≤ OFFSET-MAX →
-    rangeWrite 0 OFFSET-MAX r ≡ rangeWriteOf (r .start) (r .start + r .length) (cleared (r .cell))
-unfolding rangeWrite
-whole-range-write r u h =
-    let a : max 0 (min (r .start) OFFSET-MAX) ≡ r .start = omega arith in
-    let b : max 0 (min (r .start + r .length) OFFSET-MAX) ≡ r .start + r .length = omega arith in
-    rw u (λ i. rangeWriteOf (a i) (b i) (cleared (r .cell)))
 
 -- later runs have no more unpublished ones
 fewer-later : (i : ℕ) (rs : List Run) → length (marked (drop i rs)) ≤ length (marked rs)
@@ -75,7 +66,7 @@ module _ (size v w : ℕ) (xs : List ℕ) (t : MapsApart size v w xs) where
   after-skip : (i : ℕ) → i < length rs → unpublished (runAmong rs i .cell) ≡ false → after i ≡ after (suc i)
   after-skip i h u = ap (λ (qs : List Run). laid cleared qs old) (ap marked (from-run i h) ∙ marked-out (runAmong rs i) (drop (suc i) rs) u)
 
-  -- run i ends clamped all bytes
+  -- Run i ends within all bytes.
   inside : (i : ℕ) → runAmong rs i .start + runAmong rs i .length ≤ OFFSET-MAX
   inside i = inside-at rs i 0 0 (law .in-order)
 
@@ -129,7 +120,7 @@ module _ (size v w : ℕ) (xs : List ℕ) (t : MapsApart size v w xs) where
 
     module _ (i : ℕ) {ys : List ℕ} (k : Holds size w xs (after i) ys) (h : 0 < i) (m : i ≤ length rs)
         (own : unpublished (runAmong (runs (take (v + size - v) (drop v ys))) (i - 1) .cell) ≡ true) {s : RangeWrite}
-        (p : s ≡ rangeWrite 0 OFFSET-MAX (runAmong (runs (take (v + size - v) (drop v ys))) (i - 1))) where
+        (p : s ≡ rangeOf (runAmong (runs (take (v + size - v) (drop v ys))) (i - 1))) where
       -- the run before
       abbrev r : Run
       r = runAmong rs (i - 1)
@@ -139,9 +130,8 @@ module _ (size v w : ℕ) (xs : List ℕ) (t : MapsApart size v w xs) where
       shown = ap (λ (l : List ℕ). unpublished (runAmong (runs l) (i - 1) .cell)) (sym (lent-view t k)) ∙ own
 
       -- The range write of the run is the whole run.
-      whole : s ≡ rangeWriteOf (r .start) (r .start + r .length) (cleared (r .cell))
-      whole =
-          p ∙ ap (λ (l : List ℕ). rangeWrite 0 OFFSET-MAX (runAmong (runs l) (i - 1))) (lent-view t k) ∙ whole-range-write r shown (inside (i - 1))
+      whole : s ≡ rangeOf r
+      whole = p ∙ ap (λ (l : List ℕ). rangeOf (runAmong (runs l) (i - 1))) (lent-view t k)
 
       -- the bytes with it
       abbrev written : Bytes

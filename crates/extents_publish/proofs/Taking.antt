@@ -1,19 +1,21 @@
--- The range that a run of a map makes, read from its four numbers.
-use Prim.Native.Nat.{ℕ, zero, suc, _+_, _*_, _≤_, _<_}
+-- The range that a run of a map writes, read from the run's four numbers.
+use Prim.Native.Nat.{ℕ, zero, suc, _+_, _*_, _-_, _≤_, _<_}
 use native.Mathlib.Omega.{arith}
-use mathlib.Core.Path.{_≡_, refl, sym, ap, _∙_}
+use mathlib.Core.Path.{_≡_, refl, sym, ap, subst, _∙_}
 use mathlib.Core.Logic.{inl, inr}
-use mathlib.Core.Bool.{true, cond}
+use mathlib.Core.Bool.{true}
 use mathlib.Core.List.{List, [], _∷_}
 use lib.ListN.{length, take, drop, getD}
 use lib.Seq.{length-take-le, split-at}
 use Rattle.rows.specs.Limits.{ROWS, OFFSET-MAX}
-use Rattle.extents_meaning.specs.Cells.{numberIn, markIn, unpublished, cleared}
+use Rattle.extents_meaning.specs.Cells.{Bytes, numberIn, markIn, cleared}
 use Rattle.extents_meaning.specs.Runs.{Run, runOf, Rising, NumbersLegal}
-use Rattle.extents_meaning.specs.Maps.{runs, lawful}
+use Rattle.extents_meaning.specs.Maps.{runs, lawful, partAt}
 use Rattle.extents_meaning.proofs.Longest.{Fine}
 use Rattle.extents_meaning.proofs.Trips.{lawful-map, run-at}
-use Rattle.extents_pair.specs.RangeWrites.{rangeWriteOf, clamped, rangeWrite}
+use Rattle.extents_pair.specs.RangeWrites.{rangeWriteOf, MapsApart}
+use Rattle.extents_pair.proofs.Parts.{Holds, lent-view}
+use Rattle.extents_publish.specs.Ranges.{rangeOf}
 
 -- run i of a list
 abbrev pub runAmong : List Run → ℕ → Run
@@ -30,6 +32,11 @@ pub fine-at : (rs : List Run) (i : ℕ) → NumbersLegal rs → Fine (runAmong r
 fine-at [] i n = inl refl
 fine-at (r ∷ rs) zero n = inr (n .0, n .1)
 fine-at (r ∷ rs) (suc i) n = fine-at rs i (n .2)
+
+-- A fine cell is fine without its mark.
+pub clear-fine : (c : ℕ) → Fine c → Fine (cleared c)
+clear-fine c (inl e) = inl (omega arith)
+clear-fine c (inr h) = inr (omega arith)
 
 -- A fine cell has a row number to 4,096.
 small : (c : ℕ) → Fine c → numberIn c ≤ ROWS
@@ -63,20 +70,18 @@ there xs i e h =
       low = small (runAmong rs i .cell) (fine-at rs i (m .lawful-runs .numbered));
     }
 
-module _ {xs : List ℕ} {i : ℕ} {r : Run} (t : There xs i r) (lo hi : ℕ) {from : ℕ} (f : from ≡ clamped lo hi (getD xs (i * 4) 0)) where
-  -- the cell of its range
-  cell-there : getD xs (i * 4 + 2) 0 * 2 ≡ cleared (r .cell)
-  cell-there = omega (arith, t .number)
+-- The four numbers make the range of the run.
+pub range-there : {xs : List ℕ} {i : ℕ} {r : Run} → There xs i r →
+    rangeWriteOf (getD xs (i * 4) 0) (getD xs (i * 4) 0 + getD xs (i * 4 + 1) 0) (getD xs (i * 4 + 2) 0 * 2) ≡ rangeOf r
+range-there {xs} {i} {r} t =
+    let c : getD xs (i * 4 + 2) 0 * 2 ≡ cleared (r .cell) = omega (arith, t .number) in
+    λ j. rangeWriteOf (t .start j) (t .start j + t .length j) (c j)
 
-  -- the first byte of its range
-  from-there : from ≡ clamped lo hi (r .start)
-  from-there = f ∙ ap (clamped lo hi) (t .start)
-
-  -- an unpublished run makes its part of the range
-  pub range-write-one : {to : ℕ} → to ≡ clamped lo hi (getD xs (i * 4) 0 + getD xs (i * 4 + 1) 0) → unpublished (r .cell) ≡ true →
-      rangeWriteOf from to (getD xs (i * 4 + 2) 0 * 2) ≡ rangeWrite lo hi r
-  unfolding rangeWrite
-  range-write-one {to} g u =
-      let q : to ≡ clamped lo hi (cond (unpublished (r .cell)) (r .start + r .length) (r .start)) =
-      g ∙ (λ j. clamped lo hi (t .start j + t .length j)) ∙ (λ j. clamped lo hi (cond (sym u j) (r .start + r .length) (r .start))) in
-      λ j. rangeWriteOf (from-there j) (q j) (cell-there j)
+-- A run of the view can be read while the slice holds other published bytes.
+pub lent-run : {size v w : ℕ} {xs : List ℕ} → MapsApart size v w xs → {f : Bytes} {ys : List ℕ} → Holds size w xs f ys → (i : ℕ) →
+    i < length (runs (partAt v size xs)) →
+    (lawful (take (v + size - v) (drop v ys)) ≡ true) × (i < length (runs (take (v + size - v) (drop v ys))))
+    × (i * 4 + 4 ≤ length (take (v + size - v) (drop v ys)))
+lent-run {size} {v} {w} {xs} t k i h =
+    subst (λ (l : List ℕ). (lawful l ≡ true) × (i < length (runs l)) × (i * 4 + 4 ≤ length l)) (sym (lent-view t k))
+    (t .view, h, there (partAt v size xs) i (t .view) h .room)

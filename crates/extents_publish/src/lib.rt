@@ -1,6 +1,5 @@
-// Publishing the unpublished runs of a view, and a range with a cell of its own, on the published map in the same slice, in place: one by one
-// where there is room for two runs more for each, else by two passes of single ranges, neither of which makes more runs than there were or than
-// there are at the end.
+// Publishing the unpublished runs of a view, and a range with a cell of its own, on the published map in the same slice, in place: run by run where
+// there is room for two runs more for each, else by rewriting the published map.
 ghost use Prim.Native.Nat.{_+_, _*_, _-_, _/_, _≤_, _<_};
 ghost use mathlib.Core.Path.{_≡_};
 ghost use mathlib.Core.Bool.{true};
@@ -9,28 +8,33 @@ ghost use lib.ListN.{length, getD};
 ghost use Rattle.rows.specs.Limits.{ROWS};
 ghost use Rattle.extents_meaning.specs.Cells.{numberIn, cellOf, unpublished, overwrite, published};
 ghost use Rattle.extents_meaning.specs.Runs.{runOf, runsOf};
-ghost use Rattle.extents_meaning.specs.Maps.{mapFor, spaceIn, runs, bytesOf, lawful, mapAt, withMap, partAt};
+ghost use Rattle.extents_meaning.specs.Maps.{mapFor, spaceIn, runs, bytesOf, lawful, withMap, partAt};
 ghost use Rattle.extents_map.specs.Mixes.{mix};
 ghost use Rattle.extents_map.specs.declared.scan.Mode.the-variants.{Publish};
 ghost use Rattle.extents_pair.specs.Marks.{marked};
 ghost use Rattle.extents_pair.specs.InPairs.{twoMapsIn, viewIn, belowIn, OwnCounted};
-ghost use Rattle.extents_pair.specs.RangeWrites.{clamped, rangeWrite, filled, withBytes, MapsApart, passedDown, passedUp, PassUpReady};
+ghost use Rattle.extents_pair.specs.RangeWrites.{withBytes, MapsApart};
+ghost use Rattle.extents_publish.specs.Ranges.{rangeOf};
+use extents_map::scan::Mix;
+use extents_map::scan::Mode;
 use extents_pair::Pair;
 use extents_pair::RangeWrite;
 
-// Publishes a view and a range of a row number, 0 where the range is empty, on a published map that fits then.
+// Publishes a view and a range of a row number, 0 where the range is empty, on a published map that fits then. Without an unpublished run the range
+// is laid alone; where there is room for two runs more for each unpublished run, these are laid one by one; else the map is rewritten.
 pub fn share(maps: &mut [u32], pair: Pair, start: u32, end: u32, number: u32)
     requires { ⌜ twoMapsIn pair (now maps) ≡ true ⌝ }
     requires { ⌜ (start ≤ end) × (start < end → 1 ≤ number) × (number ≤ ROWS) × OwnCounted pair (now maps) ⌝ }
     requires { ⌜ length (runsOf (mix Publish start (end - start) (cellOf number 0) (viewIn pair (now maps)) (belowIn pair (now maps)))) ≤ pair .space ⌝ }
     ensures { λ _. ⌜ now (maps .exit) ≡ withMap (pair .space) (pair .below)
         (mapFor (pair .space) (mix Publish start (end - start) (cellOf number 0) (viewIn pair (now (maps .entry))) (belowIn pair (now (maps .entry))))) (now (maps .entry)) ⌝ }
+    ensures { λ _. ⌜ (twoMapsIn pair (now (maps .exit)) ≡ true) × OwnCounted pair (now (maps .exit)) ⌝ }
 {
     let space = pair.space;
     let view = pair.view;
     let below = pair.below;
     let own = pair.own;
-    let size = space * 4;
+    let size = 4 * space;
     let v = view * size;
     let w = below * size;
     let cell = number * 2;
@@ -43,12 +47,13 @@ pub fn share(maps: &mut [u32], pair: Pair, start: u32, end: u32, number: u32)
         put(&mut maps[w..w + size], start, end, cell);
         return;
     }
-    pass_down(maps, size, v, w, end, rows::OFFSET_MAX);
-    fill(&mut maps[w..w + size], start, end);
-    pass_down(maps, size, v, w, 0, start);
-    pass_up(maps, size, v, w, 0, start);
-    put(&mut maps[w..w + size], start, end, cell);
-    pass_up(maps, size, v, w, end, rows::OFFSET_MAX);
+    let all = Mix {
+        mode: Mode::Publish,
+        start: start,
+        end: end,
+        cell: cell,
+    };
+    extents_weave::weave(maps, pair, all);
 }
 
 // Lays the unpublished runs of a view on the published map one by one, where there is room for two runs more for each.
@@ -62,45 +67,7 @@ fn lay_own(maps: &mut [u32], size: usize, v: usize, w: usize)
     while 0 < i {
         i -= 1;
         if is_own(&maps[v..v + size], i) {
-            let s = range_write_at(&maps[v..v + size], i, 0, rows::OFFSET_MAX);
-            put(&mut maps[w..w + size], s.from, s.to, s.cell);
-        }
-    }
-}
-
-// Gives each unpublished range of a view between two bytes the cell behind it, from right to left.
-fn pass_down(maps: &mut [u32], size: usize, v: usize, w: usize, lo: u32, hi: u32)
-    requires { ⌜ MapsApart size v w (now maps) × (lo ≤ hi) ⌝ }
-    ensures { λ _. ⌜ now (maps .exit) ≡ withBytes size w (passedDown size v w lo hi (now (maps .entry))) (now (maps .entry)) ⌝ }
-{
-    if hi <= lo {
-        return;
-    }
-    let mut i = extents_map::locate::runs_in(&maps[v..v + size]);
-    while 0 < i {
-        i -= 1;
-        if is_own(&maps[v..v + size], i) {
-            let s = range_write_at(&maps[v..v + size], i, lo, hi);
-            fill(&mut maps[w..w + size], s.from, s.to);
-        }
-    }
-}
-
-// Gives each unpublished range of a view between two bytes its own cell, from left to right.
-fn pass_up(maps: &mut [u32], size: usize, v: usize, w: usize, lo: u32, hi: u32)
-    requires { ⌜ MapsApart size v w (now maps) × (lo ≤ hi) × PassUpReady size v w lo hi (now maps) ⌝ }
-    ensures { λ _. ⌜ now (maps .exit) ≡ withBytes size w (passedUp size v w lo hi (now (maps .entry))) (now (maps .entry)) ⌝ }
-{
-    if hi <= lo {
-        return;
-    }
-    let all = extents_map::locate::runs_in(&maps[v..v + size]);
-    let mut i = 0;
-    while i < all {
-        let k = i;
-        i += 1;
-        if is_own(&maps[v..v + size], k) {
-            let s = range_write_at(&maps[v..v + size], k, lo, hi);
+            let s = range_write_at(&maps[v..v + size], i);
             put(&mut maps[w..w + size], s.from, s.to, s.cell);
         }
     }
@@ -114,39 +81,19 @@ fn is_own(map: &[u32], i: usize) -> bool
     map[i * 4 + 3] == 1
 }
 
-// The part of run i, an unpublished one, that a pass between two bytes writes.
-fn range_write_at(map: &[u32], i: usize, lo: u32, hi: u32) -> RangeWrite
-    requires { ⌜ (lawful (now map) ≡ true) × (i < length (runs (now map))) × (i * 4 + 4 ≤ length (now map))
-        × (unpublished (getD (runs (now map)) i (runOf 0 0 0) .cell) ≡ true) ⌝ }
-    ensures { λ r. ⌜ r ≡ rangeWrite lo hi (getD (runs (now (map .entry))) i (runOf 0 0 0)) ⌝ }
+// The range of run i, with the run's cell as it is published.
+fn range_write_at(map: &[u32], i: usize) -> RangeWrite
+    requires { ⌜ (lawful (now map) ≡ true) × (i < length (runs (now map))) × (i * 4 + 4 ≤ length (now map)) ⌝ }
+    ensures { λ r. ⌜ r ≡ rangeOf (getD (runs (now (map .entry))) i (runOf 0 0 0)) ⌝ }
 {
     let at = i * 4;
     let start = map[at];
     let end = start + map[at + 1];
     RangeWrite {
-        from: clamp(lo, hi, start),
-        to: clamp(lo, hi, end),
+        from: start,
+        to: end,
         cell: map[at + 2] * 2,
     }
-}
-
-// A byte moved into a range.
-fn clamp(lo: u32, hi: u32, x: u32) -> u32
-    ensures { λ r. ⌜ r ≡ clamped lo hi x ⌝ }
-{
-    extents_map::scan::most(lo, extents_map::scan::least(x, hi))
-}
-
-// Gives a range the cell behind it.
-fn fill(map: &mut [u32], start: u32, end: u32)
-    requires { ⌜ lawful (now map) ≡ true ⌝ }
-    ensures { λ _. ⌜ now (map .exit) ≡ mapFor (spaceIn (now (map .entry))) (filled start end (bytesOf (now (map .entry)))) ⌝ }
-{
-    if end <= start {
-        return;
-    }
-    let cell = cell_behind(map, end);
-    extents_lay::lay(map, start, end, cell);
 }
 
 // Gives a range a cell, where the map fits then.
@@ -158,17 +105,4 @@ fn put(map: &mut [u32], start: u32, end: u32, cell: u32)
     if start < end {
         extents_lay::lay(map, start, end, cell);
     }
-}
-
-// The cell of a byte, 0 at the end of all bytes.
-fn cell_behind(map: &[u32], x: u32) -> u32
-    requires { ⌜ lawful (now map) ≡ true ⌝ }
-    ensures { λ r. ⌜ r ≡ bytesOf (now (map .entry)) x ⌝ }
-{
-    if x == rows::OFFSET_MAX {
-        return 0;
-    }
-    let from = extents_map::scan::seek(map, x);
-    let seen = extents_map::scan::see(map, from, x);
-    seen.cell
 }

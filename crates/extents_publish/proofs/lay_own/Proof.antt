@@ -11,7 +11,7 @@ use Rattle.extents_meaning.specs.Maps.{runs, bytesOf, partAt}
 use Rattle.extents_pair.specs.Marks.{marked}
 use Rattle.extents_pair.proofs.Bounds.{laid}
 use Rattle.extents_pair.proofs.Parts.{Holds, holds-start, holds-length, lent-view, lent-lawful, lent-below}
-use Rattle.extents_publish.proofs.Passing.{lent-run}
+use Rattle.extents_publish.proofs.Taking.{lent-run}
 use Rattle.extents_publish.proofs.Laying.{lay-start, lay-skip, lay-fine, lay-fit, lay-next, lay-end}
 use Rattle.extents_publish.proofs.lay_own.Statement.{statement}
 use Rattle.extents_publish.proofs.lay_own.Tie as tie
@@ -102,13 +102,11 @@ part-range-write-at-end c =
 
 range-write-at-requires : tie.Need-range-write-at-requires Inv-loop μ-loop
 range-write-at-requires c κs =
-    let p3 = c .before .before .before in
-    let p6 = p3 .before .before .before in
+    let p6 = c .before .before .before .before .before .before in
     let p7 = p6 .before in
     let p12 = p7 .before .before .before .before .before in
     let l = p7 .loop in
-    let r = lent-run (p12 .pre .0) (l .inv .2) (l .i - 1) (omega (arith, l .inv .0, p6 .loop-test .taken)) in
-    (r .0, r .1, r .2, sym (p3 .is-own .ensures) ∙ c .before .before .if1 .taken)
+    lent-run (p12 .pre .0) (l .inv .2) (l .i - 1) (omega (arith, l .inv .0, p6 .loop-test .taken))
 
 add-put : tie.Need-add-put Inv-loop μ-loop
 add-put c = search needs

@@ -2,7 +2,7 @@
 use borrow.Author.Needs.{needs}
 use native.Mathlib.Omega.{arith}
 use denote.Ref.{now}
-use Rattle.extents_publish.proofs.Taking.{there, range-write-one}
+use Rattle.extents_publish.proofs.Taking.{there, range-there}
 use Rattle.extents_publish.proofs.range_write_at.Statement.{statement}
 use Rattle.extents_publish.proofs.range_write_at.Tie as tie
 
@@ -26,36 +26,29 @@ shared-slice-read-end c = search needs
 
 add-end-2 : tie.Need-add-end-2
 add-end-2 c =
-    let a = c .before .before .before .args in
-    let t = there (now (a .map)) (a .i) (c .before .before .before .pre .0) (c .before .before .before .pre .1) in
+    let p = c .before .before in
+    let t = there (now (p .args .map)) (p .args .i) (p .pre .0) (p .pre .1) in
     omega (arith, t .start, t .length, t .inside)
 
-clamp-requires : tie.Need-clamp-requires
-clamp-requires c κs = search needs
+add-t6 : tie.Need-add-t6
+add-t6 c = search needs
 
-clamp-requires-2 : tie.Need-clamp-requires-2
-clamp-requires-2 c κs = search needs
+mul-t9 : tie.Need-mul-t9
+mul-t9 c = search needs
 
-add-t8 : tie.Need-add-t8
-add-t8 c = search needs
+shared-slice-read-t8 : tie.Need-shared-slice-read-t8
+shared-slice-read-t8 c = search needs
 
-mul-t11 : tie.Need-mul-t11
-mul-t11 c = search needs
-
-shared-slice-read-t15 : tie.Need-shared-slice-read-t15
-shared-slice-read-t15 c = search needs
-
-mul-t16 : tie.Need-mul-t16
-mul-t16 c =
-    let a = c .before .before .before .before .before .before .args in
-    let t = there (now (a .map)) (a .i) (c .before .before .before .before .before .before .pre .0) (c .before .before .before .before .before .before .pre .1) in
+mul-t12 : tie.Need-mul-t12
+mul-t12 c =
+    let p = c .before .before .before in
+    let t = there (now (p .args .map)) (p .args .i) (p .pre .0) (p .pre .1) in
     omega (arith, t .number, t .low)
 
 returns : tie.Need-returns
 returns c =
-    let a = c .before .before .before .before .before .before .args in
-    let t = there (now (a .map)) (a .i) (c .before .before .before .before .before .before .pre .0) (c .before .before .before .before .before .before .pre .1) in
-    range-write-one t (a .lo) (a .hi) (c .before .before .clamp .ensures) (c .before .clamp2 .ensures) (c .before .before .before .before .before .before .pre .3)
+    let p = c .before .before .before in
+    range-there (there (now (p .args .map)) (p .args .i) (p .pre .0) (p .pre .1))
 
 pub range-write-at-spec : {M : Type 1} → statement M
 range-write-at-spec =
@@ -68,10 +61,8 @@ range-write-at-spec =
     mul-end
     shared-slice-read-end
     add-end-2
-    clamp-requires
-    clamp-requires-2
-    add-t8
-    mul-t11
-    shared-slice-read-t15
-    mul-t16
+    add-t6
+    mul-t9
+    shared-slice-read-t8
+    mul-t12
     returns)
