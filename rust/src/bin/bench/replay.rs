@@ -259,6 +259,8 @@ fn plain(model: Option<u32>, h: Header, maps: &mut [u32], rows: &[u32], counts: 
 enum Shape {
     /// Two clips for each process, overwritten in place.
     Clips,
+    /// Two clips at each of four places a gigabyte apart, each place for a quarter of the processes.
+    Sparse,
     /// So many places far apart.
     Places(u32),
     /// A place of its own for each write.
@@ -269,6 +271,7 @@ impl Shape {
     fn name(self) -> String {
         match self {
             Shape::Clips => "clips".to_string(),
+            Shape::Sparse => "sparse clips".to_string(),
             Shape::Places(k) => format!("{k} places"),
             Shape::Scattered => "scattered".to_string(),
         }
@@ -279,17 +282,27 @@ impl Shape {
         let far = |k: u32| k.wrapping_mul(2_654_435_761) / 64 * 16;
         match self {
             Shape::Clips => (200 * process + 100 * (k % 2), 90),
+            Shape::Sparse => (process % 4 * (1 << 30) + 100 * (k % 2), 90),
             Shape::Places(places) => (far(k % places), 8),
             Shape::Scattered => (far(k), 8),
         }
     }
 
-    /// How far a read goes: over a process's clips, or over some sixteen places.
-    fn reach(self, n: u32) -> u32 {
+    /// The range of a read near a write: over a process's clips, over all bytes where these are sparse, or over some sixteen places.
+    fn read(self, offset: u32, n: u32) -> (u32, u32) {
         match self {
-            Shape::Clips => 190,
-            Shape::Places(places) => (1 << 30) / (places / 16 + 1),
-            Shape::Scattered => (1 << 30) / (n / 40 + 1),
+            Shape::Clips => (offset, 190),
+            Shape::Sparse => (0, u32::MAX),
+            Shape::Places(places) => (offset, (1 << 30) / (places / 16 + 1)),
+            Shape::Scattered => (offset, (1 << 30) / (n / 40 + 1)),
+        }
+    }
+
+    /// The space of a map for a trace of n rows.
+    fn space(self, n: u32) -> u32 {
+        match self {
+            Shape::Clips | Shape::Sparse => 192,
+            Shape::Places(_) | Shape::Scattered => n,
         }
     }
 }
@@ -306,11 +319,12 @@ fn trace(shape: Shape, model: Option<Model>, n: u32) -> Vec<u32> {
         let p = i / 5 % PROCESSES;
         let next = (p + 1) % PROCESSES;
         let (offset, length) = shape.range(p, i / 5 * 2 + i % 5 % 2);
+        let (from, reach) = shape.read(offset, n);
         rows.extend(match i % 5 {
             0 | 1 => [p, WRITE, 1, offset, length, 0],
             2 => [p, publish, 1, 0, 0, 0],
             3 => [next, refresh, 1, 0, 0, 0],
-            _ => [next, READ, 1, offset, shape.reach(n), 0],
+            _ => [next, READ, 1, from, reach, 0],
         });
     }
     rows
@@ -319,7 +333,7 @@ fn trace(shape: Shape, model: Option<Model>, n: u32) -> Vec<u32> {
 fn case(shape: Shape, model: Option<Model>, n: usize) -> Timed {
     let rows = trace(shape, model, n as u32);
     let model = model.map(Model::number);
-    let h = Header { process_limit: PROCESSES, file: 1, map_space: if let Shape::Clips = shape { 192 } else { n as u32 } };
+    let h = Header { process_limit: PROCESSES, file: 1, map_space: shape.space(n as u32) };
     let len = if model.is_some() { h.maps_len() } else { h.map_len() }.expect("a length");
     let library = move |rows: &[u32], maps: &mut [u32], counts: &mut [u32], out: &mut [u32]| match model {
         Some(model) => replay(model, h, maps, rows, 0, n as u32, counts, out),
@@ -366,6 +380,9 @@ pub fn cases() -> Vec<Case> {
         for model in models {
             all.extend(SIZES.map(|rows| one(shape, model, rows)));
         }
+    }
+    for model in [Some(Model::Posix), Some(Model::Commit)] {
+        all.extend(SIZES.map(|rows| one(Shape::Sparse, model, rows)));
     }
     for model in [Some(Model::Commit), None] {
         all.extend([16, 64, 256, 1024].map(|places| one(Shape::Places(places), model, 4096)));
