@@ -141,15 +141,8 @@ fn the_list_of_contracts_is_that_of_the_sources() {
 }
 
 /// What may ask something of its callers: the code of maps below `extents`, and its entries for callers that know their maps to be lawful.
-const MAY_ASK: [&str; 7] = [
-    "extents_map",
-    "extents_lay",
-    "extents_pair",
-    "extents_weave",
-    "extents_publish",
-    "extents_refresh",
-    "extents::lawful",
-];
+const MAY_ASK: [&str; 7] =
+    ["extents_map", "extents_lay", "extents_pair", "extents_weave", "extents_publish", "extents_refresh", "extents::lawful"];
 
 /// Every public function has a comment and an `ensures`, and none but those of `MAY_ASK` has a `requires`.
 #[test]
