@@ -25,7 +25,7 @@ sets-put xs p s l n k h =
     let c : p + 3 ≡ suc (suc (suc p)) = omega arith in
     (λ i. set (set (set (set xs p s) (a i) l) (b i) n) (c i) k) ∙ sets-eq (s ∷ (l ∷ (n ∷ (k ∷ [])))) xs p h
 
--- the cell is in hand; nothing is in hand; another is
+-- The map behind a turn: as it was where the cell is in hand or nothing is, else with the run in hand put down.
 module _ (h : Hand) (x y cell : ℕ) (need : Bool) (xs : List ℕ) where
   pub map-same : cell ≡ h .cell → turnedMap h cell xs ≡ xs
   unfolding turnedMap
@@ -44,12 +44,13 @@ module _ (space top all : ℕ) (f g : Bytes) (need : ℕ → Bool) (first : Need
     (w : Rewriting space top all f g need xs x (h .written) i (h .start) (h .end) (h .cell)) (inside : x + suc k ≤ top)
     (flat : (b : ℕ) → x ≤ b → b < x + suc k → g b ≡ d) (even : (b : ℕ) → x ≤ b → b < x + suc k → need b ≡ u)
     (t : Turned h x (x + suc k) d u r) (below : (d ≡ h .cell → ⊥) → (h .cell ≡ 0 → ⊥) → h .written < i) where
-  -- the same walk by other names
+  -- a walk whose numbers are equal to those of another
   named : (ys zs : List ℕ) (q a e c q' a' e' c' : ℕ) → Rewriting space top all f g need ys (x + suc k) q i a e c → zs ≡ ys → q' ≡ q → a' ≡ a → e' ≡ e → c' ≡ c →
       Rewriting space top all f g need zs (x + suc k) q' i a' e' c'
   named ys zs q a e c q' a' e' c' v p1 p2 p3 p4 p5 =
       subst (λ (T : Type 0). T) (λ j. Rewriting space top all f g need (sym p1 j) (x + suc k) (sym p2 j) i (sym p3 j) (sym p4 j) (sym p5 j)) v
 
+  -- The code's turn is a turn of the walk.
   pub turned-on : Rewriting space top all f g need (turnedMap h d xs) (x + suc k) (r .written) i (r .start) (r .end) (r .cell)
   turned-on = go (ℕ-discrete d (h .cell)) (ℕ-discrete (h .cell) 0)
     where

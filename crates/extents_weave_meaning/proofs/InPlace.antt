@@ -1,5 +1,4 @@
 -- A walk that writes the runs of bytes g into the front of a map while it reads those of f further back in it: nothing unread is written over.
--- Assumes nothing.
 use Prim.Native.Nat.{ℕ, zero, suc, _+_, _*_, _-_, _≤_, _<_}
 use native.Mathlib.Omega.{arith}
 use native.Mathlib.Decide.{decLt, ℕ-discrete}
@@ -57,10 +56,12 @@ module _ (xs ys : List ℕ) (q : ℕ) (r : Run) (fit : 4 * q + 4 ≤ length xs) 
   stored-head : length (take (4 * q) xs ++ fours (r ∷ [])) ≡ 4 * q + 4
   stored-head = length-append (take (4 * q) xs) (fours (r ∷ [])) ∙ omega (arith, length-take-le (4 * q) xs (omega arith), length-fours (r ∷ []))
 
+  -- The slice keeps its length.
   pub stored-size : length ys ≡ length xs
   stored-size =
       ap length e ∙ length-append (take (4 * q) xs ++ fours (r ∷ [])) (drop (4 * q + 4) xs) ∙ omega (arith, stored-head, length-drop (4 * q + 4) xs)
 
+  -- The runs in front are one more.
   pub stored-front : (done : List Run) → take (4 * q) xs ≡ fours done → take (4 * suc q) ys ≡ fours (done ++ (r ∷ []))
   stored-front done h =
       let i : 4 * suc q ≡ 4 * q + 4 = omega arith in
@@ -68,6 +69,7 @@ module _ (xs ys : List ℕ) (q : ℕ) (r : Run) (fit : 4 * q + 4 ≤ length xs) 
       (take-at (take (4 * q) xs ++ fours (r ∷ [])) (drop (4 * q + 4) xs) (4 * q + 4) stored-head
       ∙ ap (λ (l : List ℕ). l ++ fours (r ∷ [])) h ∙ sym (fours-append done (r ∷ [])))
 
+  -- The runs behind the place stay.
   pub stored-behind : (i : ℕ) → q < i → drop (4 * i) ys ≡ drop (4 * i) xs
   stored-behind i h =
       let m = 4 * i - (4 * q + 4) in

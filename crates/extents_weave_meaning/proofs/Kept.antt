@@ -1,4 +1,4 @@
--- What is kept of a target: it gives the result at every byte, and there is room for its runs and for the result's. Assumes nothing.
+-- What is kept of a target: it gives the result at every byte, and there is room for its runs and for the result's.
 use Prim.Native.Nat.{ℕ, zero, suc, _+_, _-_, _≤_, _<_}
 use native.Mathlib.Omega.{arith}
 use native.Mathlib.Decide.{ℕ-discrete}
@@ -33,14 +33,17 @@ case m t s c = go (ℕ-discrete (m s c) (m s (t s))) (ℕ-discrete (m s 0) (m s 
     go (no p) (no q) = taken p q
 
 module _ (m : Results) (t : Bytes) (s c : ℕ) where
+  -- The cell in hand stays where it gives the result.
   pub next-same : m s c ≡ m s (t s) → next m t s c ≡ c
   unfolding next
   next-same p = rw (eq-eqb (m s c) (m s (t s)) p)
 
+  -- Else 0 is taken where it gives the result.
   pub next-none : (m s c ≡ m s (t s) → ⊥) → m s 0 ≡ m s (t s) → next m t s c ≡ 0
   unfolding next
   next-none p q = rw (ne-eqb (m s c) (m s (t s)) p, eq-eqb (m s 0) (m s (t s)) q)
 
+  -- Else the target's cell is taken.
   pub next-taken : (m s c ≡ m s (t s) → ⊥) → (m s 0 ≡ m s (t s) → ⊥) → next m t s c ≡ t s
   unfolding next
   next-taken p q = rw (ne-eqb (m s c) (m s (t s)) p, ne-eqb (m s 0) (m s (t s)) q)
@@ -56,6 +59,7 @@ module _ (m : Results) (t : Bytes) (s c : ℕ) where
       go (taken p q) = ap (m s) (next-taken p q)
 
 module _ (m : Results) (t : Bytes) where
+  -- No byte needs a cell where 0 gives the result, and every other does.
   pub needs-not : (s : ℕ) → m s 0 ≡ m s (t s) → needs m t s ≡ false
   needs-not s q = rw (eq-eqb (m s 0) (m s (t s)) q)
 
@@ -90,6 +94,7 @@ module _ (m : Results) (t : Bytes) where
 
   -- ---- What is kept gives the result
 
+  -- What is kept gives the result.
   pub kept-gives : (top b : ℕ) → b < top → m b (kept top m t b) ≡ m b (t b)
   kept-gives top b h =
       trimmed-either top (held m t) (needs m t) (λ c. m b c ≡ m b (t b)) b h (ap (m b) (held-next b) ∙ next-gives m t b (hand m t b)) (needs-false b)
@@ -246,7 +251,7 @@ module _ (m : Results) (t : Bytes) where
 
 -- ---- Room
 
--- the third walk
+-- The walk that writes the result has room behind the result's runs: it reads the kept ones.
 pub weave-room : (top : ℕ) (m : Results) (t : Bytes) → Lasting m → Roomy top (starts top 0 0 (result m t)) (kept top m t) (result m t)
 unfolding starts
 weave-room top m t l x zero h o = let e : top ≡ x = omega arith in rw e (omega arith)
@@ -254,7 +259,7 @@ weave-room top m t l x (suc n) h o =
     let e : starts (x + suc n) 0 0 (result m t) ≡ starts top 0 0 (result m t) = ap (λ (k : ℕ). starts k 0 0 (result m t)) h in
     omega (arith, e, few-from m t l top x (suc n) h, starts-at x (suc n) (result m t), starts-other n x (last (result m t) x) (result m t) (o (omega arith)))
 
--- the second walk
+-- The walk that keeps has room behind the target's runs, which it reads.
 pub pack-room : (top : ℕ) (m : Results) (t : Bytes) → Roomy top (starts top 0 0 t) t (held m t)
 unfolding starts
 pack-room top m t x zero h o = let e : top ≡ x = omega arith in rw e (omega (arith, taken-early m t x))

@@ -1,4 +1,4 @@
--- The runs of bytes from x up to a top, and how a walk takes one off. Assumes nothing.
+-- The runs of bytes from x up to a top, and how a walk takes one off.
 use Prim.Native.Nat.{ℕ, _+_, _-_, _≤_, _<_}
 use native.Mathlib.Omega.{arith}
 use native.Mathlib.Decide.{decLt}
@@ -14,6 +14,7 @@ use Rattle.extents_weave_meaning.specs.Walks.{put}
 abbrev pub rest : ℕ → Bytes → ℕ → List Run
 rest top f x = runsFrom (top - x) x f
 
+-- A cell 0 puts no run down, and every other puts one.
 pub put-none : (a e c : ℕ) (rs : List Run) → c ≡ 0 → put a e c rs ≡ rs
 unfolding put
 put-none a e c rs h = rw (eq-eqb c 0 h)

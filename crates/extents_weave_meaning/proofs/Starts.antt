@@ -1,4 +1,4 @@
--- How many bytes start a run. Assumes nothing.
+-- How many bytes start a run.
 use Prim.Native.Nat.{ℕ, zero, suc, _+_, _-_, _≤_}
 use native.Mathlib.Omega.{arith}
 use native.Mathlib.Decide.{ℕ-discrete}

@@ -1,4 +1,4 @@
--- What a walk lists is the runs of its bytes without the ends that are not needed, and trimming leaves as many runs. Assumes nothing.
+-- What a walk lists is the runs of its bytes without the ends that are not needed, and trimming leaves as many runs.
 use Prim.Native.Nat.{ℕ, zero, suc, _+_, _-_, _≤_, _<_}
 use native.Mathlib.Omega.{arith}
 use native.Mathlib.Decide.{decLt, ℕ-discrete}

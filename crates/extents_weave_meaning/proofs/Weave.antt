@@ -1,4 +1,4 @@
--- The second and the third walk as rewrites in place: how they start, what a stretch of both maps tells them, and what they leave. Assumes nothing.
+-- The two walks of a rewrite: what a stretch of both maps tells them, that there is room for them, and what they leave.
 use Prim.Native.Nat.{ℕ, zero, suc, _+_, _-_, _≤_, _<_}
 use native.Mathlib.Omega.{arith}
 use mathlib.Core.Path.{_≡_, refl, sym, ap, _∙_}
@@ -35,6 +35,7 @@ module _ (m : Results) (t : Bytes) (x k : ℕ) (flat : (b : ℕ) → x ≤ b →
       let g : m b d ≡ m b (t b) = even b (omega arith) (omega arith) d ∙ next-gives m t x (hand m t x) ∙ sym (result-flat b (omega arith) (omega arith)) in
       held-next m t b ∙ ap (next m t b) i ∙ next-same m t b d g
 
+  -- On the whole stretch the cell in hand is that of its first byte.
   pub held-flat : (b : ℕ) → x ≤ b → b < x + suc k → held m t b ≡ next m t x (hand m t x)
   held-flat b l h = let e : b ≡ x + (b - x) = omega arith in ap (held m t) e ∙ held-along (b - x) (omega arith)
 

@@ -8,31 +8,32 @@ use Rattle.extents_meaning.specs.Cells.{Bytes}
 use Rattle.extents_meaning.specs.Points.{starts}
 use Rattle.extents_weave_meaning.specs.Walks.{last, trimmed}
 
--- the results of all bytes, for each cell the target may have there
+-- The result at each byte, for each cell that the target may have there.
 abbrev pub Results : Type 0
 Results = ℕ → ℕ → ℕ
 
+-- The result at each byte of the target t.
 abbrev pub result : Results → Bytes → Bytes
 result m t b = m b (t b)
 
--- the cell in hand behind byte b, from the one before it: the first of the cell in hand, 0 and the target's cell that gives the result
+-- The cell in hand behind byte b, from the cell c in hand before it: the first of the cell in hand, 0 and the target's cell that gives the result
 unfoldable pub next : Results → Bytes → ℕ → ℕ → ℕ
 next m t b c = cond (eqb (m b c) (m b (t b))) c (cond (eqb (m b 0) (m b (t b))) 0 (t b))
 
--- before byte b
+-- The cell in hand before byte b, 0 at first.
 unfoldable pub hand : Results → Bytes → ℕ → ℕ
 hand m t zero = 0
 hand m t (suc b) = next m t b (hand m t b)
 
--- at byte b
+-- The cell in hand at byte b, behind its turn.
 abbrev pub held : Results → Bytes → Bytes
 held m t b = hand m t (suc b)
 
--- a byte needs it where 0 does not give the result
+-- A byte needs the cell in hand where 0 does not give the result.
 abbrev pub needs : Results → Bytes → ℕ → Bool
 needs m t b = not (eqb (m b 0) (m b (t b)))
 
--- what is kept of the bytes below a top
+-- What is kept of the target's bytes below a top.
 abbrev pub kept : ℕ → Results → Bytes → Bytes
 kept top m t = trimmed top (held m t) (needs m t)
 
