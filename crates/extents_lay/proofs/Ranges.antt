@@ -1,94 +1,128 @@
 -- A range laid into a lawful map: the map that its parts make with the runs before and behind them.
-use Prim.Native.Nat.{ℕ, _+_, _*_, _-_, _≤_, _<_}
+use Prim.Native.Nat.{ℕ, _+_, _*_, _-_, _≤_, _<_, min}
 use native.Mathlib.Omega.{arith}
 use mathlib.Core.Path.{_≡_, refl, sym, ap, _∙_}
 use mathlib.Core.Bool.{true, false}
 use mathlib.Core.List.{List, _++_, append-assoc}
-use lib.ListN.{length, take, drop, length-append, length-drop}
-use lib.Seq.{length-take-le}
+use lib.ListN.{length, take, drop, replicate, length-append, length-drop, take-append-drop}
+use lib.Seq.{length-take-le, take-append-le, take-take, take-at, drop-at}
 use lib.Dec.{leb}
 use borrow.Author.Tests.{le-leb, lt-leb}
 use Rattle.extents_meaning.specs.Cells.{Bytes, overwrite}
 use Rattle.extents_meaning.specs.Runs.{Run, runsOf}
 use Rattle.extents_meaning.specs.Maps.{fours, mapOf, mapFor, spaceIn, runs, bytesOf, lawful}
-use Rattle.extents_meaning.proofs.Trips.{length-fours, fours-append, map-append}
-use Rattle.extents_map.specs.Cursors.{putRuns}
+use Rattle.extents_meaning.proofs.Trips.{lawful-map, length-fours, map-append, rest-at}
+use Rattle.extents_map.specs.Cursors.{partOf}
 use Rattle.extents_map.specs.declared.locate.Side.{Side}
-use Rattle.extents_map.specs.Beside.{sideOf, partsOf, Met, Behind, Front, Back}
+use Rattle.extents_map.specs.Beside.{sideOf, Front, Back}
 use Rattle.extents_map.proofs.Parted.{laid-runs}
-use Rattle.extents_lay.proofs.Moves.{front-runs}
+use Rattle.extents_lay.proofs.Moves.{part-size, Put}
 
--- runs put between the first runs of a map and others that were moved
-put-between : (xs : List ℕ) → lawful xs ≡ true → (first : ℕ) → first ≤ length (runs xs) → (ps qs : List Run) (ys : List ℕ) →
-    take (4 * first) ys ≡ take (4 * first) xs → drop (4 * (first + length ps)) ys ≡ mapOf (spaceIn xs - (first + length ps)) qs →
-    putRuns ys first ps ≡ mapOf (spaceIn xs) (take first (runs xs) ++ (ps ++ qs))
-put-between xs e first h ps qs ys a b =
-    let ls = take first (runs xs) in
-    let n : 4 * first + length (fours ps) ≡ 4 * (first + length ps) = omega (arith, length-fours ps) in
-    let k : first + length ps ≡ length (ls ++ ps) = omega (arith, length-append ls ps, length-take-le first (runs xs) h) in
-    (λ t. (a t ++ fours ps) ++ drop (n t) ys)
-    ∙ (λ t. (front-runs xs e refl first h t ++ fours ps) ++ b t)
-    ∙ (λ t. sym (fours-append ls ps) t ++ mapOf (spaceIn xs - k t) qs)
-    ∙ sym (map-append (spaceIn xs) (ls ++ ps) qs)
-    ∙ ap (mapOf (spaceIn xs)) (append-assoc ls ps qs)
+module _ (xs : List ℕ) (e : lawful xs ≡ true) where
+  -- the space of the map, and its runs
+  abbrev space : ℕ
+  space = spaceIn xs
 
--- what is known once the parts of a range are counted
-pub record Ready (xs : List ℕ) (start end cell all first behind : ℕ) (left : Side) (middle : ℕ) (right : Side) (parts : ℕ) : Type 0 where
-  pub lawful-map : lawful xs ≡ true
-  pub wide : start < end
-  pub size : all ≡ length (runs xs)
-  pub met : Met (runs xs) start cell first
-  pub passed : Behind (runs xs) first end cell behind
-  pub front : Front (runs xs) start cell (take first (runs xs) ++ sideOf left) (left .bound)
-  pub back : Back (runs xs) end cell (sideOf right ++ drop behind (runs xs)) (right .bound)
-  pub clear : cell ≡ 0 → middle ≡ 0
-  pub fill : 1 ≤ cell → middle ≡ right .bound - left .bound
-  pub count : parts ≡ length (partsOf left middle cell right)
+  abbrev rs : List Run
+  rs = runs xs
 
-module _ {xs : List ℕ} {start end cell all first behind : ℕ} {left : Side} {middle : ℕ} {right : Side} {parts : ℕ}
-    (k : Ready xs start end cell all first behind left middle right parts) where
-  -- what every byte is to hold
-  abbrev goal : Bytes
-  goal = overwrite start (end - start) cell (bytesOf xs)
+  -- the map of the runs from run i on stands at the place of run i
+  back-runs : (i : ℕ) → i ≤ length rs → drop (4 * i) xs ≡ mapOf (space - i) (drop i rs)
+  back-runs i h = rest-at xs e (take i rs) (drop i rs) i (sym (take-append-drop i rs)) (length-take-le i rs h)
 
-  -- The runs of what every byte is to hold: those before the range, its parts, and those behind it.
-  new-runs : take first (runs xs) ++ (partsOf left middle cell right ++ drop behind (runs xs)) ≡ runsOf goal
-  new-runs = simp append-assoc (simp append-assoc at (laid-runs (runs xs) start end cell (k .wide) (k .front) (k .back) (k .clear) (k .fill)))
+  -- Behind the last run stands 0.
+  pub zeros-behind : {all : ℕ} → all ≡ length rs → drop (all * 4) xs ≡ replicate (length xs - all * 4) 0
+  unfolding mapOf
+  zeros-behind {all} n =
+      let m = lawful-map xs e in
+      let q : length (fours rs) ≡ all * 4 = omega (arith, length-fours rs) in
+      let z : 4 * (space - length rs) ≡ length xs - all * 4 = omega arith in
+      ap (drop (all * 4)) (m .whole) ∙ drop-at (fours rs) (replicate (4 * (space - length rs)) 0) (all * 4) q ∙ (λ t. replicate (z t) 0)
 
-  -- how many they are
-  new-count : length (runsOf goal) ≡ all - (behind - first) + parts
-  new-count =
-      let ps = partsOf left middle cell right in
-      let qs = drop behind (runs xs) in
-      omega (
-        arith,
-        ap length new-runs,
-        length-append (take first (runs xs)) (ps ++ qs),
-        length-append ps qs,
-        length-take-le first (runs xs) (k .met .most),
-        length-drop behind (runs xs),
-        k .passed .low,
-        k .passed .most,
-        k .size,
-        k .count,
-      )
+  -- the first i runs stand in front
+  front-runs : (i : ℕ) → i ≤ length rs → take (4 * i) xs ≡ fours (take i rs)
+  front-runs i h =
+      let ps = take i rs in
+      let q : length (fours ps) ≡ 4 * i = omega (arith, length-fours ps, length-take-le i rs h) in
+      ap (take (4 * i)) (lawful-map xs e .whole ∙ ap (mapOf space) (sym (take-append-drop i rs)) ∙ map-append space ps (drop i rs))
+      ∙ take-at (fours ps) (mapOf (space - length ps) (drop i rs)) (4 * i) q
 
-  -- The runs do not fit: the answer is false.
-  pub not-laid : spaceIn xs < all - (behind - first) + parts → false ≡ leb (length (runsOf goal)) (spaceIn xs)
-  not-laid h = sym (lt-leb (length (runsOf goal)) (spaceIn xs) (omega (arith, new-count)))
+  module _ {all from : ℕ} (to : ℕ) (n : all ≡ length rs) (h : from ≤ all) (fit : to + (all - from) ≤ space) {ys : List ℕ}
+      (q : ys ≡ take (to * 4) xs ++ (take (all * 4 - from * 4) (drop (from * 4) xs) ++ replicate (length xs - to * 4 - (all * 4 - from * 4)) 0)) where
+    -- the runs before a place are kept where the later runs were moved
+    moved-front : (p : ℕ) → p ≤ from → p ≤ to → take (4 * p) ys ≡ fours (take p rs)
+    moved-front p u v =
+        let m = lawful-map xs e in
+        let l : length (take (to * 4) xs) ≡ to * 4 = length-take-le (to * 4) xs (omega arith) in
+        ap (take (4 * p)) q ∙ take-append-le (4 * p) (take (to * 4) xs) _ (omega arith) ∙ take-take (4 * p) (to * 4) xs (omega arith)
+        ∙ front-runs p (omega arith)
 
-  -- The runs fit, and the slice holds their map.
-  pub all-laid : (ys : List ℕ) {zs : List ℕ} → all - (behind - first) + parts ≤ spaceIn xs →
-      ((p : ℕ) → p ≤ behind → p ≤ first + parts → take (4 * p) ys ≡ take (4 * p) xs) →
-      drop (4 * (first + parts)) ys ≡ mapOf (spaceIn xs - (first + parts)) (drop behind (runs xs)) →
-      zs ≡ putRuns ys first (partsOf left middle cell right) →
-      (true ≡ leb (length (runsOf goal)) (spaceIn xs)) × (zs ≡ mapFor (spaceIn xs) goal)
-  all-laid ys h a b q =
-      let ps = partsOf left middle cell right in
-      let qs = drop behind (runs xs) in
-      let t : drop (4 * (first + length ps)) ys ≡ mapOf (spaceIn xs - (first + length ps)) qs = rw (k .count) at b in (
-        sym (le-leb (length (runsOf goal)) (spaceIn xs) (omega (arith, new-count))),
-        q
-            ∙ put-between xs (k .lawful-map) first (k .met .most) ps qs ys (a first (k .passed .low) (omega arith)) t
-            ∙ ap (mapOf (spaceIn xs)) new-runs,
-      )
+    -- Behind them stands the map of the runs that were moved.
+    moved-back : drop (4 * to) ys ≡ mapOf (space - to) (drop from rs)
+    unfolding mapOf
+    moved-back =
+        let m = lawful-map xs e in
+        let l : length (take (to * 4) xs) ≡ 4 * to = length-take-le (to * 4) xs (omega arith) ∙ omega arith in
+        let later = drop from rs in
+        let zs : List ℕ = replicate (4 * (space - from - length later)) 0 in
+        let f : from * 4 ≡ 4 * from = omega arith in
+        let o : from + length later ≡ all = omega (arith, length-drop from rs) in
+        let k : length (fours later) ≡ all * 4 - from * 4 = omega (arith, length-fours later) in
+        let z : length xs - to * 4 - (all * 4 - from * 4) ≡ 4 * (space - to - length later) = omega arith in
+        ap (drop (4 * to)) q ∙ drop-at (take (to * 4) xs) _ (4 * to) l
+        ∙ (λ t. take (all * 4 - from * 4) (((λ v. drop (f v) xs) ∙ back-runs from (omega arith)) t) ++ replicate (z t) 0)
+        ∙ (λ t. take-at (fours later) zs (all * 4 - from * 4) k t ++ replicate (4 * (space - to - length later)) 0)
+
+  module _ {start end cell : ℕ} (first behind : ℕ) (left right : Side) {middle : ℕ} (wide : start < end)
+      (front : Front rs start cell (take first rs ++ sideOf left) (left .bound)) (back : Back rs end cell (sideOf right ++ drop behind rs) (right .bound))
+      (clear : cell ≡ 0 → middle ≡ 0) (fill : 1 ≤ cell → middle ≡ right .bound - left .bound) {all to : ℕ} (n : all ≡ length rs)
+      (f : first ≤ behind) (b : behind ≤ length rs) (count : to ≡ first + (min (left .length) 1 + min middle 1 + min (right .length) 1)) where
+    -- what every byte is to hold
+    abbrev goal : Bytes
+    goal = overwrite start (end - start) cell (bytesOf xs)
+
+    -- the runs up to the end of the range's parts
+    abbrev new : List Run
+    new = ((take first rs ++ sideOf left) ++ partOf (left .bound) middle cell) ++ sideOf right
+
+    -- They and the runs behind are the runs of what every byte is to hold.
+    new-runs : new ++ drop behind rs ≡ runsOf goal
+    new-runs = simp append-assoc (simp append-assoc at (laid-runs rs start end cell wide front back clear fill))
+
+    -- how many they are
+    new-count : length new ≡ to
+    new-count =
+        simp length-append
+        (omega (
+          arith,
+          length-take-le first rs (omega arith),
+          part-size (left .start) (left .length) (left .cell),
+          part-size (left .bound) middle cell,
+          part-size (right .start) (right .length) (right .cell),
+        ))
+
+    -- how many runs there are to be
+    goal-count : length (runsOf goal) ≡ to + (all - behind)
+    goal-count = omega (arith, ap length new-runs, length-append new (drop behind rs), new-count, length-drop behind rs)
+
+    -- The runs do not fit: the answer is false.
+    pub not-laid : space < to + (all - behind) → false ≡ leb (length (runsOf goal)) space
+    not-laid h = sym (lt-leb (length (runsOf goal)) space (omega (arith, goal-count)))
+
+    -- The runs fit, and the slice holds their map.
+    pub all-laid : to + (all - behind) ≤ space → (ys us vs zs : List ℕ) {second third fourth : ℕ} →
+        ys ≡ take (to * 4) xs ++ (take (all * 4 - behind * 4) (drop (behind * 4) xs) ++ replicate (length xs - to * 4 - (all * 4 - behind * 4)) 0) →
+        Put ys first (left .start) (left .length) (left .cell) second us → Put us second (left .bound) middle cell third vs →
+        Put vs third (right .start) (right .length) (right .cell) fourth zs → (true ≡ leb (length (runsOf goal)) space) × (zs ≡ mapFor space goal)
+    all-laid h ys us vs zs {second} {third} {fourth} q x y w =
+        let later = drop behind rs in
+        let o : behind ≤ all = omega arith in
+        let e : to ≡ fourth = omega (arith, x .0, y .0, w .0) in
+        let before : take (4 * to) zs ≡ fours new =
+        (λ t. take (4 * e t) zs) ∙ w .1 .0 _ (y .1 .0 _ (x .1 .0 _ (moved-front to n o h q first f (omega arith)))) in
+        let behind : drop (4 * to) zs ≡ mapOf (space - to) later =
+        w .1 .1 to (omega arith) ∙ y .1 .1 to (omega (arith, w .0)) ∙ x .1 .1 to (omega (arith, y .0, w .0)) ∙ moved-back to n o h q in (
+          sym (le-leb (length (runsOf goal)) space (omega (arith, goal-count))),
+          sym (take-append-drop (4 * to) zs) ∙ (λ t. before t ++ behind t) ∙ (λ t. fours new ++ mapOf (space - sym new-count t) later)
+              ∙ sym (map-append space new later) ∙ ap (mapOf space) new-runs,
+        )

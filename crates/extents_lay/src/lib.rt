@@ -1,17 +1,17 @@
 // Giving a range of a map a cell, in place.
-ghost use Prim.Native.Nat.{ℕ, _+_, _*_, _-_, _≤_, _<_};
+ghost use Prim.Native.Nat.{ℕ, _+_, _*_, _-_, _/_, _%_, _≤_, _<_, min};
 ghost use mathlib.Core.Path.{_≡_};
 ghost use mathlib.Core.Bool.{true, cond};
 ghost use mathlib.Core.Logic.{_⊎_};
-ghost use mathlib.Core.List.{_++_};
-ghost use lib.ListN.{length, length as sizeOf, take, drop, replicate};
+ghost use mathlib.Core.List.{List, _++_};
+ghost use lib.ListN.{length, length as sizeOf, take, drop, set, replicate};
 ghost use lib.Seq.{slice};
 ghost use lib.Dec.{leb};
 ghost use Rattle.extents_meaning.specs.Cells.{numberIn, overwrite};
-ghost use Rattle.extents_meaning.specs.Runs.{cellAt, runsOf};
-ghost use Rattle.extents_meaning.specs.Maps.{mapOf, mapFor, spaceIn, runs, bytesOf, lawful};
-ghost use Rattle.extents_map.specs.Cursors.{partOf, putRuns};
-ghost use Rattle.extents_map.specs.Beside.{endOf, runBefore, sideOf, partsOf, Met, Behind, Front, Back};
+ghost use Rattle.extents_meaning.specs.Runs.{Run, runsOf};
+ghost use Rattle.extents_meaning.specs.Maps.{fours, mapFor, spaceIn, runs, bytesOf, lawful};
+ghost use Rattle.extents_map.specs.Cursors.{partOf};
+ghost use Rattle.extents_map.specs.Beside.{endOf, runBefore, sideOf, Met, Behind, Front, Back};
 ghost use Rattle.rows.specs.Limits.{ROWS};
 use extents_map::locate;
 use extents_map::locate::Side;
@@ -26,15 +26,17 @@ pub fn lay(map: &mut [u32], start: u32, end: u32, cell: u32) -> bool
     let all = locate::runs_in(map);
     let first = first_met(map, all, start, cell);
     let behind = first_behind(map, all, first, end, cell);
-    let left = left_side(map, first, behind, start, cell);
+    let left = left_side(map, all, first, start, cell);
     let right = right_side(map, first, behind, end, cell);
     let middle = middle_length(left.bound, right.bound, cell);
-    let parts = count_parts(left, middle, right);
-    if map.len() / 4 < all - (behind - first) + parts {
+    let to = first + count_parts(left, middle, right);
+    if map.len() / 4 < to + (all - behind) {
         return false;
     }
-    move_runs(map, behind, all, first + parts);
-    put_parts(map, first, left, middle, cell, right);
+    move_to(map, behind * 4, all * 4, to * 4);
+    let second = put_part(map, first, left.start, left.length, left.cell);
+    let third = put_part(map, second, left.bound, middle, cell);
+    put_part(map, third, right.start, right.length, right.cell);
     true
 }
 
@@ -74,12 +76,11 @@ fn first_behind(map: &[u32], all: usize, first: usize, end: u32, cell: u32) -> u
 }
 
 // What stays of the first run met, before the range; a part of the same cell joins the range.
-fn left_side(map: &[u32], first: usize, behind: usize, start: u32, cell: u32) -> Side
-    requires { ⌜ (lawful (now map) ≡ true) × (behind ≤ length (runs (now map))) × Met (runs (now map)) start cell first ⌝ }
-    requires { ⌜ (behind ≤ first → (b : ℕ) → b < start → cellAt (drop first (runs (now map))) b ≡ 0) ⌝ }
+fn left_side(map: &[u32], all: usize, first: usize, start: u32, cell: u32) -> Side
+    requires { ⌜ (lawful (now map) ≡ true) × (all ≡ length (runs (now map))) × Met (runs (now map)) start cell first ⌝ }
     ensures { λ r. ⌜ Front (runs (now (map .entry))) start cell (take first (runs (now (map .entry))) ++ sideOf r) (r .bound) ⌝ }
 {
-    if behind <= first {
+    if first == all {
         return Side {
             start: 0,
             length: 0,
@@ -126,7 +127,8 @@ fn right_side(map: &[u32], first: usize, behind: usize, end: u32, cell: u32) -> 
             bound: end,
         };
     }
-    let to = locate::end_at(map, behind - 1);
+    let last = behind - 1;
+    let to = locate::end_at(map, last);
     if to <= end {
         return Side {
             start: 0,
@@ -135,7 +137,7 @@ fn right_side(map: &[u32], first: usize, behind: usize, end: u32, cell: u32) -> 
             bound: end,
         };
     }
-    let value = locate::cell_at(map, behind - 1);
+    let value = locate::cell_at(map, last);
     if value == cell {
         return Side {
             start: 0,
@@ -166,8 +168,7 @@ fn middle_length(from: u32, to: u32, cell: u32) -> u32
 
 // How many runs a part is: 0 or 1.
 fn some(length: u32) -> usize
-    ensures { λ r. ⌜ ((s : ℕ) → (c : ℕ) → r ≡ sizeOf (partOf s length c)) ⌝ }
-    ensures { λ r. ⌜ r ≤ 1 ⌝ }
+    ensures { λ r. ⌜ r ≡ min length 1 ⌝ }
 {
     if length == 0 {
         return 0;
@@ -177,36 +178,31 @@ fn some(length: u32) -> usize
 
 // How many runs the parts of a range are: what stays before it, the range, and what stays behind it.
 fn count_parts(left: Side, middle: u32, right: Side) -> usize
-    ensures { λ r. ⌜ ((c : ℕ) → r ≡ sizeOf (partsOf left middle c right)) ⌝ }
-    ensures { λ r. ⌜ r ≤ 3 ⌝ }
+    ensures { λ r. ⌜ r ≡ min (left .length) 1 + min middle 1 + min (right .length) 1 ⌝ }
 {
     some(left.length) + some(middle) + some(right.length)
 }
 
-// Puts the parts of a range at the place of run i.
-fn put_parts(map: &mut [u32], i: usize, left: Side, middle: u32, cell: u32, right: Side)
-    requires { ⌜ 4 * (i + sizeOf (partsOf left middle cell right)) ≤ sizeOf (now map) ⌝ }
-    ensures { λ _. ⌜ now (map .exit) ≡ putRuns (now (map .entry)) i (partsOf left middle cell right) ⌝ }
-{
-    let second = put_part(map, i, left.start, left.length, left.cell);
-    let third = put_part(map, second, left.bound, middle, cell);
-    put_part(map, third, right.start, right.length, right.cell);
-}
-
-// Moves the runs from `from` to `all` to the place `to`, and puts 0 behind them as far as runs stood.
-fn move_runs(map: &mut [u32], from: usize, all: usize, to: usize)
-    requires { ⌜ (lawful (now map) ≡ true) × (all ≡ length (runs (now map))) × (from ≤ all) × (to + (all - from) ≤ spaceIn (now map)) ⌝ }
-    ensures { λ _. ⌜ ((p : ℕ) → p ≤ from → p ≤ to → take (4 * p) (now (map .exit)) ≡ take (4 * p) (now (map .entry))) ⌝ }
-    ensures { λ _. ⌜ drop (4 * to) (now (map .exit)) ≡ mapOf (spaceIn (now (map .entry)) - to) (drop from (runs (now (map .entry)))) ⌝ }
+// Moves the numbers from `from` to `end` to the place `to`, and puts 0 behind them as far as numbers stood. Behind `end` all is 0.
+fn move_to(map: &mut [u32], from: usize, end: usize, to: usize)
+    requires { ⌜ (from ≤ end) × (end ≤ length (now map)) × (to + (end - from) ≤ length (now map)) ⌝ }
+    requires { ⌜ drop end (now map) ≡ replicate (length (now map) - end) 0 ⌝ }
+    ensures { λ _. ⌜ now (map .exit) ≡ take to (now (map .entry))
+        ++ (take (end - from) (drop from (now (map .entry))) ++ replicate (length (now (map .entry)) - to - (end - from)) 0) ⌝ }
 {
     if from == to {
         return;
     }
     if from < to {
-        move_up(map, from * 4, all * 4, (to - from) * 4);
-    } else {
-        move_down(map, to * 4, all * 4, (from - to) * 4);
+        move_up(map, from, end, to - from);
+        return;
     }
+    let mut i = 0;
+    while from + i < end {
+        map[to + i] = map[from + i];
+        i += 1;
+    }
+    clear_between(map, to + i, end);
 }
 
 // Moves the numbers from `from` to `end` up by some places.
@@ -222,20 +218,6 @@ pub fn move_up(map: &mut [u32], from: usize, end: usize, by: usize)
     }
 }
 
-// Moves the numbers up to `end` down by some places, to the place `to`, and puts 0 behind them up to `end`.
-fn move_down(map: &mut [u32], to: usize, end: usize, by: usize)
-    requires { ⌜ (to + by ≤ end) × (end ≤ length (now map)) ⌝ }
-    ensures { λ _. ⌜ now (map .exit) ≡ take to (now (map .entry))
-        ++ (slice (to + by) end (now (map .entry)) ++ (replicate by 0 ++ drop end (now (map .entry)))) ⌝ }
-{
-    let mut i = to;
-    while i + by < end {
-        map[i] = map[i + by];
-        i += 1;
-    }
-    clear_between(map, i, end);
-}
-
 // Puts 0 from a place up to another.
 pub fn clear_between(map: &mut [u32], from: usize, to: usize)
     requires { ⌜ (from ≤ to) × (to ≤ length (now map)) ⌝ }
@@ -244,19 +226,28 @@ pub fn clear_between(map: &mut [u32], from: usize, to: usize)
     rows::clear(&mut map[from..to]);
 }
 
-// Puts a run at a place, if the run has a length, and answers the place behind.
+// Puts a run behind the first i runs, if the run has a length, and answers the place behind.
 fn put_part(map: &mut [u32], i: usize, start: u32, length: u32, cell: u32) -> usize
-    requires { ⌜ 4 * (i + sizeOf (partOf start length cell)) ≤ sizeOf (now map) ⌝ }
-    ensures { λ r. ⌜ r ≡ i + sizeOf (partOf start length cell) ⌝ }
-    ensures { λ r. ⌜ now (map .exit) ≡ putRuns (now (map .entry)) i (partOf start length cell) ⌝ }
+    requires { ⌜ 4 * (i + min length 1) ≤ sizeOf (now map) ⌝ }
+    ensures { λ r. ⌜ r ≡ i + min length 1 ⌝ }
+    ensures { λ r. ⌜ ((ps : List Run) → take (4 * i) (now (map .entry)) ≡ fours ps → take (4 * r) (now (map .exit)) ≡ fours (ps ++ partOf start length cell))
+        × ((k : ℕ) → r ≤ k → drop (4 * k) (now (map .exit)) ≡ drop (4 * k) (now (map .entry))) ⌝ }
 {
     if length == 0 {
         return i;
     }
-    let at = i * 4;
+    put_run(map, i * 4, start, length, cell);
+    i + 1
+}
+
+// Stores the four numbers of a run from a place on.
+fn put_run(map: &mut [u32], at: usize, start: u32, length: u32, cell: u32)
+    requires { ⌜ (at < sizeOf (now map)) × (at + 1 < sizeOf (now map)) × (at + 2 < sizeOf (now map)) × (at + 3 < sizeOf (now map)) ⌝ }
+    ensures { λ _. ⌜ now (map .exit)
+        ≡ set (set (set (set (now (map .entry)) at start) (at + 1) length) (at + 2) (cell / 2)) (at + 3) (cell % 2) ⌝ }
+{
     map[at] = start;
     map[at + 1] = length;
     map[at + 2] = cell / 2;
     map[at + 3] = cell % 2;
-    i + 1
 }

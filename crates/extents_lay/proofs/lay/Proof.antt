@@ -3,122 +3,106 @@ use borrow.Author.Needs.{needs}
 use native.Mathlib.Omega.{arith}
 use mathlib.Core.Path.{refl, _∙_}
 use denote.Ref.{now}
-use Rattle.extents_meaning.proofs.Trips.{Map, lawful-map}
-use Rattle.extents_map.proofs.Parted.{free-behind}
-use Rattle.extents_lay.proofs.Ranges.{Ready, not-laid, all-laid}
+use Rattle.extents_meaning.proofs.Trips.{lawful-map}
+use Rattle.extents_lay.proofs.Ranges.{zeros-behind, not-laid, all-laid}
 use Rattle.extents_lay.proofs.lay.Statement.{statement}
 use Rattle.extents_lay.proofs.lay.Tie as tie
 
--- the slice is a lawful map
-of : (c : tie.Start) → Map (now (c .args .map))
-of c = lawful-map (now (c .args .map)) (c .pre .0 .0)
-
--- what is known once the parts are counted
-ready : (c : tie.After-count-parts) →
-    let a = c .before .before .before .before .before .before .before .before .before .before .before .before .before .args in
-    let all = c .before .before .before .before .before .before .before .before .before .before .runs-in .result in
-    let first = c .before .before .before .before .before .before .before .before .first-met .result in
-    let behind = c .before .before .before .before .before .before .first-behind .result in
-    let left = c .before .before .before .before .left-side .result in
-    let right = c .before .before .right-side .result in
-    Ready (now (a .map)) (a .start) (a .end) (a .cell) all first behind left (c .before .middle-length .result) right (c .count-parts .result)
-ready c =
-    let s = c .before .before .before .before .before .before .before .before .before .before .before .before .before in
-    record {
-      lawful-map = s .pre .0 .0;
-      wide = s .pre .0 .1;
-      size = c .before .before .before .before .before .before .before .before .before .before .runs-in .ensures;
-      met = c .before .before .before .before .before .before .before .before .first-met .ensures;
-      passed = c .before .before .before .before .before .before .first-behind .ensures;
-      front = c .before .before .before .before .left-side .ensures;
-      back = c .before .before .right-side .ensures;
-      clear = c .before .middle-length .ensures .0;
-      fill = c .before .middle-length .ensures .1;
-      count = c .count-parts .ensures .0 (s .args .cell);
-    }
-
 runs-in-requires : tie.Need-runs-in-requires
-runs-in-requires c κs = c .before .before .pre .0 .0
+runs-in-requires c κs = search needs
 
 first-met-requires : tie.Need-first-met-requires
-first-met-requires c κs = (c .before .before .before .before .pre .0 .0, c .before .runs-in .ensures)
+first-met-requires c κs = search needs
 
 first-behind-requires : tie.Need-first-behind-requires
-first-behind-requires c κs =
-    let e = c .before .before .before .runs-in .ensures in
-    let f = c .before .first-met .ensures in
-    (c .before .before .before .before .before .before .pre .0 .0, e, omega (arith, f .most))
+first-behind-requires c κs = search needs
 
 left-side-requires : tie.Need-left-side-requires
-left-side-requires c κs =
-    let s = c .before .before .before .before .before .before .before .before in
-    let b = c .before .first-behind .ensures in
-    ((s .pre .0 .0, b .most, c .before .before .before .first-met .ensures), λ h i l. free-behind b h i (omega (arith, s .pre .0 .1)))
+left-side-requires c κs = search needs
 
 right-side-requires : tie.Need-right-side-requires
-right-side-requires c κs =
-    let s = c .before .before .before .before .before .before .before .before .before .before in
-    let f = c .before .before .before .before .before .first-met .ensures in
-    (s .pre .0 .0, c .before .before .before .first-behind .ensures, omega (arith, f .passed, s .pre .0 .1))
+right-side-requires c κs = search needs
 
 middle-length-requires : tie.Need-middle-length-requires
-middle-length-requires c κs =
-    let s = c .before .before .before .before .before .before .before .before .before .before .before in
-    omega (arith, c .before .before .left-side .ensures .near, c .right-side .ensures .far, s .pre .0 .1)
+middle-length-requires c κs = search needs
 
 count-parts-requires : tie.Need-count-parts-requires
 count-parts-requires c κs = search needs
 
-sub-if1 : tie.Need-sub-if1
-sub-if1 c = omega (arith, ready c .passed .low)
+add-to : tie.Need-add-to
+add-to c = let m = lawful-map _ (c .before .before .before .before .before .before .before .before .before .before .before .before .before .pre .0 .0) in omega arith
 
-sub-if1-2 : tie.Need-sub-if1-2
-sub-if1-2 c = let k = ready c in omega (arith, k .passed .most, k .size)
+sub-if1 : tie.Need-sub-if1
+sub-if1 c = search needs
 
 add-if1 : tie.Need-add-if1
-add-if1 c =
-    let s = c .before .before .before .before .before .before .before .before .before .before .before .before .before in
-    let m = of s in
-    omega (arith, ready c .size, c .count-parts .ensures .1, s .good .0 .0)
+add-if1 c = let m = lawful-map _ (c .before .before .before .before .before .before .before .before .before .before .before .before .before .pre .0 .0) in omega arith
 
 same-length : tie.Need-same-length
 same-length c = refl
 
 returns : tie.Need-returns
-returns c = (not-laid (ready (c .before)) (c .if1 .taken), refl)
+returns c =
+    let k = c .before in
+    let r = k .before .before .right-side in
+    let l = k .before .before .before .before .left-side in
+    let b = k .before .before .before .before .before .before .first-behind in
+    let f = k .before .before .before .before .before .before .before .before .first-met in
+    let s = k .before .before .before .before .before .before .before .before .before .before .before .before .before in (
+      not-laid (now (s .args .map)) (s .pre .0 .0) (f .result) (b .result) (l .result) (r .result) (s .pre .0 .1) (l .ensures) (r .ensures)
+          (k .before .middle-length .ensures .0) (k .before .middle-length .ensures .1) (c .before .before .before .before .before .before .before .before .before .before .before .runs-in .ensures) (b .ensures .low) (b .ensures .most)
+          (omega (arith, k .count-parts .ensures)) (c .if1 .taken),
+      refl,
+    )
 
-add-move-runs : tie.Need-add-move-runs
-add-move-runs c =
+mul-move-to : tie.Need-mul-move-to
+mul-move-to c =
     let s = c .before .before .before .before .before .before .before .before .before .before .before .before .before .before .before in
-    let m = of s in
-    omega (arith, ready (c .before .before) .met .most, c .before .before .count-parts .ensures .1, s .good .0 .0)
+    let m = lawful-map _ (s .pre .0 .0) in
+    omega (arith, s .good .0 .0, c .before .before .before .before .before .before .before .before .before .before .before .before .runs-in .ensures, c .before .before .before .before .before .before .before .before .first-behind .ensures .most, c .before .if1 .left)
 
-move-runs-requires : tie.Need-move-runs-requires
-move-runs-requires c κs =
+mul-move-to-2 : tie.Need-mul-move-to-2
+mul-move-to-2 c =
     let s = c .before .before .before .before .before .before .before .before .before .before .before .before .before .before .before in
-    let k = ready (c .before .before) in
-    let b = k .passed in
-    (s .pre .0 .0, k .size, omega (arith, b .most, k .size), omega (arith, b .low, b .most, k .size, c .before .if1 .left))
+    let m = lawful-map _ (s .pre .0 .0) in
+    omega (arith, s .good .0 .0, c .before .before .before .before .before .before .before .before .before .before .before .before .runs-in .ensures, c .before .before .before .before .before .before .before .before .first-behind .ensures .most, c .before .if1 .left)
 
-put-parts-requires : tie.Need-put-parts-requires
-put-parts-requires c κs =
-    let p = c .before .before .before .before .before .before .before .before .before .before .before .before .before .before in
-    let s = p .before .before .before .before .before in
-    let m = of s in
-    let k = ready (c .before .before .before .before .before .before) in
-    let b = k .passed in
-    let l = c .before .before .before .before .before .if1 .left in
-    omega (arith, b .low, b .most, k .size, k .count, l, c .before .before .before .move-runs .kept .0)
+mul-move-to-3 : tie.Need-mul-move-to-3
+mul-move-to-3 c =
+    let s = c .before .before .before .before .before .before .before .before .before .before .before .before .before .before .before in
+    let m = lawful-map _ (s .pre .0 .0) in
+    omega (arith, s .good .0 .0, c .before .before .before .before .before .before .before .before .before .before .before .before .runs-in .ensures, c .before .before .before .before .before .before .before .before .first-behind .ensures .most, c .before .if1 .left)
+
+move-to-requires : tie.Need-move-to-requires
+move-to-requires c κs =
+    let s = c .before .before .before .before .before .before .before .before .before .before .before .before .before .before .before in
+    let m = lawful-map _ (s .pre .0 .0) in
+    ((omega arith, omega arith, omega arith), zeros-behind (now (s .args .map)) (s .pre .0 .0) (c .before .before .before .before .before .before .before .before .before .before .before .before .runs-in .ensures))
+
+put-part-requires : tie.Need-put-part-requires
+put-part-requires c κs = search needs
+
+put-part-requires-2 : tie.Need-put-part-requires-2
+put-part-requires-2 c κs = search needs
+
+put-part-requires-3 : tie.Need-put-part-requires-3
+put-part-requires-3 c κs = search needs
 
 same-length-2 : tie.Need-same-length-2
-same-length-2 c = c .before .before .put-parts .kept .0 ∙ c .before .before .before .before .before .before .move-runs .kept .0
+same-length-2 c = c .before .before .put-part3 .kept .0 ∙ c .before .before .before .before .before .before .put-part2 .kept .0 ∙ c .before .before .before .before .before .before .before .before .before .before .put-part .kept .0 ∙ c .before .before .before .before .before .before .before .before .before .before .before .before .before .before .move-to .kept .0
 
 returns-2 : tie.Need-returns-2
 returns-2 c =
-    let m = c .before .before .before .before .before .before .move-runs in
-    let k = ready (c .before .before .before .before .before .before .before .before .before) in
-    let l = c .before .before .before .before .before .before .before .before .if1 .left in
-    all-laid k (m .last .0) l (m .ensures .0) (m .ensures .1) (c .before .before .put-parts .ensures)
+    let k = c .before .before .before .before .before .before .before .before .before .before .before .before .before .before .before .before .before in
+    let r = k .before .before .right-side in
+    let l = k .before .before .before .before .left-side in
+    let b = k .before .before .before .before .before .before .first-behind in
+    let f = k .before .before .before .before .before .before .before .before .first-met in
+    let s = k .before .before .before .before .before .before .before .before .before .before .before .before .before in
+    all-laid (now (s .args .map)) (s .pre .0 .0) (f .result) (b .result) (l .result) (r .result) (s .pre .0 .1) (l .ensures) (r .ensures)
+    (k .before .middle-length .ensures .0) (k .before .middle-length .ensures .1) (c .before .before .before .before .before .before .before .before .before .before .before .before .before .before .before .before .before .before .before .before .before .before .before .before .before .before .before .runs-in .ensures) (b .ensures .low) (b .ensures .most)
+    (omega (arith, k .count-parts .ensures)) (c .before .before .before .before .before .before .before .before .before .before .before .before .before .before .before .before .if1 .left) (c .before .before .before .before .before .before .before .before .before .before .before .before .before .before .move-to .last .0) (c .before .before .before .before .before .before .before .before .before .before .put-part .last .0) (c .before .before .before .before .before .before .put-part2 .last .0) _
+    (c .before .before .before .before .before .before .before .before .before .before .before .before .before .before .move-to .ensures) (c .before .before .before .before .before .before .before .before .before .before .put-part .ensures) (c .before .before .before .before .before .before .put-part2 .ensures) (c .before .before .put-part3 .ensures)
 
 pub lay-spec : {M : Type 1} → statement M
 lay-spec =
@@ -131,13 +115,17 @@ lay-spec =
     right-side-requires
     middle-length-requires
     count-parts-requires
+    add-to
     sub-if1
-    sub-if1-2
     add-if1
     same-length
     returns
-    add-move-runs
-    move-runs-requires
-    put-parts-requires
+    mul-move-to
+    mul-move-to-2
+    mul-move-to-3
+    move-to-requires
+    put-part-requires
+    put-part-requires-2
+    put-part-requires-3
     same-length-2
     returns-2)

@@ -1,10 +1,12 @@
 -- `extents_lay::left_side` meets its contract.
 use borrow.Author.Needs.{needs}
+use Prim.Native.Nat.{_≤_}
 use native.Mathlib.Omega.{arith}
-use mathlib.Core.Path.{sym, _∙_}
+use mathlib.Core.Path.{refl, sym, _∙_}
+use lib.ListN.{length, drop-of-length-le}
 use denote.Ref.{now}
 use Rattle.rows.specs.Limits.{OFFSET-MAX}
-use Rattle.extents_meaning.specs.Runs.{Rising}
+use Rattle.extents_meaning.specs.Runs.{cellAt, Rising}
 use Rattle.extents_meaning.specs.Maps.{runs}
 use Rattle.extents_meaning.proofs.Trips.{lawful-map}
 use Rattle.extents_map.proofs.Parted.{left-none, left-clear, left-join, left-rest}
@@ -13,24 +15,27 @@ use Rattle.extents_lay.proofs.left_side.Tie as tie
 
 -- the runs are in order
 order : (c : tie.Start) → Rising OFFSET-MAX 0 0 (runs (now (c .args .map)))
-order c = lawful-map (now (c .args .map)) (c .pre .0 .0) .lawful-runs .in-order
+order c = lawful-map (now (c .args .map)) (c .pre .0) .lawful-runs .in-order
 
 returns : tie.Need-returns
+unfolding cellAt
 returns c =
     let s = c .before .before in
-    left-none (order s) (s .pre .0 .2) (s .pre .1 (c .if1 .taken))
+    let rs = runs (now (s .args .map)) in
+    let o : length rs ≤ s .args .first = omega (arith, s .pre .1, c .if1 .taken) in
+    left-none (order s) (s .pre .2) (rw (drop-of-length-le rs o) (λ b l. refl))
 
 start-at-requires : tie.Need-start-at-requires
-start-at-requires c κs = let s = c .before .before in (s .pre .0 .0, omega (arith, s .pre .0 .1, c .if1 .left))
+start-at-requires c κs = search needs
 
 returns-2 : tie.Need-returns-2
 returns-2 c =
     let s = c .before .before .before .before in
     let f = c .before .before .if1 .left in
-    left-clear (order s) (s .pre .0 .2) (omega (arith, s .pre .0 .1)) (omega (arith, c .before .start-at .ensures, c .if2 .taken))
+    left-clear (order s) (s .pre .2) (omega (arith, s .pre .1, s .pre .2 .most, f)) (omega (arith, c .before .start-at .ensures, c .if2 .taken))
 
 cell-at-requires : tie.Need-cell-at-requires
-cell-at-requires c κs = let s = c .before .before .before .before in (s .pre .0 .0, omega (arith, s .pre .0 .1, c .before .before .if1 .left))
+cell-at-requires c κs = search needs
 
 returns-3 : tie.Need-returns-3
 returns-3 c =
@@ -38,7 +43,7 @@ returns-3 c =
     let f = c .before .before .before .before .if1 .left in
     let e = c .before .before .before .start-at .ensures in
     rw e
-    (left-join (order s) (s .pre .0 .2) (omega (arith, s .pre .0 .1)) (omega (arith, e, c .before .before .if2 .left))
+    (left-join (order s) (s .pre .2) (omega (arith, s .pre .1, s .pre .2 .most, f)) (omega (arith, e, c .before .before .if2 .left))
     (sym (c .before .cell-at .ensures) ∙ c .if3 .taken))
 
 sub-t9 : tie.Need-sub-t9
@@ -51,7 +56,7 @@ returns-4 c =
     let e = c .before .before .before .start-at .ensures in
     let v = c .before .cell-at .ensures in
     rw (e, v)
-    (left-rest (order s) (s .pre .0 .2) (omega (arith, s .pre .0 .1)) (omega (arith, e, c .before .before .if2 .left)) (λ q. c .if3 .left (v ∙ q)))
+    (left-rest (order s) (s .pre .2) (omega (arith, s .pre .1, s .pre .2 .most, f)) (omega (arith, e, c .before .before .if2 .left)) (λ q. c .if3 .left (v ∙ q)))
 
 pub left-side-spec : {M : Type 1} → statement M
 left-side-spec =

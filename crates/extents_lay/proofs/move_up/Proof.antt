@@ -1,8 +1,7 @@
 -- `extents_lay::move_up` meets its contract.
 use borrow.Author.Needs.{needs}
-use native.Mathlib.Omega.{arith}
 use denote.Ref.{now}
-use Rattle.extents_lay.proofs.Moves.{Upward, up-start, up-length, up-next, up-stop}
+use Rattle.extents_lay.proofs.Moves.{Upward, up-start, up-next, up-stop}
 use Rattle.extents_lay.proofs.move_up.Statement.{statement}
 use Rattle.extents_lay.proofs.move_up.Tie as tie
 
@@ -20,19 +19,19 @@ sub-i : tie.Need-sub-i Inv-loop μ-loop
 sub-i c = search needs
 
 mul-map : tie.Need-mul-map Inv-loop μ-loop
-mul-map c = let u = c .before .loop .inv in omega (arith, up-length u, c .loop-test .taken)
+mul-map c = search needs
 
 slice-read-map : tie.Need-slice-read-map Inv-loop μ-loop
-slice-read-map c = let u = c .before .before .loop .inv in omega (arith, up-length u, c .before .loop-test .taken)
+slice-read-map c = search needs
 
 add-map : tie.Need-add-map Inv-loop μ-loop
-add-map c = let u = c .before .before .loop .inv in omega (arith, up-length u, c .before .loop-test .taken)
+add-map c = search needs
 
 mul-map-2 : tie.Need-mul-map-2 Inv-loop μ-loop
-mul-map-2 c = let u = c .before .before .loop .inv in omega (arith, up-length u, c .before .loop-test .taken)
+mul-map-2 c = search needs
 
 slice-write-map : tie.Need-slice-write-map Inv-loop μ-loop
-slice-write-map c = let u = c .before .before .loop .inv in omega (arith, up-length u, c .before .loop-test .taken)
+slice-write-map c = search needs
 
 loop-less : tie.Need-loop-less Inv-loop μ-loop
 loop-less c = search needs
@@ -41,7 +40,7 @@ loop-again : tie.Need-loop-again Inv-loop μ-loop
 loop-again c = up-next (c .before .before .loop .inv) (c .before .loop-test .taken)
 
 same-length : tie.Need-same-length Inv-loop μ-loop
-same-length c = up-length (c .before .loop .inv)
+same-length c = c .before .loop .inv .same
 
 returns : tie.Need-returns Inv-loop μ-loop
 returns c = up-stop (c .before .loop .inv) (c .loop-test .left)

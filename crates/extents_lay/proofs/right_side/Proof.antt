@@ -20,11 +20,11 @@ returns c =
     let s = c .before .before in
     right-none (order s) (s .pre .1) (omega (arith, s .fits .end)) (c .if1 .taken) (s .pre .2)
 
-sub-end-at : tie.Need-sub-end-at
-sub-end-at c = search needs
+sub-last : tie.Need-sub-last
+sub-last c = search needs
 
 end-at-requires : tie.Need-end-at-requires
-end-at-requires c κs = let s = c .before .before in (s .pre .0, omega (arith, s .pre .1 .most, c .if1 .left))
+end-at-requires c κs = search needs
 
 returns-2 : tie.Need-returns-2
 returns-2 c =
@@ -32,11 +32,8 @@ returns-2 c =
     let f = c .before .before .if1 .left in
     right-done (order s) (s .pre .1) (omega (arith, s .fits .end)) f (omega (arith, c .before .end-at .ensures, c .if2 .taken))
 
-sub-cell-at : tie.Need-sub-cell-at
-sub-cell-at c = search needs
-
 cell-at-requires : tie.Need-cell-at-requires
-cell-at-requires c κs = let s = c .before .before .before .before in (s .pre .0, omega (arith, s .pre .1 .most, c .before .before .if1 .left))
+cell-at-requires c κs = search needs
 
 returns-3 : tie.Need-returns-3
 returns-3 c =
@@ -64,10 +61,9 @@ right-side-spec =
     tie.close
     (tie.spec
     returns
-    sub-end-at
+    sub-last
     end-at-requires
     returns-2
-    sub-cell-at
     cell-at-requires
     returns-3
     sub-t10
