@@ -14,7 +14,7 @@ use Rattle.extents_meaning.specs.Maps.{fours, mapOf, mapFor, spaceIn, runs, byt
 use Rattle.extents_meaning.proofs.Trips.{lawful-map, length-fours, map-append, rest-at}
 use Rattle.extents_map.specs.Cursors.{partOf}
 use Rattle.extents_map.specs.declared.locate.Side.{Side}
-use Rattle.extents_map.specs.Beside.{sideOf, Front, Back}
+use Rattle.extents_map.specs.Beside.{sideOf, Behind, Front, Back}
 use Rattle.extents_map.proofs.Parted.{laid-runs}
 use Rattle.extents_lay.proofs.Moves.{part-size, Put}
 
@@ -73,10 +73,11 @@ module _ (xs : List ℕ) (e : lawful xs ≡ true) where
         ∙ (λ t. take (all * 4 - from * 4) (((λ v. drop (f v) xs) ∙ back-runs from (omega arith)) t) ++ replicate (z t) 0)
         ∙ (λ t. take-at (fours later) zs (all * 4 - from * 4) k t ++ replicate (4 * (space - to - length later)) 0)
 
-  module _ {start end cell : ℕ} (first behind : ℕ) (left right : Side) {middle : ℕ} (wide : start < end)
-      (front : Front rs start cell (take first rs ++ sideOf left) (left .bound)) (back : Back rs end cell (sideOf right ++ drop behind rs) (right .bound))
-      (clear : cell ≡ 0 → middle ≡ 0) (fill : 1 ≤ cell → middle ≡ right .bound - left .bound) {all to : ℕ} (n : all ≡ length rs)
-      (f : first ≤ behind) (b : behind ≤ length rs) (count : to ≡ first + (min (left .length) 1 + min middle 1 + min (right .length) 1)) where
+  module _ {start end cell all first behind : ℕ} (left right : Side) {middle parts : ℕ} (wide : start < end) (n : all ≡ length rs)
+      (passed : Behind rs first end cell behind) (front : Front rs start cell (take first rs ++ sideOf left) (left .bound))
+      (back : Back rs end cell (sideOf right ++ drop behind rs) (right .bound))
+      (size : (cell ≡ 0 → middle ≡ 0) × (1 ≤ cell → middle ≡ right .bound - left .bound))
+      (count : parts ≡ min (left .length) 1 + min middle 1 + min (right .length) 1) where
     -- what every byte is to hold
     abbrev goal : Bytes
     goal = overwrite start (end - start) cell (bytesOf xs)
@@ -87,15 +88,19 @@ module _ (xs : List ℕ) (e : lawful xs ≡ true) where
 
     -- They and the runs behind are the runs of what every byte is to hold.
     new-runs : new ++ drop behind rs ≡ runsOf goal
-    new-runs = simp append-assoc (simp append-assoc at (laid-runs rs start end cell wide front back clear fill))
+    new-runs = simp append-assoc (simp append-assoc at (laid-runs rs start end cell wide front back (size .0) (size .1)))
 
-    -- how many they are
+    -- the place behind them
+    abbrev to : ℕ
+    to = first + parts
+
+    -- They end there.
     new-count : length new ≡ to
     new-count =
         simp length-append
         (omega (
           arith,
-          length-take-le first rs (omega arith),
+          length-take-le first rs (omega (arith, passed .low, passed .most)),
           part-size (left .start) (left .length) (left .cell),
           part-size (left .bound) middle cell,
           part-size (right .start) (right .length) (right .cell),
@@ -110,16 +115,16 @@ module _ (xs : List ℕ) (e : lawful xs ≡ true) where
     not-laid h = sym (lt-leb (length (runsOf goal)) space (omega (arith, goal-count)))
 
     -- The runs fit, and the slice holds their map.
-    pub all-laid : to + (all - behind) ≤ space → (ys us vs zs : List ℕ) {second third fourth : ℕ} →
+    pub all-laid : to + (all - behind) ≤ space → {ys zs : List ℕ} (us vs : List ℕ) {second third fourth : ℕ} →
         ys ≡ take (to * 4) xs ++ (take (all * 4 - behind * 4) (drop (behind * 4) xs) ++ replicate (length xs - to * 4 - (all * 4 - behind * 4)) 0) →
         Put ys first (left .start) (left .length) (left .cell) second us → Put us second (left .bound) middle cell third vs →
         Put vs third (right .start) (right .length) (right .cell) fourth zs → (true ≡ leb (length (runsOf goal)) space) × (zs ≡ mapFor space goal)
-    all-laid h ys us vs zs {second} {third} {fourth} q x y w =
+    all-laid h {ys} {zs} us vs {second} {third} {fourth} q x y w =
         let later = drop behind rs in
-        let o : behind ≤ all = omega arith in
-        let e : to ≡ fourth = omega (arith, x .0, y .0, w .0) in
+        let o : behind ≤ all = omega (arith, passed .most) in
+        let e : to ≡ fourth = omega (arith, count, x .0, y .0, w .0) in
         let before : take (4 * to) zs ≡ fours new =
-        (λ t. take (4 * e t) zs) ∙ w .1 .0 _ (y .1 .0 _ (x .1 .0 _ (moved-front to n o h q first f (omega arith)))) in
+        (λ t. take (4 * e t) zs) ∙ w .1 .0 _ (y .1 .0 _ (x .1 .0 _ (moved-front to n o h q first (passed .low) (omega arith)))) in
         let behind : drop (4 * to) zs ≡ mapOf (space - to) later =
         w .1 .1 to (omega arith) ∙ y .1 .1 to (omega (arith, w .0)) ∙ x .1 .1 to (omega (arith, y .0, w .0)) ∙ moved-back to n o h q in (
           sym (le-leb (length (runsOf goal)) space (omega (arith, goal-count))),

@@ -19,7 +19,7 @@ returns : tie.Need-returns Inv-loop μ-loop
 returns c =
     let s = c .before .before in
     let a = s .args in
-    moved-none (now (a .map)) (a .from) (a .end) (a .to) (s .pre) (c .if1 .taken)
+    moved-none _ _ _ _ (s .pre) (c .if1 .taken)
 
 sub-move-up : tie.Need-sub-move-up Inv-loop μ-loop
 sub-move-up c = search needs
@@ -34,13 +34,13 @@ returns-2 : tie.Need-returns-2 Inv-loop μ-loop
 returns-2 c =
     let s = c .before .before .before .before .before .before .before in
     let a = s .args in
-    moved-up (now (a .map)) (a .from) (a .end) (a .to) (s .pre) (a .to - a .from) (omega (arith, c .before .before .before .before .if2 .taken)) (c .before .before .move-up .ensures)
+    moved-up _ _ _ _ (s .pre) (a .to - a .from) (omega (arith, c .before .before .before .before .if2 .taken)) (c .before .before .move-up .ensures)
 
 loop-holds : tie.Need-loop-holds Inv-loop μ-loop
 loop-holds c =
     let s = c .before .before .before in
     let a = s .args in
-    down-start (now (a .map)) (a .from) (a .end) (a .to) (s .pre)
+    down-start _ _ _ _ (s .pre)
 
 add-loop : tie.Need-add-loop Inv-loop μ-loop
 add-loop c = search needs
@@ -73,7 +73,7 @@ loop-again : tie.Need-loop-again Inv-loop μ-loop
 loop-again c =
     let s = c .before .before .before .before .before .before in
     let a = s .args in
-    down-next (now (a .map)) (a .from) (a .end) (a .to) (s .pre) (c .before .before .before .if2 .left) (c .before .before .loop .inv) (c .before .loop-test .taken)
+    down-next _ _ _ _ (s .pre) (c .before .before .before .if2 .left) (c .before .before .loop .inv) (c .before .loop-test .taken)
 
 add-clear-between : tie.Need-add-clear-between Inv-loop μ-loop
 add-clear-between c = search needs
@@ -88,7 +88,7 @@ returns-3 : tie.Need-returns-3 Inv-loop μ-loop
 returns-3 c =
     let s = c .before .before .before .before .before .before .before .before .before in
     let a = s .args in
-    moved-down (now (a .map)) (a .from) (a .end) (a .to) (s .pre) (c .before .before .before .before .before .before .if2 .left) (c .before .before .before .before .before .loop .inv) (c .before .before .before .before .loop-test .left) (c .before .before .clear-between .ensures)
+    moved-down _ _ _ _ (s .pre) (c .before .before .before .before .before .before .if2 .left) (c .before .before .before .before .before .loop .inv) (c .before .before .before .before .loop-test .left) (c .before .before .clear-between .ensures)
 
 pub move-to-spec : {M : Type 1} → statement M
 move-to-spec =

@@ -7,7 +7,7 @@ use Rattle.extents_lay.proofs.put_part.Statement.{statement}
 use Rattle.extents_lay.proofs.put_part.Tie as tie
 
 returns : tie.Need-returns
-returns c = let a = c .before .before .args in put-none (now (a .map)) (a .i) (a .start) (a .length) (a .cell) (c .if1 .taken)
+returns c = let a = c .before .before .args in put-none _ _ _ _ _ (c .if1 .taken)
 
 mul-put-run : tie.Need-mul-put-run
 mul-put-run c = search needs
@@ -26,7 +26,7 @@ returns-2 c =
     let s = c .before .before .before .before .before .before in
     let a = s .args in
     rw (c .before .before .put-run .ensures)
-    (put-one (now (a .map)) (a .i) (a .start) (a .length) (a .cell) (omega (arith, c .before .before .before .before .if1 .left)) (omega (arith, s .pre, c .before .before .before .before .if1 .left)))
+    (put-one _ _ _ _ _ (omega (arith, c .before .before .before .before .if1 .left)) (omega (arith, s .pre, c .before .before .before .before .if1 .left)))
 
 pub put-part-spec : {M : Type 1} → statement M
 put-part-spec =
