@@ -165,8 +165,10 @@ module _ (xs : List ℕ) (from end to : ℕ)
       ∙ drop-at (take from xs) moving from (length-take-le from xs (omega arith))
 
   -- Numbers that were moved up stand at their new place.
-  pub moved-up : (by : ℕ) → from + by ≡ to → {ys : List ℕ} → ys ≡ take (from + by) xs ++ (slice from end xs ++ drop (end + by) xs) → Moved ys
-  moved-up by e q = q ∙ (λ t. take (e t) xs ++ (part t ++ fewer by (length xs - to - (end - from)) (omega arith) t))
+  pub moved-up : from < to → {ys : List ℕ} → ys ≡ take (from + (to - from)) xs ++ (slice from end xs ++ drop (end + (to - from)) xs) → Moved ys
+  moved-up l q =
+      let e : from + (to - from) ≡ to = omega arith in
+      q ∙ (λ t. take (e t) xs ++ (part t ++ fewer (to - from) (length xs - to - (end - from)) (omega arith) t))
 
   -- Numbers that do not move stand there.
   pub moved-none : from ≡ to → Moved xs

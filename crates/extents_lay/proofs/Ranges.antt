@@ -8,8 +8,9 @@ use lib.ListN.{length, take, drop, replicate, length-append, length-drop, take-a
 use lib.Seq.{length-take-le, take-append-le, take-take, take-at, drop-at}
 use lib.Dec.{leb}
 use borrow.Author.Tests.{le-leb, lt-leb}
+use Rattle.rows.specs.Limits.{OFFSET-MAX}
 use Rattle.extents_meaning.specs.Cells.{Bytes, overwrite}
-use Rattle.extents_meaning.specs.Runs.{Run, runsOf}
+use Rattle.extents_meaning.specs.Runs.{Run, runsOf, Rising}
 use Rattle.extents_meaning.specs.Maps.{fours, mapOf, mapFor, spaceIn, runs, bytesOf, lawful}
 use Rattle.extents_meaning.proofs.Trips.{lawful-map, length-fours, map-append, rest-at}
 use Rattle.extents_map.specs.Cursors.{partOf}
@@ -19,6 +20,10 @@ use Rattle.extents_map.proofs.Parted.{laid-runs}
 use Rattle.extents_lay.proofs.Moves.{part-size, Put}
 
 module _ (xs : List ℕ) (e : lawful xs ≡ true) where
+  -- The runs of a lawful map are in order.
+  pub order : Rising OFFSET-MAX 0 0 (runs xs)
+  order = lawful-map xs e .lawful-runs .in-order
+
   -- the space of the map, and its runs
   abbrev space : ℕ
   space = spaceIn xs

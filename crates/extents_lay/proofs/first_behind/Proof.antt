@@ -5,12 +5,9 @@ use native.Mathlib.Omega.{arith}
 use mathlib.Core.Path.{_∙_}
 use lib.Dec.{eqb}
 use borrow.Author.Tests.{eqb-false, not-true}
-use denote.Ref.{now}
-use Rattle.rows.specs.Limits.{OFFSET-MAX}
-use Rattle.extents_meaning.specs.Runs.{Rising}
 use Rattle.extents_meaning.specs.Maps.{runs}
-use Rattle.extents_meaning.proofs.Trips.{lawful-map}
 use Rattle.extents_map.proofs.Parted.{Reaching, reach-start, reach-next, reach-stop}
+use Rattle.extents_lay.proofs.Ranges.{order}
 use Rattle.extents_lay.proofs.first_behind.Statement.{statement}
 use Rattle.extents_lay.proofs.first_behind.Tie as tie
 
@@ -21,27 +18,21 @@ Inv-loop map all first end cell i₀ i = Reaching (runs map) first end i
 abbrev μ-loop : tie.MeasureT-loop
 μ-loop map all first end cell i₀ i = all - i
 
--- the runs are in order
-order : (c : tie.Start Inv-loop μ-loop) → Rising OFFSET-MAX 0 0 (runs (now (c .args .map)))
-order c = lawful-map (now (c .args .map)) (c .pre .0) .lawful-runs .in-order
-
 loop-holds : tie.Need-loop-holds Inv-loop μ-loop
 loop-holds c = reach-start _ _ _ (omega (arith, c .before .pre .1, c .before .pre .2))
 
 start-at-requires : tie.Need-start-at-requires Inv-loop μ-loop
-start-at-requires c κs = let s = c .before .before .before in (s .pre .0, omega (arith, s .pre .1, c .loop-test .taken))
+start-at-requires c κs = search needs
 
 returns : tie.Need-returns Inv-loop μ-loop
 returns c =
     let s = c .before .before .before .before .before in
     let e = c .before .start-at .ensures in
     let u = c .before .before .before .loop .inv in
-    reach-stop u (order s) (s .args .cell) (λ h. omega (arith, e, c .if1 .taken)) (λ h p q. omega (arith, e, c .if1 .taken))
+    reach-stop u (order _ (s .pre .0)) (s .args .cell) (λ h. omega (arith, e, c .if1 .taken)) (λ h p q. omega (arith, e, c .if1 .taken))
 
 cell-at-requires : tie.Need-cell-at-requires Inv-loop μ-loop
-cell-at-requires c κs =
-    let s = c .before .before .before .before .before .before in
-    (s .pre .0, omega (arith, s .pre .1, c .before .before .before .loop-test .taken))
+cell-at-requires c κs = search needs
 
 returns-2 : tie.Need-returns-2 Inv-loop μ-loop
 returns-2 c =
@@ -49,14 +40,14 @@ returns-2 c =
     let v = c .before .cell-at in
     let e = c .before .before .before .before .start-at .ensures in
     let u = c .before .before .before .before .before .before .loop .inv in
-    reach-stop u (order s) (s .args .cell) (λ h. omega (arith, e, c .before .before .if2 .taken))
+    reach-stop u (order _ (s .pre .0)) (s .args .cell) (λ h. omega (arith, e, c .before .before .if2 .taken))
     (λ h p q. eqb-false _ _ (not-true (eqb (v .result) (s .args .cell)) (c .if3 .taken)) (v .ensures ∙ q))
 
 add-i : tie.Need-add-i Inv-loop μ-loop
 add-i c = search needs
 
 loop-less : tie.Need-loop-less Inv-loop μ-loop
-loop-less c = omega arith
+loop-less c = search needs
 
 loop-again : tie.Need-loop-again Inv-loop μ-loop
 loop-again c =
@@ -69,7 +60,7 @@ returns-3 : tie.Need-returns-3 Inv-loop μ-loop
 returns-3 c =
     let s = c .before .before .before in
     let u = c .before .loop .inv in
-    reach-stop u (order s) (s .args .cell)
+    reach-stop u (order _ (s .pre .0)) (s .args .cell)
     (λ h. absurd (omega (arith, s .pre .1, c .loop-test .left))) (λ h. absurd (omega (arith, s .pre .1, c .loop-test .left)))
 
 pub first-behind-spec : {M : Type 1} → statement M

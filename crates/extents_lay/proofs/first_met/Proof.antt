@@ -4,9 +4,8 @@ use native.Mathlib.Omega.{arith}
 use mathlib.Core.Path.{sym, _∙_}
 use mathlib.Core.Logic.{⊎-elim}
 use borrow.Author.Tests.{eqb-false}
-use denote.Ref.{now}
-use Rattle.extents_meaning.proofs.Trips.{lawful-map}
 use Rattle.extents_map.proofs.Parted.{met-first, met-here, met-last}
+use Rattle.extents_lay.proofs.Ranges.{order}
 use Rattle.extents_lay.proofs.first_met.Statement.{statement}
 use Rattle.extents_lay.proofs.first_met.Tie as tie
 
@@ -30,10 +29,9 @@ cell-at-requires c κs = search needs
 returns-2 : tie.Need-returns-2
 returns-2 c =
     let s = c .before .before .before .before .before .before .before in
-    let g = lawful-map (now (s .args .map)) (s .pre .0) .lawful-runs .in-order in
     let i = c .before .before .before .before .before .first-past .ensures .0 in
     let e = c .before .before .before .end-at .ensures in
-    met-last (omega (arith, i, s .pre .1)) g (omega (arith, c .before .before .before .before .if1 .left)) (sym e ∙ c .before .before .if2 .taken)
+    met-last (omega (arith, i, s .pre .1)) (order _ (s .pre .0)) (omega (arith, c .before .before .before .before .if1 .left)) (sym e ∙ c .before .before .if2 .taken)
 
 returns-3 : tie.Need-returns-3
 returns-3 c =

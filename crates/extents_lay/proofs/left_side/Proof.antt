@@ -5,17 +5,12 @@ use native.Mathlib.Omega.{arith}
 use mathlib.Core.Path.{refl, sym, _∙_}
 use lib.ListN.{length, drop-of-length-le}
 use denote.Ref.{now}
-use Rattle.rows.specs.Limits.{OFFSET-MAX}
-use Rattle.extents_meaning.specs.Runs.{cellAt, Rising}
+use Rattle.extents_meaning.specs.Runs.{cellAt}
 use Rattle.extents_meaning.specs.Maps.{runs}
-use Rattle.extents_meaning.proofs.Trips.{lawful-map}
 use Rattle.extents_map.proofs.Parted.{left-none, left-clear, left-join, left-rest}
+use Rattle.extents_lay.proofs.Ranges.{order}
 use Rattle.extents_lay.proofs.left_side.Statement.{statement}
 use Rattle.extents_lay.proofs.left_side.Tie as tie
-
--- the runs are in order
-order : (c : tie.Start) → Rising OFFSET-MAX 0 0 (runs (now (c .args .map)))
-order c = lawful-map (now (c .args .map)) (c .pre .0) .lawful-runs .in-order
 
 returns : tie.Need-returns
 unfolding cellAt
@@ -23,7 +18,7 @@ returns c =
     let s = c .before .before in
     let rs = runs (now (s .args .map)) in
     let o : length rs ≤ s .args .first = omega (arith, s .pre .1, c .if1 .taken) in
-    left-none (order s) (s .pre .2) (rw (drop-of-length-le rs o) (λ b l. refl))
+    left-none (order _ (s .pre .0)) (s .pre .2) (rw (drop-of-length-le rs o) (λ b l. refl))
 
 start-at-requires : tie.Need-start-at-requires
 start-at-requires c κs = search needs
@@ -32,7 +27,7 @@ returns-2 : tie.Need-returns-2
 returns-2 c =
     let s = c .before .before .before .before in
     let f = c .before .before .if1 .left in
-    left-clear (order s) (s .pre .2) (omega (arith, s .pre .1, s .pre .2 .most, f)) (omega (arith, c .before .start-at .ensures, c .if2 .taken))
+    left-clear (order _ (s .pre .0)) (s .pre .2) (omega (arith, s .pre .1, s .pre .2 .most, f)) (omega (arith, c .before .start-at .ensures, c .if2 .taken))
 
 cell-at-requires : tie.Need-cell-at-requires
 cell-at-requires c κs = search needs
@@ -43,7 +38,7 @@ returns-3 c =
     let f = c .before .before .before .before .if1 .left in
     let e = c .before .before .before .start-at .ensures in
     rw e
-    (left-join (order s) (s .pre .2) (omega (arith, s .pre .1, s .pre .2 .most, f)) (omega (arith, e, c .before .before .if2 .left))
+    (left-join (order _ (s .pre .0)) (s .pre .2) (omega (arith, s .pre .1, s .pre .2 .most, f)) (omega (arith, e, c .before .before .if2 .left))
     (sym (c .before .cell-at .ensures) ∙ c .if3 .taken))
 
 sub-t9 : tie.Need-sub-t9
@@ -56,7 +51,7 @@ returns-4 c =
     let e = c .before .before .before .start-at .ensures in
     let v = c .before .cell-at .ensures in
     rw (e, v)
-    (left-rest (order s) (s .pre .2) (omega (arith, s .pre .1, s .pre .2 .most, f)) (omega (arith, e, c .before .before .if2 .left)) (λ q. c .if3 .left (v ∙ q)))
+    (left-rest (order _ (s .pre .0)) (s .pre .2) (omega (arith, s .pre .1, s .pre .2 .most, f)) (omega (arith, e, c .before .before .if2 .left)) (λ q. c .if3 .left (v ∙ q)))
 
 pub left-side-spec : {M : Type 1} → statement M
 left-side-spec =

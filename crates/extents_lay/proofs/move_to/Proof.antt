@@ -1,9 +1,7 @@
 -- `extents_lay::move_to` meets its contract.
 use borrow.Author.Needs.{needs}
 use Prim.Native.Nat.{_-_}
-use native.Mathlib.Omega.{arith}
-use mathlib.Core.Path.{refl, _∙_}
-use denote.Ref.{now}
+use mathlib.Core.Path.{_∙_}
 use Rattle.extents_lay.proofs.Moves.{moved-none, moved-up, Downward, down-start, down-next, moved-down}
 use Rattle.extents_lay.proofs.move_to.Statement.{statement}
 use Rattle.extents_lay.proofs.move_to.Tie as tie
@@ -16,10 +14,7 @@ abbrev μ-loop : tie.MeasureT-loop
 μ-loop map₀ from end to i₀ map i = end - i
 
 returns : tie.Need-returns Inv-loop μ-loop
-returns c =
-    let s = c .before .before in
-    let a = s .args in
-    moved-none _ _ _ _ (s .pre) (c .if1 .taken)
+returns c = moved-none _ _ _ _ (c .before .before .pre) (c .if1 .taken)
 
 sub-move-up : tie.Need-sub-move-up Inv-loop μ-loop
 sub-move-up c = search needs
@@ -31,16 +26,10 @@ same-length : tie.Need-same-length Inv-loop μ-loop
 same-length c = c .before .before .move-up .kept .0
 
 returns-2 : tie.Need-returns-2 Inv-loop μ-loop
-returns-2 c =
-    let s = c .before .before .before .before .before .before .before in
-    let a = s .args in
-    moved-up _ _ _ _ (s .pre) (a .to - a .from) (omega (arith, c .before .before .before .before .if2 .taken)) (c .before .before .move-up .ensures)
+returns-2 c = moved-up _ _ _ _ (c .before .before .before .before .before .before .before .pre) (c .before .before .before .before .if2 .taken) (c .before .before .move-up .ensures)
 
 loop-holds : tie.Need-loop-holds Inv-loop μ-loop
-loop-holds c =
-    let s = c .before .before .before in
-    let a = s .args in
-    down-start _ _ _ _ (s .pre)
+loop-holds c = down-start _ _ _ _ (c .before .before .before .pre)
 
 add-loop : tie.Need-add-loop Inv-loop μ-loop
 add-loop c = search needs
@@ -71,9 +60,8 @@ loop-less c = search needs
 
 loop-again : tie.Need-loop-again Inv-loop μ-loop
 loop-again c =
-    let s = c .before .before .before .before .before .before in
-    let a = s .args in
-    down-next _ _ _ _ (s .pre) (c .before .before .before .if2 .left) (c .before .before .loop .inv) (c .before .loop-test .taken)
+    let l = c .before .before in
+    down-next _ _ _ _ (l .before .before .before .before .pre) (l .before .if2 .left) (l .loop .inv) (c .before .loop-test .taken)
 
 add-clear-between : tie.Need-add-clear-between Inv-loop μ-loop
 add-clear-between c = search needs
@@ -86,9 +74,9 @@ same-length-2 c = c .before .before .clear-between .kept .0 ∙ c .before .befor
 
 returns-3 : tie.Need-returns-3 Inv-loop μ-loop
 returns-3 c =
-    let s = c .before .before .before .before .before .before .before .before .before in
-    let a = s .args in
-    moved-down _ _ _ _ (s .pre) (c .before .before .before .before .before .before .if2 .left) (c .before .before .before .before .before .loop .inv) (c .before .before .before .before .loop-test .left) (c .before .before .clear-between .ensures)
+    let t = c .before .before .before .before in
+    let l = t .before in
+    moved-down _ _ _ _ (l .before .before .before .before .pre) (l .before .if2 .left) (l .loop .inv) (t .loop-test .left) (c .before .before .clear-between .ensures)
 
 pub move-to-spec : {M : Type 1} → statement M
 move-to-spec =

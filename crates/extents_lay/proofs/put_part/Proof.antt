@@ -1,13 +1,12 @@
 -- `extents_lay::put_part` meets its contract.
 use borrow.Author.Needs.{needs}
 use native.Mathlib.Omega.{arith}
-use denote.Ref.{now}
 use Rattle.extents_lay.proofs.Moves.{put-none, put-one}
 use Rattle.extents_lay.proofs.put_part.Statement.{statement}
 use Rattle.extents_lay.proofs.put_part.Tie as tie
 
 returns : tie.Need-returns
-returns c = let a = c .before .before .args in put-none _ _ _ _ _ (c .if1 .taken)
+returns c = put-none _ _ _ _ _ (c .if1 .taken)
 
 mul-put-run : tie.Need-mul-put-run
 mul-put-run c = search needs
@@ -23,10 +22,8 @@ same-length c = search needs
 
 returns-2 : tie.Need-returns-2
 returns-2 c =
-    let s = c .before .before .before .before .before .before in
-    let a = s .args in
-    rw (c .before .before .put-run .ensures)
-    (put-one _ _ _ _ _ (omega (arith, c .before .before .before .before .if1 .left)) (omega (arith, s .pre, c .before .before .before .before .if1 .left)))
+    let f = c .before .before .before .before .if1 .left in
+    rw (c .before .before .put-run .ensures) (put-one _ _ _ _ _ (omega arith) (omega (arith, c .before .before .before .before .before .before .pre)))
 
 pub put-part-spec : {M : Type 1} → statement M
 put-part-spec =

@@ -2,23 +2,15 @@
 use borrow.Author.Needs.{needs}
 use native.Mathlib.Omega.{arith}
 use mathlib.Core.Path.{sym, _∙_}
-use denote.Ref.{now}
-use Rattle.rows.specs.Limits.{OFFSET-MAX}
-use Rattle.extents_meaning.specs.Runs.{Rising}
-use Rattle.extents_meaning.specs.Maps.{runs}
-use Rattle.extents_meaning.proofs.Trips.{lawful-map}
 use Rattle.extents_map.proofs.Parted.{right-none, right-done, right-join, right-rest}
+use Rattle.extents_lay.proofs.Ranges.{order}
 use Rattle.extents_lay.proofs.right_side.Statement.{statement}
 use Rattle.extents_lay.proofs.right_side.Tie as tie
-
--- the runs are in order
-order : (c : tie.Start) → Rising OFFSET-MAX 0 0 (runs (now (c .args .map)))
-order c = lawful-map (now (c .args .map)) (c .pre .0) .lawful-runs .in-order
 
 returns : tie.Need-returns
 returns c =
     let s = c .before .before in
-    right-none (order s) (s .pre .1) (omega (arith, s .fits .end)) (c .if1 .taken) (s .pre .2)
+    right-none (order _ (s .pre .0)) (s .pre .1) (omega (arith, s .fits .end)) (c .if1 .taken) (s .pre .2)
 
 sub-last : tie.Need-sub-last
 sub-last c = search needs
@@ -30,7 +22,7 @@ returns-2 : tie.Need-returns-2
 returns-2 c =
     let s = c .before .before .before .before in
     let f = c .before .before .if1 .left in
-    right-done (order s) (s .pre .1) (omega (arith, s .fits .end)) f (omega (arith, c .before .end-at .ensures, c .if2 .taken))
+    right-done (order _ (s .pre .0)) (s .pre .1) (omega (arith, s .fits .end)) f (omega (arith, c .before .end-at .ensures, c .if2 .taken))
 
 cell-at-requires : tie.Need-cell-at-requires
 cell-at-requires c κs = search needs
@@ -41,7 +33,7 @@ returns-3 c =
     let f = c .before .before .before .before .if1 .left in
     let e = c .before .before .before .end-at .ensures in
     rw e
-    (right-join (order s) (s .pre .1) (omega (arith, s .fits .end)) f (omega (arith, e, c .before .before .if2 .left))
+    (right-join (order _ (s .pre .0)) (s .pre .1) (omega (arith, s .fits .end)) f (omega (arith, e, c .before .before .if2 .left))
     (sym (c .before .cell-at .ensures) ∙ c .if3 .taken))
 
 sub-t10 : tie.Need-sub-t10
@@ -54,7 +46,7 @@ returns-4 c =
     let e = c .before .before .before .end-at .ensures in
     let v = c .before .cell-at .ensures in
     rw (e, v)
-    (right-rest (order s) (s .pre .1) (omega (arith, s .fits .end)) f (omega (arith, e, c .before .before .if2 .left)) (λ q. c .if3 .left (v ∙ q)))
+    (right-rest (order _ (s .pre .0)) (s .pre .1) (omega (arith, s .fits .end)) f (omega (arith, e, c .before .before .if2 .left)) (λ q. c .if3 .left (v ∙ q)))
 
 pub right-side-spec : {M : Type 1} → statement M
 right-side-spec =
