@@ -86,7 +86,7 @@ up-start xs from end by h k =
     }
 
 module _ {xs : List ℕ} {from end by : ℕ} {ys : List ℕ} {i : ℕ} (u : Upward xs from end by ys i) where
-  -- one more
+  -- One more number is moved up.
   pub up-next : from < i → Upward xs from end by (set ys (i - 1 + by) (getD ys (i - 1) 0)) (i - 1)
   up-next h =
       let l = u .high in
@@ -116,7 +116,7 @@ module _ {xs : List ℕ} {from end by : ℕ} {ys : List ℕ} {i : ℕ} (u : Upwa
             ∙ (λ t. p ++ (sym (slice-cons j end xs 0 (omega arith) (omega arith)) t ++ drop (end + by) xs));
       }
 
-  -- all are
+  -- All numbers are moved up.
   pub up-stop : i ≤ from → ys ≡ take (from + by) xs ++ (slice from end xs ++ drop (end + by) xs)
   up-stop h = let e : i ≡ from = omega (arith, u .low) in u .so-far ∙ (λ t. take (e t + by) xs ++ (slice (e t) end xs ++ drop (end + by) xs))
 
@@ -151,7 +151,7 @@ module _ (xs : List ℕ) (from end to : ℕ)
   abbrev pub Moved : List ℕ → Type 0
   Moved ys = ys ≡ take to xs ++ (moving ++ replicate (length xs - to - (end - from)) 0)
 
-  -- zeros from a later place on
+  -- From a place behind `end` on there are fewer zeros.
   fewer : (by n : ℕ) → by + n ≡ length xs - end → drop (end + by) xs ≡ replicate n 0
   fewer by n e =
       sym (drop-drop by end xs) ∙ ap (drop by) (p .1 ∙ (λ t. replicate (sym e t) 0) ∙ sym (replicate-append-replicate by n 0))
@@ -185,13 +185,13 @@ module _ (xs : List ℕ) (from end to : ℕ)
   down-start = record { high = omega arith; same = refl; so-far = paste-zero xs to (drop from xs) }
 
   module _ (lower : to ≤ from) {ys : List ℕ} {i : ℕ} (u : Downward xs from end to ys i) where
-    -- what stands behind them is as it was
+    -- What stands behind the moved numbers is as it was.
     kept : drop (to + i) ys ≡ drop (to + i) xs
     kept =
         let o = u .high in
         ap (drop (to + i)) (u .so-far) ∙ drop-paste xs to (drop from xs) i (omega arith) (omega (arith, length-drop from xs))
 
-    -- one more
+    -- One more number is moved down.
     pub down-next : from + i < end → Downward xs from end to (set ys (to + i) (getD ys (from + i) 0)) (i + 1)
     down-next l =
         let e : to + i + (from - to) ≡ from + i = omega arith in
@@ -207,7 +207,7 @@ module _ (xs : List ℕ) (from end to : ℕ)
               ∙ (λ t. paste xs to (drop from xs) (sym (add-one i) t));
         }
 
-    -- all do, and zeros were stored behind them
+    -- All numbers are moved down, and zeros were stored behind them.
     pub moved-down : end ≤ from + i → {zs : List ℕ} → zs ≡ (take (to + i) ys ++ replicate (end - (to + i)) 0) ++ drop end ys → Moved zs
     moved-down l q =
         let o = u .high in

@@ -1,7 +1,7 @@
 -- A range laid into a lawful map: the map that its parts make with the runs before and behind them.
 use Prim.Native.Nat.{ℕ, _+_, _*_, _-_, _≤_, _<_, min}
 use native.Mathlib.Omega.{arith}
-use mathlib.Core.Path.{_≡_, refl, sym, ap, _∙_}
+use mathlib.Core.Path.{_≡_, sym, ap, _∙_}
 use mathlib.Core.Bool.{true, false}
 use mathlib.Core.List.{List, _++_, append-assoc}
 use lib.ListN.{length, take, drop, replicate, length-append, length-drop, take-append-drop}
@@ -31,10 +31,6 @@ module _ (xs : List ℕ) (e : lawful xs ≡ true) where
   abbrev rs : List Run
   rs = runs xs
 
-  -- the map of the runs from run i on stands at the place of run i
-  back-runs : (i : ℕ) → i ≤ length rs → drop (4 * i) xs ≡ mapOf (space - i) (drop i rs)
-  back-runs i h = rest-at xs e (take i rs) (drop i rs) i (sym (take-append-drop i rs)) (length-take-le i rs h)
-
   -- Behind the last run stands 0.
   pub zeros-behind : {all : ℕ} → all ≡ length rs → drop (all * 4) xs ≡ replicate (length xs - all * 4) 0
   unfolding mapOf
@@ -44,7 +40,7 @@ module _ (xs : List ℕ) (e : lawful xs ≡ true) where
       let z : 4 * (space - length rs) ≡ length xs - all * 4 = omega arith in
       ap (drop (all * 4)) (m .whole) ∙ drop-at (fours rs) (replicate (4 * (space - length rs)) 0) (all * 4) q ∙ (λ t. replicate (z t) 0)
 
-  -- the first i runs stand in front
+  -- The numbers of the first i runs stand at the front of the slice.
   front-runs : (i : ℕ) → i ≤ length rs → take (4 * i) xs ≡ fours (take i rs)
   front-runs i h =
       let ps = take i rs in
@@ -54,7 +50,7 @@ module _ (xs : List ℕ) (e : lawful xs ≡ true) where
 
   module _ {all from : ℕ} (to : ℕ) (n : all ≡ length rs) (h : from ≤ all) (fit : to + (all - from) ≤ space) {ys : List ℕ}
       (q : ys ≡ take (to * 4) xs ++ (take (all * 4 - from * 4) (drop (from * 4) xs) ++ replicate (length xs - to * 4 - (all * 4 - from * 4)) 0)) where
-    -- the runs before a place are kept where the later runs were moved
+    -- The first p runs are kept where runs behind them were moved.
     moved-front : (p : ℕ) → p ≤ from → p ≤ to → take (4 * p) ys ≡ fours (take p rs)
     moved-front p u v =
         let m = lawful-map xs e in
@@ -62,7 +58,7 @@ module _ (xs : List ℕ) (e : lawful xs ≡ true) where
         ap (take (4 * p)) q ∙ take-append-le (4 * p) (take (to * 4) xs) _ (omega arith) ∙ take-take (4 * p) (to * 4) xs (omega arith)
         ∙ front-runs p (omega arith)
 
-    -- Behind them stands the map of the runs that were moved.
+    -- From the new place on stands the map of the runs that were moved.
     moved-back : drop (4 * to) ys ≡ mapOf (space - to) (drop from rs)
     unfolding mapOf
     moved-back =
@@ -70,13 +66,14 @@ module _ (xs : List ℕ) (e : lawful xs ≡ true) where
         let l : length (take (to * 4) xs) ≡ 4 * to = length-take-le (to * 4) xs (omega arith) ∙ omega arith in
         let later = drop from rs in
         let zs : List ℕ = replicate (4 * (space - from - length later)) 0 in
-        let f : from * 4 ≡ 4 * from = omega arith in
         let o : from + length later ≡ all = omega (arith, length-drop from rs) in
         let k : length (fours later) ≡ all * 4 - from * 4 = omega (arith, length-fours later) in
         let z : length xs - to * 4 - (all * 4 - from * 4) ≡ 4 * (space - to - length later) = omega arith in
+        let f : from * 4 ≡ 4 * from = omega arith in
+        let there : drop (from * 4) xs ≡ fours later ++ zs =
+        (λ t. drop (f t) xs) ∙ rest-at xs e (take from rs) later from (sym (take-append-drop from rs)) (length-take-le from rs (omega arith)) in
         ap (drop (4 * to)) q ∙ drop-at (take (to * 4) xs) _ (4 * to) l
-        ∙ (λ t. take (all * 4 - from * 4) (((λ v. drop (f v) xs) ∙ back-runs from (omega arith)) t) ++ replicate (z t) 0)
-        ∙ (λ t. take-at (fours later) zs (all * 4 - from * 4) k t ++ replicate (4 * (space - to - length later)) 0)
+        ∙ (λ t. (ap (take (all * 4 - from * 4)) there ∙ take-at (fours later) zs (all * 4 - from * 4) k) t ++ replicate (z t) 0)
 
   module _ {start end cell all first behind : ℕ} (left right : Side) {middle parts : ℕ} (wide : start < end) (n : all ≡ length rs)
       (passed : Behind rs first end cell behind) (front : Front rs start cell (take first rs ++ sideOf left) (left .bound))
@@ -91,15 +88,15 @@ module _ (xs : List ℕ) (e : lawful xs ≡ true) where
     abbrev new : List Run
     new = ((take first rs ++ sideOf left) ++ partOf (left .bound) middle cell) ++ sideOf right
 
-    -- They and the runs behind are the runs of what every byte is to hold.
+    -- These runs and the runs behind the range are the runs of what every byte is to hold.
     new-runs : new ++ drop behind rs ≡ runsOf goal
     new-runs = simp append-assoc (simp append-assoc at (laid-runs rs start end cell wide front back (size .0) (size .1)))
 
-    -- the place behind them
+    -- the place behind the range's parts
     abbrev to : ℕ
     to = first + parts
 
-    -- They end there.
+    -- The runs up to that place are as many as its number.
     new-count : length new ≡ to
     new-count =
         simp length-append

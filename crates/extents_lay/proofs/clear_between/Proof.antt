@@ -1,6 +1,5 @@
 -- `extents_lay::clear_between` meets its contract.
 use borrow.Author.Needs.{needs}
-use denote.Ref.{now}
 use Rattle.extents_lay.proofs.Moves.{cleared-part}
 use Rattle.extents_lay.proofs.clear_between.Statement.{statement}
 use Rattle.extents_lay.proofs.clear_between.Tie as tie
@@ -24,10 +23,7 @@ same-length : tie.Need-same-length
 same-length c = search needs
 
 returns : tie.Need-returns
-returns c =
-    let p = c .before .before .before .before .before in
-    let a = p .args in
-    cleared-part (a .from) (a .to) (now (a .map)) (p .pre .0) (p .pre .1) (c .before .before .clear .ensures)
+returns c = let p = c .before .before .before .before .before .pre in cleared-part _ _ _ (p .0) (p .1) (c .before .before .clear .ensures)
 
 pub clear-between-spec : {M : Type 1} → statement M
 clear-between-spec =

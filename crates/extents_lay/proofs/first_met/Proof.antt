@@ -31,7 +31,8 @@ returns-2 c =
     let s = c .before .before .before .before .before .before .before in
     let i = c .before .before .before .before .before .first-past .ensures .0 in
     let e = c .before .before .before .end-at .ensures in
-    met-last (omega (arith, i, s .pre .1)) (order _ (s .pre .0)) (omega (arith, c .before .before .before .before .if1 .left)) (sym e ∙ c .before .before .if2 .taken)
+    met-last (omega (arith, i, s .pre .1)) (order _ (s .pre .0)) (omega (arith, c .before .before .before .before .if1 .left))
+    (sym e ∙ c .before .before .if2 .taken)
 
 returns-3 : tie.Need-returns-3
 returns-3 c =

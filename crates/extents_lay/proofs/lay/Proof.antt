@@ -104,8 +104,9 @@ returns-2 c =
     let b = k .before .before .before .before .before .before .first-behind .ensures in
     let n = k .before .before .before .before .before .before .before .before .before .before .runs-in .ensures in
     let s = start k in
-    all-laid _ (s .pre .0 .0) (l .result) (r .result) (s .pre .0 .1) n b (l .ensures) (r .ensures) m (k .count-parts .ensures) (w .before .before .if1 .left)
-    (x .put-part .last .0) (y .put-part2 .last .0) (w .move-to .ensures) (x .put-part .ensures) (y .put-part2 .ensures) (c .before .before .put-part3 .ensures)
+    all-laid _ (s .pre .0 .0) (l .result) (r .result) (s .pre .0 .1) n b (l .ensures) (r .ensures) m (k .count-parts .ensures)
+    (w .before .before .if1 .left) (x .put-part .last .0) (y .put-part2 .last .0) (w .move-to .ensures)
+    (x .put-part .ensures) (y .put-part2 .ensures) (c .before .before .put-part3 .ensures)
 
 pub lay-spec : {M : Type 1} → statement M
 lay-spec =

@@ -27,7 +27,8 @@ returns-2 : tie.Need-returns-2
 returns-2 c =
     let s = c .before .before .before .before in
     let f = c .before .before .if1 .left in
-    left-clear (order _ (s .pre .0)) (s .pre .2) (omega (arith, s .pre .1, s .pre .2 .most, f)) (omega (arith, c .before .start-at .ensures, c .if2 .taken))
+    left-clear (order _ (s .pre .0)) (s .pre .2) (omega (arith, s .pre .1, s .pre .2 .most, f))
+    (omega (arith, c .before .start-at .ensures, c .if2 .taken))
 
 cell-at-requires : tie.Need-cell-at-requires
 cell-at-requires c κs = search needs
@@ -51,7 +52,8 @@ returns-4 c =
     let e = c .before .before .before .start-at .ensures in
     let v = c .before .cell-at .ensures in
     rw (e, v)
-    (left-rest (order _ (s .pre .0)) (s .pre .2) (omega (arith, s .pre .1, s .pre .2 .most, f)) (omega (arith, e, c .before .before .if2 .left)) (λ q. c .if3 .left (v ∙ q)))
+    (left-rest (order _ (s .pre .0)) (s .pre .2) (omega (arith, s .pre .1, s .pre .2 .most, f)) (omega (arith, e, c .before .before .if2 .left))
+    (λ q. c .if3 .left (v ∙ q)))
 
 pub left-side-spec : {M : Type 1} → statement M
 left-side-spec =

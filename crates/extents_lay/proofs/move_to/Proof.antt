@@ -26,7 +26,9 @@ same-length : tie.Need-same-length Inv-loop μ-loop
 same-length c = c .before .before .move-up .kept .0
 
 returns-2 : tie.Need-returns-2 Inv-loop μ-loop
-returns-2 c = moved-up _ _ _ _ (c .before .before .before .before .before .before .before .pre) (c .before .before .before .before .if2 .taken) (c .before .before .move-up .ensures)
+returns-2 c =
+    let t = c .before .before .before .before in
+    moved-up _ _ _ _ (t .before .before .before .pre) (t .if2 .taken) (c .before .before .move-up .ensures)
 
 loop-holds : tie.Need-loop-holds Inv-loop μ-loop
 loop-holds c = down-start _ _ _ _ (c .before .before .before .pre)
@@ -76,7 +78,8 @@ returns-3 : tie.Need-returns-3 Inv-loop μ-loop
 returns-3 c =
     let t = c .before .before .before .before in
     let l = t .before in
-    moved-down _ _ _ _ (l .before .before .before .before .pre) (l .before .if2 .left) (l .loop .inv) (t .loop-test .left) (c .before .before .clear-between .ensures)
+    moved-down _ _ _ _ (l .before .before .before .before .pre) (l .before .if2 .left) (l .loop .inv) (t .loop-test .left)
+    (c .before .before .clear-between .ensures)
 
 pub move-to-spec : {M : Type 1} → statement M
 move-to-spec =

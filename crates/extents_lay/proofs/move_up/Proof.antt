@@ -1,6 +1,5 @@
 -- `extents_lay::move_up` meets its contract.
 use borrow.Author.Needs.{needs}
-use denote.Ref.{now}
 use Rattle.extents_lay.proofs.Moves.{Upward, up-start, up-next, up-stop}
 use Rattle.extents_lay.proofs.move_up.Statement.{statement}
 use Rattle.extents_lay.proofs.move_up.Tie as tie
@@ -13,7 +12,7 @@ abbrev μ-loop : tie.MeasureT-loop
 μ-loop map₀ from end by i₀ map i = i
 
 loop-holds : tie.Need-loop-holds Inv-loop μ-loop
-loop-holds c = let a = c .args in up-start (now (a .map)) (a .from) (a .end) (a .by) (c .pre .0) (c .pre .1)
+loop-holds c = up-start _ _ _ _ (c .pre .0) (c .pre .1)
 
 sub-i : tie.Need-sub-i Inv-loop μ-loop
 sub-i c = search needs

@@ -46,7 +46,8 @@ returns-4 c =
     let e = c .before .before .before .end-at .ensures in
     let v = c .before .cell-at .ensures in
     rw (e, v)
-    (right-rest (order _ (s .pre .0)) (s .pre .1) (omega (arith, s .fits .end)) f (omega (arith, e, c .before .before .if2 .left)) (λ q. c .if3 .left (v ∙ q)))
+    (right-rest (order _ (s .pre .0)) (s .pre .1) (omega (arith, s .fits .end)) f (omega (arith, e, c .before .before .if2 .left))
+    (λ q. c .if3 .left (v ∙ q)))
 
 pub right-side-spec : {M : Type 1} → statement M
 right-side-spec =
