@@ -241,7 +241,7 @@ fn put_part(map: &mut [u32], i: usize, start: u32, length: u32, cell: u32) -> us
 }
 
 // Stores the four numbers of a run from a place on.
-fn put_run(map: &mut [u32], at: usize, start: u32, length: u32, cell: u32)
+pub fn put_run(map: &mut [u32], at: usize, start: u32, length: u32, cell: u32)
     requires { ⌜ (at < sizeOf (now map)) × (at + 1 < sizeOf (now map)) × (at + 2 < sizeOf (now map)) × (at + 3 < sizeOf (now map)) ⌝ }
     ensures { λ _. ⌜ now (map .exit)
         ≡ set (set (set (set (now (map .entry)) at start) (at + 1) length) (at + 2) (cell / 2)) (at + 3) (cell % 2) ⌝ }

@@ -223,32 +223,13 @@ fn turn(map: &mut [u32], h: Hand, x: u32, y: u32, cell: u32, need: bool) -> Hand
             cell: cell,
         };
     }
-    put_run(
-        map,
-        h.written * 4,
-        h.start,
-        h.end - h.start,
-        h.cell / 2,
-        h.cell % 2,
-    );
+    extents_lay::put_run(map, h.written * 4, h.start, h.end - h.start, h.cell);
     Hand {
         written: h.written + 1,
         start: x,
         end: y,
         cell: cell,
     }
-}
-
-// Puts the four numbers of a run at a place.
-fn put_run(map: &mut [u32], at: usize, start: u32, size: u32, number: u32, mark: u32)
-    requires { ⌜ at + 4 ≤ length (now map) ⌝ }
-    ensures { λ _. ⌜ now (map .exit) ≡
-        (take at (now (map .entry)) ++ (start ∷ (size ∷ (number ∷ (mark ∷ []))))) ++ drop (at + 4) (now (map .entry)) ⌝ }
-{
-    map[at] = start;
-    map[at + 1] = size;
-    map[at + 2] = number;
-    map[at + 3] = mark;
 }
 
 // The larger of two numbers.
