@@ -1,12 +1,10 @@
 // Rewriting a map in place: each byte of a target map gets the cell that a mix makes of it and of another map's cell at the byte. No room but the
 // map's own is used. A first walk keeps of the target what the result needs; the kept runs move up to the place behind which all is 0; a second walk
 // reads them there and writes the result's runs from the front.
-ghost use Prim.Native.Nat.{_*_, _-_, _/_, _≤_};
+ghost use Prim.Native.Nat.{_+_, _*_, _/_, _≤_, max};
 ghost use mathlib.Core.Path.{_≡_};
-ghost use lib.ListN.{length, take, drop};
-ghost use mathlib.Core.List.{[], _∷_, _++_};
-ghost use Prim.Native.Nat.{_+_, max};
 ghost use mathlib.Core.Bool.{true};
+ghost use lib.ListN.{length};
 ghost use Rattle.extents_meaning.specs.Runs.{runsOf};
 ghost use Rattle.extents_meaning.specs.Maps.{mapFor, withPart, withMap};
 ghost use Rattle.extents_map.specs.Cursors.{Part};
