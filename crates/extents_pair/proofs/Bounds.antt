@@ -5,15 +5,16 @@ use native.Mathlib.Decide.{decLt}
 use mathlib.Core.Path.{_≡_, refl, sym, ap, _∙_}
 use mathlib.Core.Bool.{Bool, true, false, cond, false≢true}
 use mathlib.Core.List.{List, [], _∷_}
-use lib.ListN.{length, getD, drop, drop-of-length-le}
-use lib.Seq.{drop-cons}
-use borrow.Author.Tests.{eqb-true, eqb-false}
+use lib.ListN.{length}
+use lib.Dec.{leb}
+use borrow.Author.Tests.{ltb-true}
+use Rattle.rows.proofs.Bools.{and-out}
 use Rattle.rows.specs.Limits.{OFFSET-MAX}
-use Rattle.extents_meaning.specs.Cells.{Bytes, markIn, unpublished, cleared, inRange, overwrite, asPublished}
-use Rattle.extents_meaning.specs.Runs.{Run, cellAt, runsFrom, runsOf, Lawful}
-use Rattle.extents_meaning.specs.Maps.{runs, bytesOf, lawful, mapAt}
+use Rattle.extents_meaning.specs.Cells.{Bytes, unpublished, cleared, inRange, overwrite, asPublished}
+use Rattle.extents_meaning.specs.Runs.{Run, cellAt, runsFrom, runsOf, Rising, Lawful}
+use Rattle.extents_meaning.specs.Maps.{runs, mapAt}
 use Rattle.extents_meaning.specs.Points.{starts}
-use Rattle.extents_meaning.proofs.Longest.{runs-same, runs-back}
+use Rattle.extents_meaning.proofs.Longest.{mean-before, runs-same}
 use Rattle.extents_meaning.proofs.Trips.{lawful-map}
 use Rattle.extents_meaning.proofs.Points.{begins, begins-same, begins-most, count-starts, runs-by}
 use Rattle.extents_meaning.proofs.Overwrites.{over-in, over-before, over-behind}
@@ -21,10 +22,11 @@ use Rattle.extents_map.specs.Mixes.{mixed, mix, makesMap, isMarkPublished}
 use Rattle.extents_map.specs.declared.scan.Mode.{Mode}
 use Rattle.extents_map.specs.declared.scan.Mode.the-variants.{Publish, MarkPublished, Refresh, ReadMap, ReadFresh}
 use Rattle.extents_meaning.specs.Pairs.{twoMaps, viewOf, belowOf}
-use Rattle.extents_pair.specs.Marks.{marked, Marked}
-use Rattle.extents_pair.proofs.Spots.{noRun, here-at}
-use Rattle.extents_pair.proofs.Gathering.{marked-all, marked-fewer, marked-mean}
-use Rattle.extents_pair.proofs.Pairing.{Told, two-told, lentMap, map-lent, map-space}
+use Rattle.extents_pair.specs.Marks.{marked}
+use Rattle.extents_pair.proofs.Gathering.{marked-fewer}
+pub use Rattle.extents_pair.proofs.Gathering.{marked-first}
+use Rattle.extents_pair.proofs.Parts.{bytes-count}
+use Rattle.extents_pair.proofs.Pairing.{Told, two-told, map-few}
 
 -- ---- One range
 
@@ -95,170 +97,82 @@ laid-more h (r ∷ rs) f = omega (arith, over-more (r .start) (r .length) (h (r 
 abbrev over : (ℕ → ℕ) → ℕ → ℕ → ℕ
 over h v w = cond (unpublished v) (h v) w
 
--- unpublished runs: the bytes get what is made of their cells
-laid-mean : (h : ℕ → ℕ) (rs : List Run) (f : Bytes) (b : ℕ) → Marked rs → laid h rs f b ≡ over h (cellAt rs b) (f b)
-unfolding laid cellAt
-laid-mean h [] f b m = refl
-laid-mean h (r ∷ rs) f b m = go (inRange (r .start) (r .length) b) (laid-mean h rs f b (m .1))
+-- The unpublished runs written over some bytes say what each byte gets of the view's cell.
+marked-over : (h : ℕ → ℕ) (top end c : ℕ) (rs : List Run) → Rising top end c rs → (w : Bytes) (b : ℕ) →
+    over h (cellAt rs b) (w b) ≡ laid h (marked rs) w b
+unfolding laid marked cellAt
+marked-over h top end c [] g w b = refl
+marked-over h top end c (r ∷ rs) g w b =
+    go (unpublished (r .cell)) refl (inRange (r .start) (r .length) b) refl
+    (marked-over h top (r .start + r .length) (r .cell) rs (g .1) w b)
   where
-    go : (x : Bool) → laid h rs f b ≡ over h (cellAt rs b) (f b) →
-        cond x (h (r .cell)) (laid h rs f b) ≡ over h (cond x (r .cell) (cellAt rs b)) (f b)
-    go true ih = rw (m .0)
-    go false ih = ih
-
--- the unpublished ones of a lawful list say all of that
-marked-over : (h : ℕ → ℕ) (rs : List Run) → Lawful rs → (f : Bytes) (b : ℕ) → over h (cellAt (marked rs) b) (f b) ≡ over h (cellAt rs b) (f b)
-marked-over h rs l f b =
-    ap (λ (v : ℕ). over h v (f b)) (marked-mean OFFSET-MAX 0 0 rs (l .in-order) b) ∙ go (cellAt rs b) (unpublished (cellAt rs b)) refl
-  where
-    go : (v : ℕ) (t : Bool) → unpublished v ≡ t → over h (cond t v 0) (f b) ≡ cond t (h v) (f b)
-    go v true e = rw e
-    go v false e = refl
+    go : (t : Bool) → unpublished (r .cell) ≡ t → (x : Bool) → inRange (r .start) (r .length) b ≡ x →
+        over h (cellAt rs b) (w b) ≡ laid h (marked rs) w b →
+        over h (cond x (r .cell) (cellAt rs b)) (w b) ≡ laid h (cond t (r ∷ marked rs) (marked rs)) w b
+    go true e true d ih = rw (d, e)
+    go true e false d ih = rw d ih
+    go false e true d ih =
+        let l : b < r .start + r .length = ltb-true b (r .start + r .length) (and-out (leb (r .start) b) _ d .1) in
+        rw e (ap (λ (v : ℕ). over h v (w b)) (sym (mean-before top (r .start + r .length) (r .cell) rs (g .1) b l)) ∙ ih)
+    go false e false d ih = ih
 
 -- ---- Mixes
 
 module _ (rs : List Run) (law : Lawful rs) (w : Bytes) where
   -- the unpublished runs written over the published map
   pub laid-over : (h : ℕ → ℕ) (b : ℕ) → over h (cellAt rs b) (w b) ≡ laid h (marked rs) w b
-  laid-over h b = sym (laid-mean h (marked rs) w b (marked-all rs) ∙ marked-over h rs law w b)
+  laid-over h = marked-over h OFFSET-MAX 0 0 rs (law .in-order) w
 
-  module _ (start n c : ℕ) where
-    -- publishing: two runs more for each unpublished one and two for the range
-    pub publish-most : length (runsOf (mix Publish start n c (cellAt rs) w)) ≤ length (runsOf w) + 2 * length (marked rs) + 2
-    unfolding mixed
-    publish-most =
-        let u = laid cleared (marked rs) w in
-        let e = runs-same (mix Publish start n c (cellAt rs) w) (overwrite start n c u)
-        (λ b _. ap (λ (k : ℕ). cond (inRange start n b) c k) (laid-over cleared b)) in
-        omega (arith, ap (λ (l : List Run). length l) e, over-more start n c u, laid-more cleared (marked rs) w)
-
-    -- a refresh: the same without the range
-    pub refresh-most : length (runsOf (mix Refresh start n c (cellAt rs) w)) ≤ length (runsOf w) + 2 * length (marked rs) + 2
-    unfolding mixed
-    refresh-most =
-        let h : ℕ → ℕ = λ v. v in
-        let e = runs-same (mix Refresh start n c (cellAt rs) w) (laid h (marked rs) w) (λ b _. laid-over h b) in
-        omega (arith, ap (λ (l : List Run). length l) e, laid-more h (marked rs) w)
-
--- the view then: two runs more for the range
-pub mark-published-most : (v w : Bytes) (start n c : ℕ) → length (runsOf (mix MarkPublished start n c v w)) ≤ length (runsOf v) + 2
-unfolding mixed
-mark-published-most v w start n c = omega (arith, over-more start n c (asPublished v), runs-by cleared refl v)
+  -- Two runs more for each unpublished one.
+  over-most : (h : ℕ → ℕ) → length (runsOf (λ b. over h (cellAt rs b) (w b))) ≤ length (runsOf w) + 2 * length (marked rs)
+  over-most h =
+      let e = runs-same (λ b. over h (cellAt rs b) (w b)) (laid h (marked rs) w) (λ b _. laid-over h b) in
+      omega (arith, ap (λ (l : List Run). length l) e, laid-more h (marked rs) w)
 
 -- ---- Two maps
 
 module _ (space view below : ℕ) (xs : List ℕ) (two : twoMaps space view below xs ≡ true) where
-  abbrev own : Bytes
-  own = viewOf space view below xs
-
-  abbrev base : Bytes
-  base = belowOf space view below xs
-
   told : Told space view below xs
   told = two-told space view below xs two
 
-  -- a lent map's runs are those of its bytes, and fit
-  lent-count : (k : ℕ) → (k + 1) * (4 * space) ≤ length xs → lawful (mapAt space k xs) ≡ true →
-      (length (runs (lentMap space k xs)) ≡ length (runsOf (bytesOf (mapAt space k xs)))) × (length (runs (lentMap space k xs)) ≤ space)
-  lent-count k fit law =
-      let m = lawful-map (mapAt space k xs) law in
-      let e : length (runs (lentMap space k xs)) ≡ length (runs (mapAt space k xs)) =
-      ap (λ (l : List ℕ). length (runs l)) (map-lent space k xs) in (
-        e ∙ sym (ap (λ (l : List Run). length l) (runs-back (runs (mapAt space k xs)) (m .lawful-runs))),
-        omega (arith, e, m .fit, map-space space k xs fit),
-      )
-
-  -- The count of a lent map's runs is at most the space.
-  pub view-room : {k : ℕ} → k ≡ length (runs (lentMap space view xs)) → k ≤ space
-  view-room e = omega (arith, e, lent-count view (told .view-in) (told .view-law) .1)
-
-  -- The count of the lent published map's runs is at most the space.
-  pub below-room : {k : ℕ} → k ≡ length (runs (lentMap space below xs)) → k ≤ space
-  below-room e = omega (arith, e, lent-count below (told .below-in) (told .below-law) .1)
-
   -- The count of the view's unpublished runs is at most the space.
   pub marked-room : {k : ℕ} → k ≡ length (marked (runs (mapAt space view xs))) → k ≤ space
-  marked-room e =
-      omega (arith, e, marked-fewer (runs (mapAt space view xs)), ap (λ (l : List ℕ). length (runs l)) (map-lent space view xs), view-room refl)
+  marked-room e = omega (arith, e, marked-fewer (runs (mapAt space view xs)), map-few space view xs (told .view-in) (told .view-law))
 
-  module _ (start n c : ℕ) where
-    -- The view marked published.
-    pub most-mark-published : (mode : Mode) → isMarkPublished mode ≡ true → {k : ℕ} → k ≡ length (runs (lentMap space view xs)) →
-        length (runsOf (mix mode start n c own base)) ≤ k + 2
-    most-mark-published MarkPublished q e =
-        omega (arith, e, lent-count view (told .view-in) (told .view-law) .0, mark-published-most own base start n c)
-    most-mark-published Publish q e = absurd (false≢true q)
-    most-mark-published Refresh q e = absurd (false≢true q)
-    most-mark-published ReadMap q e = absurd (false≢true q)
-    most-mark-published ReadFresh q e = absurd (false≢true q)
+  -- A map marked published has at most two runs more than the view, for the range. The published map after publishing and the refreshed view
+  -- have at most two runs more than the published map for each unpublished run, and two for the range.
+  pub most : (start n c : ℕ) (mode : Mode) → makesMap mode ≡ true →
+      length (runsOf (mix mode start n c (viewOf space view below xs) (belowOf space view below xs))) ≤
+      cond (isMarkPublished mode) (length (runs (mapAt space view xs)) + 2)
+      (length (runs (mapAt space below xs)) + 2 * length (marked (runs (mapAt space view xs))) + 2)
+  unfolding mixed
+  most start n c mode h = go mode h
+    where
+      v : Bytes
+      v = viewOf space view below xs
 
-    -- The published map after publishing, and the refreshed view: two runs more for each unpublished run, and two for the range.
-    module _ {k u : ℕ} (e : k ≡ length (runs (lentMap space below xs))) (d : u ≡ length (marked (runs (mapAt space view xs)))) where
-      law : Lawful (runs (mapAt space view xs))
-      law = lawful-map (mapAt space view xs) (told .view-law) .lawful-runs
+      w : Bytes
+      w = belowOf space view below xs
 
-      count : k ≡ length (runsOf base)
-      count = e ∙ lent-count below (told .below-in) (told .below-law) .0
+      fresh : (h : ℕ → ℕ) → length (runsOf (λ b. over h (v b) (w b))) ≤ length (runs (mapAt space below xs)) + 2 * length (marked (runs (mapAt space view xs)))
+      fresh h =
+          omega (
+            arith,
+            over-most (runs (mapAt space view xs)) (lawful-map (mapAt space view xs) (told .view-law) .lawful-runs) w h,
+            bytes-count (mapAt space below xs) (told .below-law),
+          )
 
-      -- A mode that makes a map and does not mark the view published makes at most that many runs.
-      pub most-other : (mode : Mode) → isMarkPublished mode ≡ false → makesMap mode ≡ true →
-          length (runsOf (mix mode start n c own base)) ≤ k + 2 * u + 2
-      most-other Publish q h = omega (arith, d, count, publish-most (runs (mapAt space view xs)) law base start n c)
-      most-other MarkPublished q h = absurd (false≢true (sym q))
-      most-other Refresh q h = omega (arith, d, count, refresh-most (runs (mapAt space view xs)) law base start n c)
-      most-other ReadMap q h = absurd (false≢true h)
-      most-other ReadFresh q h = absurd (false≢true h)
+      go : (mode : Mode) → makesMap mode ≡ true → length (runsOf (mix mode start n c v w)) ≤
+          cond (isMarkPublished mode) (length (runs (mapAt space view xs)) + 2)
+          (length (runs (mapAt space below xs)) + 2 * length (marked (runs (mapAt space view xs))) + 2)
+      go Publish q = omega (arith, over-more start n c (λ b. over cleared (v b) (w b)), fresh cleared)
+      go MarkPublished q =
+          omega (arith, over-more start n c (asPublished v), runs-by cleared refl v, bytes-count (mapAt space view xs) (told .view-law))
+      go Refresh q = omega (arith, fresh (λ k. k))
+      go ReadMap q = absurd (false≢true q)
+      go ReadFresh q = absurd (false≢true q)
 
 -- all runs, counted from the first byte to the last
 pub all-most : (f : Bytes) {r : ℕ} → length (runsOf f) ≤ r → length (runsFrom (4294967295 - 0) 0 f) ≤ r
 unfolding runsOf
 all-most f h = h
-
--- ---- Counting the unpublished runs
-
--- one more where the mark is 1
-pub marked-first : (r : Run) (rs : List Run) → length (marked (r ∷ rs)) ≡ markIn (r .cell) + length (marked rs)
-unfolding marked
-marked-first r rs = go (unpublished (r .cell)) refl
-  where
-    go : (t : Bool) → unpublished (r .cell) ≡ t → length (cond t (r ∷ marked rs) (marked rs)) ≡ markIn (r .cell) + length (marked rs)
-    go true e = omega (arith, eqb-true (markIn (r .cell)) 1 e)
-    go false e = let z : markIn (r .cell) ≡ 1 → ⊥ = eqb-false (markIn (r .cell)) 1 e in omega arith
-
--- what the loop keeps: n of the first i runs
-pub record Tally (xs : List ℕ) (n i : ℕ) : Type 0 where
-  pub passed : i ≤ length (runs xs)
-  pub found : n + length (marked (drop i (runs xs))) ≡ length (marked (runs xs))
-
-module _ (xs : List ℕ) where
-  -- At first no unpublished run is counted.
-  pub tally-none : Tally xs 0 0
-  tally-none = record { passed = omega arith; found = omega arith }
-
-  -- no more than there are
-  pub tally-few : {n i : ℕ} → Tally xs n i → n ≤ length (runs xs)
-  tally-few k = omega (arith, k .found, marked-fewer (runs xs))
-
-  -- one run further
-  module _ (law : lawful xs ≡ true) {n i : ℕ} (k : Tally xs n i) (h : i < length (runs xs)) where
-    abbrev one : Run
-    one = getD (runs xs) i noRun
-
-    mark-here : getD xs (i * 4 + 3) 0 ≡ markIn (one .cell)
-    mark-here = let e : i * 4 + 3 ≡ 4 * i + 3 = omega arith in ap (λ (p : ℕ). getD xs p 0) e ∙ here-at xs law i h .mark
-
-    -- Counting run i: its mark adds to the count.
-    pub tally-next : Tally xs (n + getD xs (i * 4 + 3) 0) (i + 1)
-    tally-next =
-        let z : suc i ≡ i + 1 = omega arith in
-        let e : drop i (runs xs) ≡ one ∷ drop (i + 1) (runs xs) = drop-cons (runs xs) i noRun h ∙ ap (λ (j : ℕ). one ∷ drop j (runs xs)) z in
-        let m : length (marked (drop i (runs xs))) ≡ markIn (one .cell) + length (marked (drop (i + 1) (runs xs))) =
-        ap (λ (l : List Run). length (marked l)) e ∙ marked-first one (drop (i + 1) (runs xs)) in
-        record { passed = omega (arith, h); found = omega (arith, k .found, m, mark-here) }
-
-  -- In the end all unpublished runs are counted.
-  pub tally-all : {n i : ℕ} → Tally xs n i → length (runs xs) ≤ i → n ≡ length (marked (runs xs))
-  unfolding marked
-  tally-all {n} {i} k h =
-      let e : drop i (runs xs) ≡ [] = drop-of-length-le (runs xs) h in
-      omega (arith, k .found, ap (λ (l : List Run). length (marked l)) e)

@@ -139,6 +139,10 @@ module _ (space k : ℕ) (xs : List ℕ) where
         let m = lawful-map (mapAt space k xs) law in
         (λ i. mapOf (sym map-space i) (runs-back (runs (mapAt space k xs)) (m .lawful-runs) i)) ∙ sym (m .whole)
 
+    -- The runs of a lawful map fit the space.
+    pub map-few : lawful (mapAt space k xs) ≡ true → length (runs (mapAt space k xs)) ≤ space
+    map-few law = omega (arith, lawful-map (mapAt space k xs) law .fit, map-space)
+
     -- laid anew, it comes home
     pub laid-home : (f : Bytes → Bytes) → length (runsOf (f (bytesOf (mapAt space k xs)))) ≤ space → {r : Bool} {last : List ℕ} →
         r ≡ leb (length (runsOf (f (bytesOf lentMap)))) (spaceIn lentMap) → last ≡ cond r (mapFor (spaceIn lentMap) (f (bytesOf lentMap))) lentMap →

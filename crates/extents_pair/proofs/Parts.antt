@@ -103,13 +103,17 @@ module _ (at size : ℕ) (xs : List ℕ) (h : at + size ≤ length xs) where
 
 -- ---- Bytes of maps
 
+-- The bytes of a lawful map have its runs.
+pub bytes-count : (xs : List ℕ) → lawful xs ≡ true → length (runsOf (bytesOf xs)) ≡ length (runs xs)
+bytes-count xs e = ap (λ (rs : List Run). length rs) (runs-back (runs xs) (lawful-map xs e .lawful-runs))
+
 -- The bytes of a lawful map are good and fit.
 pub bytes-fit : (xs : List ℕ) → lawful xs ≡ true → Fits (spaceIn xs) (bytesOf xs)
 bytes-fit xs e =
     let m = lawful-map xs e in
     record {
       good = record { fine = lawful-fine (runs xs) (m .lawful-runs); ends = mean-behind OFFSET-MAX 0 0 (runs xs) (m .lawful-runs .in-order) };
-      few = omega (arith, ap length (runs-back (runs xs) (m .lawful-runs)), m .fit);
+      few = omega (arith, bytes-count xs e, m .fit);
     }
 
 -- The bytes of a lawful map make the map again.

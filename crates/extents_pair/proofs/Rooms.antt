@@ -13,11 +13,10 @@ use Rattle.extents_meaning.specs.Cells.{Bytes, numberIn, refreshed}
 use Rattle.extents_meaning.specs.Runs.{Run, runsFrom, runsOf, piecesOf}
 use Rattle.extents_meaning.specs.Maps.{runs, bytesOf, lawful}
 use Rattle.extents_meaning.specs.Points.{starts}
-use Rattle.extents_meaning.proofs.Longest.{runs-back}
-use Rattle.extents_meaning.proofs.Trips.{lawful-map}
 use Rattle.extents_meaning.proofs.Points.{begins, begins-same, begins-one, begins-most, count-starts}
 use Rattle.extents_map.specs.Mixes.{mixed, mix}
 use Rattle.extents_map.specs.declared.scan.Mode.the-variants.{Refresh, ReadMap, ReadFresh}
+use Rattle.extents_pair.proofs.Parts.{bytes-count}
 
 -- the pieces of the same range, said by its end
 pub pieces-there : (f : Bytes) (start n : ℕ) → piecesOf f start (start + n - start) ≡ piecesOf f start n
@@ -78,9 +77,7 @@ module _ (s n : ℕ) where
   -- there is room for the pieces of a lawful map
   pub map-enough : (xs : List ℕ) (room : ℕ) → lawful xs ≡ true → {k : ℕ} → s + n ≤ OFFSET-MAX → k ≡ length (runs xs) → 2 * k + 1 ≤ room →
       false ≡ ltb room (length (piecesOf (bytesOf xs) s n))
-  map-enough xs room law h e l =
-      let m = ap (λ (l : List Run). length l) (runs-back (runs xs) (lawful-map xs law .lawful-runs)) in
-      room-enough (bytesOf xs) s n room h (omega (arith, e, m)) l
+  map-enough xs room law h e l = room-enough (bytesOf xs) s n room h (omega (arith, e, bytes-count xs law)) l
 
   -- There is room for the pieces of a view after a refresh, whose runs the mix has.
   pub fresh-enough : (v w : Bytes) (room : ℕ) {k : ℕ} → s + n ≤ OFFSET-MAX → length (runsOf (mix Refresh 0 0 0 v w)) ≤ k → 2 * k + 1 ≤ room →

@@ -19,19 +19,6 @@ pub record Here (xs : List ℕ) (p : ℕ) (r : Run) : Type 0 where
   pub number : getD xs (p + 2) 0 ≡ numberIn (r .cell)
   pub mark : getD xs (p + 3) 0 ≡ markIn (r .cell)
 
--- A run stands where its numbers stand behind others.
-pub here-behind : (xs a : List ℕ) (r : Run) (t : List ℕ) (p : ℕ) → xs ≡ a ++ (fours (r ∷ []) ++ t) → length a ≡ p → Here xs p r
-unfolding fours
-here-behind xs a r t p e l =
-    let z : p ≡ length a + 0 = omega arith in
-    record { start = ap (λ (k : ℕ). getD xs k 0) z ∙ at 0; size = place 1 ∙ at 1; number = place 2 ∙ at 2; mark = place 3 ∙ at 3 }
-  where
-    place : (k : ℕ) → getD xs (p + k) 0 ≡ getD xs (length a + k) 0
-    place k = ap (λ (q : ℕ). getD xs (q + k) 0) (sym l)
-
-    at : (k : ℕ) → getD xs (length a + k) 0 ≡ getD (fours (r ∷ []) ++ t) k 0
-    at k = ap (λ (ys : List ℕ). getD ys (length a + k) 0) e ∙ getD-append-add a (fours (r ∷ []) ++ t) k 0
-
 -- no run
 abbrev pub noRun : Run
 noRun = runOf 0 0 0

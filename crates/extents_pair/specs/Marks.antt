@@ -1,6 +1,5 @@
 -- The unpublished runs of a list.
-use mathlib.Core.Path.{_≡_}
-use mathlib.Core.Bool.{true, cond}
+use mathlib.Core.Bool.{cond}
 use mathlib.Core.List.{List, [], _∷_}
 use Rattle.extents_meaning.specs.Cells.{unpublished}
 use Rattle.extents_meaning.specs.Runs.{Run}
@@ -9,8 +8,3 @@ use Rattle.extents_meaning.specs.Runs.{Run}
 unfoldable pub marked : List Run → List Run
 marked [] = []
 marked (r ∷ rs) = cond (unpublished (r .cell)) (r ∷ marked rs) (marked rs)
-
--- All runs of a list are unpublished.
-abbrev pub Marked : List Run → Type 0
-Marked [] = Unit {0}
-Marked (r ∷ rs) = (unpublished (r .cell) ≡ true) × Marked rs

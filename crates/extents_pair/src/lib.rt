@@ -44,13 +44,10 @@ pub fn two_maps(maps: &[u32], space: usize, view: usize, below: usize) -> bool
     if !has_map(maps, space, below) {
         return false;
     }
-    let size = 4 * space;
-    let v = view * size;
-    if !extents_map::scan::is_lawful(&maps[v..v + size]) {
+    if !extents_map::scan::is_lawful(map_at(maps, space, view)) {
         return false;
     }
-    let w = below * size;
-    extents_map::scan::is_published(&maps[w..w + size])
+    extents_map::scan::is_published(map_at(maps, space, below))
 }
 
 // Is the slice long enough for map k?
@@ -66,19 +63,25 @@ fn has_map(maps: &[u32], space: usize, k: usize) -> bool
     k < maps.len() / (4 * space)
 }
 
+// Map k of a slice.
+fn map_at(maps: &[u32], space: usize, k: usize) -> &[u32]
+    requires { ⌜ (k + 1) * (4 * space) ≤ length (now maps) ⌝ }
+    ensures { λ r. ⌜ now r ≡ mapAt space k (now (maps .entry)) ⌝ }
+{
+    let size = 4 * space;
+    let at = k * size;
+    &maps[at..at + size]
+}
+
 // How many runs a mix of a view, the published map and a range has from one byte to another.
 fn count(maps: &[u32], pair: Pair, mix: Mix, from: u32, to: u32) -> usize
     requires { ⌜ twoMapsIn pair (now maps) ≡ true ⌝ }
     requires { ⌜ (from ≤ to) × (mix .start ≤ mix .end) ⌝ }
     ensures { λ r. ⌜ r ≡ length (runsFrom (to - from) from (mixIn mix (viewIn pair (now (maps .entry))) (belowIn pair (now (maps .entry))))) ⌝ }
 {
-    let space = pair.space;
-    let view = pair.view;
-    let below = pair.below;
-    let size = 4 * space;
-    let v = view * size;
-    let w = below * size;
-    extents_map::scan::count(&maps[v..v + size], &maps[w..w + size], mix, from, to)
+    let view = map_at(maps, pair.space, pair.view);
+    let below = map_at(maps, pair.space, pair.below);
+    extents_map::scan::count(view, below, mix, from, to)
 }
 
 // How many runs of map k are unpublished.
@@ -87,9 +90,7 @@ pub fn own_runs(maps: &[u32], space: usize, k: usize) -> usize
     requires { ⌜ lawful (mapAt space k (now maps)) ≡ true ⌝ }
     ensures { λ r. ⌜ r ≡ length (marked (runs (mapAt space k (now (maps .entry))))) ⌝ }
 {
-    let size = 4 * space;
-    let at = k * size;
-    marked_in(&maps[at..at + size])
+    marked_in(map_at(maps, space, k))
 }
 
 // Does a mix of a view, the published map and a range fit a map's space? The walk counts its runs only where the most that there can be are too
@@ -134,17 +135,10 @@ fn most_runs(maps: &[u32], pair: Pair, mode: Mode) -> usize
     ensures { λ r. ⌜ ((start n cell : ℕ) → length (runsOf (mix mode start n cell
         (viewIn pair (now (maps .entry))) (belowIn pair (now (maps .entry))))) ≤ r) ⌝ }
 {
-    let space = pair.space;
-    let view = pair.view;
-    let below = pair.below;
-    let own = pair.own;
-    let size = 4 * space;
-    let v = view * size;
     if is_mark_published(mode) {
-        return extents_map::locate::runs_in(&maps[v..v + size]) + 2;
+        return extents_map::locate::runs_in(map_at(maps, pair.space, pair.view)) + 2;
     }
-    let w = below * size;
-    extents_map::locate::runs_in(&maps[w..w + size]) + 2 * own + 2
+    extents_map::locate::runs_in(map_at(maps, pair.space, pair.below)) + 2 * pair.own + 2
 }
 
 // Does the mode mark the view published?
@@ -189,7 +183,7 @@ fn marked_in(map: &[u32]) -> usize
     let mut n = 0;
     let mut i = 0;
     while i < all {
-        n += map[i * 4 + 3] as usize;
+        n += extents_map::scan::mark_in(extents_map::locate::cell_at(map, i)) as usize;
         i += 1;
     }
     n
@@ -216,7 +210,5 @@ pub fn list(maps: &[u32], space: usize, k: usize, from: u32, to: u32, out: &mut 
     ensures { λ r. ⌜ r ≡ length (piecesOf (bytesOf (mapAt space k (now (maps .entry)))) from (to - from)) ⌝ }
     ensures { λ r. ⌜ now (out .exit) ≡ listedIn (piecesOf (bytesOf (mapAt space k (now (maps .entry)))) from (to - from)) (now (out .entry)) ⌝ }
 {
-    let size = 4 * space;
-    let at = k * size;
-    extents_map::list::list(&maps[at..at + size], from, to, out)
+    extents_map::list::list(map_at(maps, space, k), from, to, out)
 }
