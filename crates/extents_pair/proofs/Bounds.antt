@@ -11,8 +11,8 @@ use borrow.Author.Tests.{ltb-true}
 use Rattle.rows.proofs.Bools.{and-out}
 use Rattle.rows.specs.Limits.{OFFSET-MAX}
 use Rattle.extents_meaning.specs.Cells.{Bytes, unpublished, cleared, inRange, overwrite, asPublished}
-use Rattle.extents_meaning.specs.Runs.{Run, cellAt, runsFrom, runsOf, Rising, Lawful}
-use Rattle.extents_meaning.specs.Maps.{runs, mapAt}
+use Rattle.extents_meaning.specs.Runs.{Run, cellAt, runsOf, Rising, Lawful}
+use Rattle.extents_meaning.specs.Maps.{runs, bytesOf, lawful, mapAt}
 use Rattle.extents_meaning.specs.Points.{starts}
 use Rattle.extents_meaning.proofs.Longest.{mean-before, runs-same}
 use Rattle.extents_meaning.proofs.Trips.{lawful-map}
@@ -21,64 +21,56 @@ use Rattle.extents_meaning.proofs.Overwrites.{over-in, over-before, over-behind
 use Rattle.extents_map.specs.Mixes.{mixed, mix, makesMap, isMarkPublished}
 use Rattle.extents_map.specs.declared.scan.Mode.{Mode}
 use Rattle.extents_map.specs.declared.scan.Mode.the-variants.{Publish, MarkPublished, Refresh, ReadMap, ReadFresh}
-use Rattle.extents_meaning.specs.Pairs.{twoMaps, viewOf, belowOf}
+use Rattle.extents_meaning.specs.Pairs.{twoMaps}
 use Rattle.extents_pair.specs.Marks.{marked}
 use Rattle.extents_pair.proofs.Gathering.{marked-fewer}
 pub use Rattle.extents_pair.proofs.Gathering.{marked-first}
 use Rattle.extents_pair.proofs.Parts.{bytes-count}
-use Rattle.extents_pair.proofs.Pairing.{Told, two-told, map-few}
+use Rattle.extents_pair.proofs.Pairing.{two-told, map-few}
 
 -- ---- One range
 
--- bytes g that have the cell c from a to e, and elsewhere the cells of f
-module _ (a e c : ℕ) (f g : Bytes) (inside : (b : ℕ) → a ≤ b → b < e → g b ≡ c) (before : (b : ℕ) → b < a → g b ≡ f b)
-    (behind : (b : ℕ) → a ≤ b → e ≤ b → g b ≡ f b) where
+module _ (a n c : ℕ) (f : Bytes) where
+  -- some bytes with a range written over them
+  abbrev g : Bytes
+  g = overwrite a n c f
+
   -- Behind the range the bytes g have the starts of f.
-  starts-behind : (n s p : ℕ) → a ≤ s → e ≤ s → starts n s p g ≡ starts n s p f
+  starts-behind : (k s p : ℕ) → a + n ≤ s → starts k s p g ≡ starts k s p f
   unfolding starts
-  starts-behind zero s p h k = refl
-  starts-behind (suc n) s p h k = rw (behind s h k) (omega (arith, starts-behind n (suc s) (f s) (omega arith) (omega arith)))
+  starts-behind zero s p h = refl
+  starts-behind (suc k) s p h = rw (over-behind a n c f s h) (omega (arith, starts-behind k (suc s) (f s) (omega arith)))
 
   -- From a byte of the range on the bytes g have at most one start more.
-  starts-inside : (n s p : ℕ) → a ≤ s → s ≤ e → starts n s c g ≤ starts n s p f + 1
+  starts-inside : (k s p : ℕ) → a ≤ s → s ≤ a + n → starts k s c g ≤ starts k s p f + 1
   unfolding starts
-  starts-inside zero s p h k = omega arith
-  starts-inside (suc n) s p h k = go (decLt s e) (starts-inside n (suc s) (f s) (omega arith))
+  starts-inside zero s p h l = omega arith
+  starts-inside (suc k) s p h l = go (decLt s (a + n)) (starts-inside k (suc s) (f s) (omega arith))
     where
-      go : Dec (s < e) → (suc s ≤ e → starts n (suc s) c g ≤ starts n (suc s) (f s) f + 1) →
-          begins (g s) c + starts n (suc s) (g s) g ≤ begins (f s) p + starts n (suc s) (f s) f + 1
-      go (yes l) ih = rw (inside s h l) (omega (arith, begins-same c c refl, ih (omega arith)))
-      go (no l) ih =
-          let r = starts-behind n (suc s) (f s) (omega arith) (omega arith) in
-          rw (behind s h (omega arith)) (omega (arith, begins-most (f s) c, r))
+      go : Dec (s < a + n) → (suc s ≤ a + n → starts k (suc s) c g ≤ starts k (suc s) (f s) f + 1) →
+          begins (g s) c + starts k (suc s) (g s) g ≤ begins (f s) p + starts k (suc s) (f s) f + 1
+      go (yes m) ih = rw (over-in a n c f s h m) (omega (arith, begins-same c c refl, ih (omega arith)))
+      go (no m) ih =
+          rw (over-behind a n c f s (omega arith)) (omega (arith, begins-most (f s) c, starts-behind k (suc s) (f s) (omega arith)))
 
   -- From a byte before the range on the bytes g have at most two starts more.
-  starts-before : (n s p : ℕ) → s ≤ a → starts n s p g ≤ starts n s p f + 2
+  starts-before : (k s p : ℕ) → s ≤ a → starts k s p g ≤ starts k s p f + 2
   unfolding starts
   starts-before zero s p h = omega arith
-  starts-before (suc n) s p h = go (decLt s a) (decLt s e) (starts-before n (suc s) (f s))
+  starts-before (suc k) s p h = go (decLt s a) (decLt s (a + n)) (starts-before k (suc s) (f s))
     where
-      go : Dec (s < a) → Dec (s < e) → (suc s ≤ a → starts n (suc s) (f s) g ≤ starts n (suc s) (f s) f + 2) →
-          begins (g s) p + starts n (suc s) (g s) g ≤ begins (f s) p + starts n (suc s) (f s) f + 2
-      go (yes l) k ih = rw (before s l) (omega (arith, ih (omega arith)))
-      go (no l) (yes k) ih =
-          let r = starts-inside n (suc s) (f s) (omega arith) (omega arith) in
-          rw (inside s (omega arith) k) (omega (arith, begins-most c p, r))
-      go (no l) (no k) ih =
-          let r = starts-behind n (suc s) (f s) (omega arith) (omega arith) in
-          rw (behind s (omega arith) (omega arith)) (omega (arith, r))
+      go : Dec (s < a) → Dec (s < a + n) → (suc s ≤ a → starts k (suc s) (f s) g ≤ starts k (suc s) (f s) f + 2) →
+          begins (g s) p + starts k (suc s) (g s) g ≤ begins (f s) p + starts k (suc s) (f s) f + 2
+      go (yes l) m ih = rw (over-before a n c f s l) (omega (arith, ih (omega arith)))
+      go (no l) (yes m) ih =
+          let r = starts-inside k (suc s) (f s) (omega arith) (omega arith) in
+          rw (over-in a n c f s (omega arith) m) (omega (arith, begins-most c p, r))
+      go (no l) (no m) ih = rw (over-behind a n c f s (omega arith)) (omega (arith, starts-behind k (suc s) (f s) (omega arith)))
 
--- writing one range adds at most two runs
-pub over-more : (s n c : ℕ) (f : Bytes) → length (runsOf (overwrite s n c f)) ≤ length (runsOf f) + 2
-unfolding runsOf
-over-more s n c f =
-    let g = overwrite s n c f in
-    omega (
-      arith,
-      count-starts OFFSET-MAX 0 f,
-      count-starts OFFSET-MAX 0 g,
-      starts-before s (s + n) c f g (over-in s n c f) (over-before s n c f) (λ b _. over-behind s n c f b) OFFSET-MAX 0 0 (omega arith),
-    )
+  -- Writing one range adds at most two runs.
+  over-more : length (runsOf g) ≤ length (runsOf f) + 2
+  unfolding runsOf
+  over-more = omega (arith, count-starts OFFSET-MAX 0 f, count-starts OFFSET-MAX 0 g, starts-before OFFSET-MAX 0 0 (omega arith))
 
 -- ---- The ranges of some runs
 
@@ -131,48 +123,26 @@ module _ (rs : List Run) (law : Lawful rs) (w : Bytes) where
 
 -- ---- Two maps
 
-module _ (space view below : ℕ) (xs : List ℕ) (two : twoMaps space view below xs ≡ true) where
-  told : Told space view below xs
-  told = two-told space view below xs two
+module _ (v w : List ℕ) (v-law : lawful v ≡ true) (w-law : lawful w ≡ true) where
+  -- A view's unpublished bytes over the published map have at most two runs more than that for each unpublished run.
+  most-over : (h : ℕ → ℕ) → length (runsOf (λ b. over h (bytesOf v b) (bytesOf w b))) ≤ length (runs w) + 2 * length (marked (runs v))
+  most-over h = omega (arith, over-most (runs v) (lawful-map v v-law .lawful-runs) (bytesOf w) h, bytes-count w w-law)
 
-  -- The count of the view's unpublished runs is at most the space.
-  pub marked-room : {k : ℕ} → k ≡ length (marked (runs (mapAt space view xs))) → k ≤ space
-  marked-room e = omega (arith, e, marked-fewer (runs (mapAt space view xs)), map-few space view xs (told .view-in) (told .view-law))
-
-  -- A map marked published has at most two runs more than the view, for the range. The published map after publishing and the refreshed view
-  -- have at most two runs more than the published map for each unpublished run, and two for the range.
-  pub most : (start n c : ℕ) (mode : Mode) → makesMap mode ≡ true →
-      length (runsOf (mix mode start n c (viewOf space view below xs) (belowOf space view below xs))) ≤
-      cond (isMarkPublished mode) (length (runs (mapAt space view xs)) + 2)
-      (length (runs (mapAt space below xs)) + 2 * length (marked (runs (mapAt space view xs))) + 2)
+  -- The view marked published has at most two runs more, for the range. The published map after publishing and the refreshed view have at most
+  -- two runs more than the published map for each unpublished run, and two for the range.
+  pub most : (start n c : ℕ) (mode : Mode) → makesMap mode ≡ true → length (runsOf (mix mode start n c (bytesOf v) (bytesOf w))) ≤
+      cond (isMarkPublished mode) (length (runs v) + 2) (length (runs w) + 2 * length (marked (runs v)) + 2)
   unfolding mixed
-  most start n c mode h = go mode h
-    where
-      v : Bytes
-      v = viewOf space view below xs
+  most start n c Publish q = omega (arith, over-more start n c (λ b. over cleared (bytesOf v b) (bytesOf w b)), most-over cleared)
+  most start n c MarkPublished q =
+      omega (arith, over-more start n c (asPublished (bytesOf v)), runs-by cleared refl (bytesOf v), bytes-count v v-law)
+  most start n c Refresh q = omega (arith, most-over (λ k. k))
+  most start n c ReadMap q = absurd (false≢true q)
+  most start n c ReadFresh q = absurd (false≢true q)
 
-      w : Bytes
-      w = belowOf space view below xs
-
-      fresh : (h : ℕ → ℕ) → length (runsOf (λ b. over h (v b) (w b))) ≤ length (runs (mapAt space below xs)) + 2 * length (marked (runs (mapAt space view xs)))
-      fresh h =
-          omega (
-            arith,
-            over-most (runs (mapAt space view xs)) (lawful-map (mapAt space view xs) (told .view-law) .lawful-runs) w h,
-            bytes-count (mapAt space below xs) (told .below-law),
-          )
-
-      go : (mode : Mode) → makesMap mode ≡ true → length (runsOf (mix mode start n c v w)) ≤
-          cond (isMarkPublished mode) (length (runs (mapAt space view xs)) + 2)
-          (length (runs (mapAt space below xs)) + 2 * length (marked (runs (mapAt space view xs))) + 2)
-      go Publish q = omega (arith, over-more start n c (λ b. over cleared (v b) (w b)), fresh cleared)
-      go MarkPublished q =
-          omega (arith, over-more start n c (asPublished v), runs-by cleared refl v, bytes-count (mapAt space view xs) (told .view-law))
-      go Refresh q = omega (arith, fresh (λ k. k))
-      go ReadMap q = absurd (false≢true q)
-      go ReadFresh q = absurd (false≢true q)
-
--- all runs, counted from the first byte to the last
-pub all-most : (f : Bytes) {r : ℕ} → length (runsOf f) ≤ r → length (runsFrom (4294967295 - 0) 0 f) ≤ r
-unfolding runsOf
-all-most f h = h
+-- The count of the view's unpublished runs is at most the space.
+pub marked-room : (space view below : ℕ) (xs : List ℕ) → twoMaps space view below xs ≡ true → {k : ℕ} →
+    k ≡ length (marked (runs (mapAt space view xs))) → k ≤ space
+marked-room space view below xs two e =
+    let t = two-told space view below xs two in
+    omega (arith, e, marked-fewer (runs (mapAt space view xs)), map-few space view xs (t .view-in) (t .view-law))

@@ -9,13 +9,13 @@ use lib.ListN.{length}
 use lib.Dec.{ltb}
 use borrow.Author.Tests.{le-ltb, ltb-true, ltb-false}
 use Rattle.rows.specs.Limits.{OFFSET-MAX}
-use Rattle.extents_meaning.specs.Cells.{Bytes, numberIn, refreshed}
+use Rattle.extents_meaning.specs.Cells.{Bytes, numberIn}
 use Rattle.extents_meaning.specs.Runs.{Run, runsFrom, runsOf, piecesOf}
 use Rattle.extents_meaning.specs.Maps.{runs, bytesOf, lawful}
 use Rattle.extents_meaning.specs.Points.{starts}
 use Rattle.extents_meaning.proofs.Points.{begins, begins-same, begins-one, begins-most, count-starts}
 use Rattle.extents_map.specs.Mixes.{mixed, mix}
-use Rattle.extents_map.specs.declared.scan.Mode.the-variants.{Refresh, ReadMap, ReadFresh}
+use Rattle.extents_map.specs.declared.scan.Mode.the-variants.{ReadMap}
 use Rattle.extents_pair.proofs.Parts.{bytes-count}
 
 -- the pieces of the same range, said by its end
@@ -61,17 +61,15 @@ module _ (f : Bytes) where
   named-part (suc d) zero n s c t e h = absurd (omega arith)
   named-part (suc d) (suc k) n s c t e h = omega (arith, named-begins (f s) c, named-part d k n (suc s) (f s) t (omega arith) (omega arith))
 
-  -- a range has at most two pieces for each run, and one more
-  pub pieces-few : (s n : ℕ) → s + n ≤ OFFSET-MAX → length (piecesOf f s n) ≤ 2 * length (runsOf f) + 1
-  unfolding runsOf piecesOf
-  pieces-few s n h = omega (arith, count-starts n s named, count-starts OFFSET-MAX 0 f, named-part s OFFSET-MAX n 0 0 s (omega arith) h)
-
-  -- A room for two pieces of each run, and one more, is enough.
+  -- A range has at most two pieces for each run, and one more: a room for so many is enough.
   pub room-enough : (s n room : ℕ) {k : ℕ} → s + n ≤ OFFSET-MAX → length (runsOf f) ≤ k → 2 * k + 1 ≤ room →
       false ≡ ltb room (length (piecesOf f s n))
-  room-enough s n room h m l = sym (le-ltb room (length (piecesOf f s n)) (omega (arith, pieces-few s n h)))
+  unfolding runsOf piecesOf
+  room-enough s n room h m l =
+      let few = named-part s OFFSET-MAX n 0 0 s (omega arith) h in
+      sym (le-ltb room (length (runsFrom n s named)) (omega (arith, m, count-starts n s named, count-starts OFFSET-MAX 0 f, few)))
 
--- ---- A map, and a view after a refresh
+-- ---- A map
 
 module _ (s n : ℕ) where
   -- there is room for the pieces of a lawful map
@@ -79,21 +77,10 @@ module _ (s n : ℕ) where
       false ≡ ltb room (length (piecesOf (bytesOf xs) s n))
   map-enough xs room law h e l = room-enough (bytesOf xs) s n room h (omega (arith, e, bytes-count xs law)) l
 
-  -- There is room for the pieces of a view after a refresh, whose runs the mix has.
-  pub fresh-enough : (v w : Bytes) (room : ℕ) {k : ℕ} → s + n ≤ OFFSET-MAX → length (runsOf (mix Refresh 0 0 0 v w)) ≤ k → 2 * k + 1 ≤ room →
-      false ≡ ltb room (length (piecesOf (refreshed v w) s n))
-  unfolding mixed
-  fresh-enough v w room = room-enough (refreshed v w) s n room
-
   -- the walk counts the pieces
   pub map-counted : (v w : Bytes) {r : ℕ} → r ≡ length (runsFrom n s (mix ReadMap 0 0 0 v w)) → r ≡ length (piecesOf v s n)
   unfolding mixed piecesOf
   map-counted v w e = e
-
-  -- The walk counts the pieces of a view after a refresh.
-  pub fresh-counted : (v w : Bytes) {r : ℕ} → r ≡ length (runsFrom n s (mix ReadFresh 0 0 0 v w)) → r ≡ length (piecesOf (refreshed v w) s n)
-  unfolding mixed piecesOf
-  fresh-counted v w e = e
 
 -- ---- An answer slice, three numbers for each piece
 

@@ -1,29 +1,26 @@
 -- `extents_pair::fits` meets its contract.
-use Prim.Native.Nat.{ℕ, _-_}
+use Prim.Native.Nat.{ℕ, _-_, _≤_}
 use native.Mathlib.Omega.{arith}
-use mathlib.Core.Path.{sym, ap}
-use lib.ListN.{length}
+use mathlib.Core.Path.{_≡_, sym, ap}
+use mathlib.Core.Bool.{true}
 use lib.Dec.{leb}
 use borrow.Author.Tests.{le-leb}
-use denote.Ref.{now}
-use Rattle.extents_meaning.specs.Cells.{Bytes}
-use Rattle.extents_meaning.specs.Runs.{runsFrom}
-use Rattle.extents_map.specs.Mixes.{mix}
-use Rattle.extents_pair.specs.InPairs.{viewIn, belowIn}
-use Rattle.extents_pair.proofs.Bounds.{all-most}
+use Rattle.extents_meaning.specs.Runs.{runsOf}
 use Rattle.extents_pair.proofs.fits.Statement.{statement}
 use Rattle.extents_pair.proofs.fits.Tie as tie
+
+-- What is at most k is at most a limit that k keeps.
+within : {n k limit : ℕ} → n ≤ k → k ≤ limit → true ≡ leb n limit
+within {n} {k} {limit} h l = sym (le-leb n limit (omega arith))
 
 most-runs-requires : tie.Need-most-runs-requires
 most-runs-requires c κs = (c .before .pre .0, c .before .pre .1 .0, c .before .pre .1 .2)
 
 returns : tie.Need-returns
+unfolding runsOf
 returns c =
-    let p3 = c .before .before .before in
-    let a = p3 .args in
-    let f : Bytes = mix (a .mode) (a .start) (a .end - a .start) (a .cell) (viewIn (a .pair) (now (a .maps))) (belowIn (a .pair) (now (a .maps))) in
-    let most = all-most f (c .before .most-runs .ensures (a .start) (a .end - a .start) (a .cell)) in
-    sym (le-leb (length (runsFrom (4294967295 - 0) 0 f)) (a .pair .space) (omega (arith, most, c .if1 .taken)))
+    let a = c .before .before .before .args in
+    within (c .before .most-runs .ensures (a .start) (a .end - a .start) (a .cell)) (c .if1 .taken)
 
 count-requires : tie.Need-count-requires
 count-requires c κs =
