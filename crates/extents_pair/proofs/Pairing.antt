@@ -2,26 +2,24 @@
 use Prim.Native.Nat.{ℕ, _+_, _*_, _-_, _/_, _≤_, _<_, max}
 use native.Mathlib.Omega.{arith}
 use native.Mathlib.Decide.{decLt}
-use native.Mathlib.Nat.{le-div-iff-mul-le, div-lt-iff-lt-mul}
+use native.Mathlib.Nat.{le-div-iff-mul-le}
 use mathlib.Core.Path.{_≡_, refl, sym, ap, _∙_}
 use mathlib.Core.Logic.{_⊎_, inl, inr}
-use mathlib.Core.Bool.{Bool, true, false, cond, not, _&&_, false≢true}
+use mathlib.Core.Bool.{true, not, false≢true}
 use mathlib.Core.List.{List}
 use lib.ListN.{length, take, drop, getD, set, length-set}
 use lib.Seq.{getD-take, getD-drop, getD-set-same, getD-set-other}
 use lib.Dec.{leb, ltb, eqb}
-use borrow.Author.Tests.{leb-true, lt-ltb, le-ltb, le-leb, lt-leb, eq-eqb, ne-eqb}
+use borrow.Author.Tests.{leb-true, ltb-true, lt-ltb, le-leb, eq-eqb, ne-eqb}
 use borrow.Rule.Slice.PartMut.{putMid}
 use Rattle.extents_meaning.specs.Cells.{Bytes}
-use Rattle.extents_meaning.specs.Runs.{runsOf}
-use Rattle.extents_meaning.specs.Maps.{mapOf, mapFor, spaceIn, runs, bytesOf, lawful, lawfulPublished, mapAt, withMap}
-use Rattle.extents_meaning.proofs.Longest.{runs-back}
+use Rattle.extents_meaning.specs.Maps.{mapFor, spaceIn, runs, bytesOf, lawful, lawfulPublished, mapAt, withMap}
 use Rattle.extents_meaning.proofs.Trips.{lawful-map}
-use Rattle.rows.proofs.Bools.{and-out}
+use Rattle.rows.proofs.Bools.{and-out, same-test}
 use Rattle.rows.proofs.Products.{block-before}
 use Rattle.extents_meaning.proofs.Sides.{part-is, with-part}
 use Rattle.extents_meaning.specs.Pairs.{twoMaps}
-use Rattle.extents_pair.proofs.Parts.{lent, home, part-length, laid-fit}
+use Rattle.extents_pair.proofs.Parts.{lent, home, part-length, bytes-map}
 use Rattle.extents_pair.proofs.Spots.{zero-behind}
 
 -- Maps of different numbers in a slice of maps of n numbers each stand apart.
@@ -34,26 +32,13 @@ rows-apart k j n h = go (decLt k j)
 
 -- ---- Is there room for a map?
 
-module _ (space k n : ℕ) where
-  -- maps without space need none
-  pub room-none : space ≡ 0 → true ≡ leb ((k + 1) * (4 * space)) n
-  room-none e = sym (le-leb ((k + 1) * (4 * space)) n (omega (arith, ap (λ (s : ℕ). (k + 1) * (4 * s)) e)))
-
-  -- a slice too short for one map has none
-  pub room-short : n / 4 < space → false ≡ leb ((k + 1) * (4 * space)) n
-  room-short h = sym (lt-leb ((k + 1) * (4 * space)) n (omega arith))
-
-  -- others have as many as fit
-  pub room-count : 0 < 4 * space → ltb k (n / (4 * space)) ≡ leb ((k + 1) * (4 * space)) n
-  room-count h = go (decLt k (n / (4 * space)))
-    where
-      go : Dec (k < n / (4 * space)) → ltb k (n / (4 * space)) ≡ leb ((k + 1) * (4 * space)) n
-      go (yes l) =
-          let m : k + 1 ≤ n / (4 * space) = omega (arith, l) in
-          lt-ltb k (n / (4 * space)) l ∙ sym (le-leb ((k + 1) * (4 * space)) n (le-div-iff-mul-le h .0 m))
-      go (no l) =
-          let m : n / (4 * space) < k + 1 = omega (arith, l) in
-          le-ltb k (n / (4 * space)) (omega (arith, l)) ∙ sym (lt-leb ((k + 1) * (4 * space)) n (div-lt-iff-lt-mul h .0 m))
+-- A slice has as many maps as fit.
+pub room-count : (space k n : ℕ) → 0 < 4 * space → ltb k (n / (4 * space)) ≡ leb ((k + 1) * (4 * space)) n
+room-count space k n h =
+    let top = n / (4 * space) in
+    same-test (ltb k top) (leb ((k + 1) * (4 * space)) n)
+    (λ e. le-leb ((k + 1) * (4 * space)) n (le-div-iff-mul-le h .0 (omega (arith, ltb-true k top e))))
+    (λ e. let m : k + 1 ≤ top = le-div-iff-mul-le h .1 (leb-true ((k + 1) * (4 * space)) n e) in lt-ltb k top (omega arith))
 
 -- ---- Two maps
 
@@ -79,39 +64,14 @@ module _ (space view below : ℕ) (xs : List ℕ) where
         below-law = and-out (lawful (mapAt space below xs)) _ (e4 .1) .0;
       }
 
-  -- what is asked of the maps, of both rooms, and of the second
-  abbrev laws : Bool
-  laws = lawful (mapAt space view xs) && lawfulPublished (mapAt space below xs)
+  -- the two maps stand at two places
+  pub two-apart : twoMaps space view below xs ≡ true → view ≡ below → ⊥
+  two-apart e q = false≢true (sym (rw (eq-eqb view below q)) ∙ e)
 
-  abbrev rest : Bool
-  rest = leb ((below + 1) * (4 * space)) (length xs) && laws
-
-  -- no two places
-  pub same-place : view ≡ below → false ≡ twoMaps space view below xs
-  same-place h = sym (ap (λ (x : Bool). not x && (leb ((view + 1) * (4 * space)) (length xs) && rest)) (eq-eqb view below h))
-
-  module _ (apart : view ≡ below → ⊥) where
-    -- no room for the first
-    pub no-view : leb ((view + 1) * (4 * space)) (length xs) ≡ false → false ≡ twoMaps space view below xs
-    no-view a = sym (λ i. not (ne-eqb view below apart i) && (a i && rest))
-
-    module _ (a : leb ((view + 1) * (4 * space)) (length xs) ≡ true) where
-      -- nor for the second
-      pub no-below : leb ((below + 1) * (4 * space)) (length xs) ≡ false → false ≡ twoMaps space view below xs
-      no-below b = sym (λ i. not (ne-eqb view below apart i) && (a i && (b i && laws)))
-
-      module _ (b : leb ((below + 1) * (4 * space)) (length xs) ≡ true) where
-        -- the first is not lawful
-        pub no-law : lawful (mapAt space view xs) ≡ false → false ≡ twoMaps space view below xs
-        no-law d = sym (λ i. not (ne-eqb view below apart i) && (a i && (b i && (d i && lawfulPublished (mapAt space below xs)))))
-
-        -- the second decides
-        pub last-law : lawful (mapAt space view xs) ≡ true → lawfulPublished (mapAt space below xs) ≡ twoMaps space view below xs
-        last-law d = sym (λ i. not (ne-eqb view below apart i) && (a i && (b i && (d i && lawfulPublished (mapAt space below xs)))))
-
--- the two maps stand at two places
-pub two-apart : (space view below : ℕ) (xs : List ℕ) → twoMaps space view below xs ≡ true → view ≡ below → ⊥
-two-apart space view below xs e q = false≢true (sym (rw (eq-eqb view below q)) ∙ e)
+  -- where all else is so, the second map decides
+  pub last-law : (view ≡ below → ⊥) → leb ((view + 1) * (4 * space)) (length xs) ≡ true → leb ((below + 1) * (4 * space)) (length xs) ≡ true →
+      lawful (mapAt space view xs) ≡ true → lawfulPublished (mapAt space below xs) ≡ twoMaps space view below xs
+  last-law apart a b d = rw (ne-eqb view below apart, a, b, d)
 
 -- ---- A map lent and home again
 
@@ -135,29 +95,13 @@ module _ (space k : ℕ) (xs : List ℕ) where
 
     -- The bytes of a lawful map write that map.
     pub map-whole : lawful (mapAt space k xs) ≡ true → mapFor space (bytesOf (mapAt space k xs)) ≡ mapAt space k xs
-    map-whole law =
-        let m = lawful-map (mapAt space k xs) law in
-        (λ i. mapOf (sym map-space i) (runs-back (runs (mapAt space k xs)) (m .lawful-runs) i)) ∙ sym (m .whole)
+    map-whole law = ap (λ (n : ℕ). mapFor n (bytesOf (mapAt space k xs))) (sym map-space) ∙ bytes-map (mapAt space k xs) law
 
     -- The runs of a lawful map fit the space.
     pub map-few : lawful (mapAt space k xs) ≡ true → length (runs (mapAt space k xs)) ≤ space
     map-few law = omega (arith, lawful-map (mapAt space k xs) law .fit, map-space)
 
-    -- laid anew, it comes home
-    pub laid-home : (f : Bytes → Bytes) → length (runsOf (f (bytesOf (mapAt space k xs)))) ≤ space → {r : Bool} {last : List ℕ} →
-        r ≡ leb (length (runsOf (f (bytesOf lentMap)))) (spaceIn lentMap) → last ≡ cond r (mapFor (spaceIn lentMap) (f (bytesOf lentMap))) lentMap →
-        putMid (k * (4 * space)) (k * (4 * space) + 4 * space - k * (4 * space)) xs last ≡
-        withMap space k (mapFor space (f (bytesOf (mapAt space k xs)))) xs
-    laid-home f h {r} {last} a b =
-        let m = mapAt space k xs in
-        let e = map-lent in
-        let laid : last ≡ mapFor (spaceIn m) (f (bytesOf m)) =
-        laid-fit m (f (bytesOf m)) (omega (arith, h, map-space)) (a ∙ (λ i. leb (length (runsOf (f (bytesOf (e i))))) (spaceIn (e i))))
-        (b ∙ (λ i. cond r (mapFor (spaceIn (e i)) (f (bytesOf (e i)))) (e i))) in
-        home (k * (4 * space)) (4 * space) xs last
-        ∙ ap (λ (l : List ℕ). withMap space k l xs) (laid ∙ ap (λ (n : ℕ). mapFor n (f (bytesOf m))) map-space)
-
-    -- made anew without a question, it comes home too
+    -- The map made anew comes home.
     pub made-home : (f : Bytes → Bytes) → {last : List ℕ} → last ≡ mapFor (spaceIn lentMap) (f (bytesOf lentMap)) →
         putMid (k * (4 * space)) (k * (4 * space) + 4 * space - k * (4 * space)) xs last ≡
         withMap space k (mapFor space (f (bytesOf (mapAt space k xs)))) xs

@@ -18,7 +18,7 @@ use Rattle.extents_meaning.specs.Maps.{mapOf, mapFor, spaceIn, runs, bytesOf, l
 use Rattle.extents_meaning.proofs.Longest.{mean-behind, runs-mean, runs-same, runs-lawful, runs-back, lawful-fine}
 use Rattle.extents_meaning.proofs.Trips.{length-map, map-back, map-lawful, lawful-map}
 use Rattle.extents_pair.specs.RangeWrites.{withBytes, MapsApart}
-use Rattle.extents_pair.proofs.Sweeps.{over-none, Fits}
+use Rattle.extents_pair.proofs.Sweeps.{over-out, Fits}
 
 -- ---- A part lent and home again
 
@@ -199,10 +199,6 @@ module _ {size v w : ℕ} {xs : List ℕ} (t : MapsApart size v w xs) {f : Bytes
   holds-below : partAt w size ys ≡ map
   holds-below = ap (partAt w size) (k .same) ∙ part-with w size xs (t .below-in) map map-length
 
-  -- The map in the slice has the bytes.
-  pub holds-bytes : (b : ℕ) → bytesOf (partAt w size ys) b ≡ f b
-  holds-bytes b = ap (λ (m : List ℕ). bytesOf m b) holds-below ∙ fits-back (size / 4) f (k .fits) b
-
   -- both maps are lawful still
   pub holds-two : MapsApart size v w ys
   holds-two =
@@ -212,17 +208,6 @@ module _ {size v w : ℕ} {xs : List ℕ} (t : MapsApart size v w xs) {f : Bytes
         apart = t .apart;
         view = ap lawful holds-view ∙ t .view;
         below = ap lawful holds-below ∙ fits-lawful (size / 4) f (k .fits);
-      }
-
-  -- The map of other bytes takes the place of the map.
-  pub holds-next : {zs : List ℕ} (g h : Bytes) → Fits (size / 4) g → ((b : ℕ) → h b ≡ g b) → zs ≡ withBytes size w h ys → Holds size w xs g zs
-  holds-next g h a e q =
-      record {
-        fits = a;
-        same =
-            q ∙ ap (λ (m : List ℕ). withPart w size m ys) (map-same (size / 4) h g e)
-            ∙ ap (withBytes size w g) (k .same)
-            ∙ with-with w size xs (t .below-in) map map-length (mapFor (size / 4) g);
       }
 
   -- the view as it is lent is the old one
@@ -243,13 +228,19 @@ module _ {size v w : ℕ} {xs : List ℕ} (t : MapsApart size v w xs) {f : Bytes
 
   -- The lent published map has the bytes.
   pub lent-bytes : (b : ℕ) → bytesOf (take (w + size - w) (drop w ys)) b ≡ f b
-  lent-bytes b = ap (λ (l : List ℕ). bytesOf l b) (lent w size ys) ∙ holds-bytes b
+  lent-bytes b = ap (λ (l : List ℕ). bytesOf l b) (lent w size ys ∙ holds-below) ∙ fits-back (size / 4) f (k .fits) b
 
   -- The lent published map comes back with other bytes.
   pub lent-next : (g h : Bytes) → Fits (size / 4) g → ((b : ℕ) → h b ≡ g b) → {last : List ℕ} →
       last ≡ mapFor (spaceIn (take (w + size - w) (drop w ys))) h → Holds size w xs g (putMid w (w + size - w) ys last)
   lent-next g h a e {last} q =
-      holds-next g h a e (home w size ys last ∙ ap (λ (m : List ℕ). withPart w size m ys) (q ∙ (λ j. mapFor (lent-space j) h)))
+      record {
+        fits = a;
+        same =
+            home w size ys last
+            ∙ (λ j. withPart w size ((q ∙ (λ i. mapFor (lent-space i) h) ∙ map-same (size / 4) h g e) j) (k .same j))
+            ∙ with-with w size xs (t .below-in) map map-length (mapFor (size / 4) g);
+      }
 
 -- ---- A range laid in a map
 
@@ -258,7 +249,7 @@ module _ (xs : List ℕ) (e : lawful xs ≡ true) (from to : ℕ) where
   pub laid-none : (c : ℕ) → to ≤ from → xs ≡ mapFor (spaceIn xs) (overwrite from (to - from) c (bytesOf xs))
   laid-none c h =
       let f = overwrite from (to - from) c (bytesOf xs) in
-      sym (map-same (spaceIn xs) f (bytesOf xs) (λ b. over-none from to c (bytesOf xs) b h) ∙ bytes-map xs e)
+      sym (map-same (spaceIn xs) f (bytesOf xs) (λ b. over-out from to c (bytesOf xs) b (λ l. omega arith)) ∙ bytes-map xs e)
 
 -- what fits is laid
 pub laid-fit : (xs : List ℕ) (f : Bytes) {r : Bool} {ys : List ℕ} → length (runsOf f) ≤ spaceIn xs →

@@ -1,14 +1,8 @@
 -- `extents_pair::most_runs` meets its contract.
-use Prim.Native.Nat.{ℕ, _+_, _*_, _≤_}
 use native.Mathlib.Omega.{arith}
 use mathlib.Core.Path.{sym, ap, _∙_}
-use mathlib.Core.Bool.{cond}
-use lib.ListN.{length}
 use denote.Ref.{now}
-use Rattle.extents_meaning.specs.Runs.{runsOf}
-use Rattle.extents_meaning.specs.Maps.{runs, lawful, mapAt}
-use Rattle.extents_map.specs.Mixes.{mix, isMarkPublished}
-use Rattle.extents_pair.specs.InPairs.{viewIn, belowIn}
+use Rattle.extents_meaning.specs.Maps.{lawful, mapAt}
 use Rattle.extents_pair.proofs.Pairing.{Told, two-told, map-few}
 use Rattle.extents_pair.proofs.Bounds.{marked-room, most}
 use Rattle.extents_pair.proofs.most_runs.Statement.{statement}
