@@ -105,11 +105,7 @@ module _ (space k : ℕ) (xs : List ℕ) where
     pub made-home : (f : Bytes → Bytes) → {last : List ℕ} → last ≡ mapFor (spaceIn lentMap) (f (bytesOf lentMap)) →
         putMid (k * (4 * space)) (k * (4 * space) + 4 * space - k * (4 * space)) xs last ≡
         withMap space k (mapFor space (f (bytesOf (mapAt space k xs)))) xs
-    made-home f {last} b =
-        let m = mapAt space k xs in
-        let e = map-lent in
-        home (k * (4 * space)) (4 * space) xs last
-        ∙ ap (λ (l : List ℕ). withMap space k l xs) (b ∙ (λ i. mapFor (spaceIn (e i)) (f (bytesOf (e i)))) ∙ ap (λ (n : ℕ). mapFor n (f (bytesOf m))) map-space)
+    made-home f {last} b = rw (home (k * (4 * space)) (4 * space) xs last, b, map-lent, map-space)
 
 -- ---- A map copied
 

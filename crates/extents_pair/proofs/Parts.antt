@@ -7,7 +7,7 @@ use mathlib.Core.Logic.{_⊎_, inl, inr}
 use mathlib.Core.Bool.{Bool, true, cond}
 use mathlib.Core.List.{List, _++_, append-assoc}
 use lib.ListN.{length, take, drop, length-append, length-drop, take-append-drop}
-use lib.Seq.{length-take-le, drop-drop, take-at, drop-at, take-append-le, drop-append-le}
+use lib.Seq.{length-take-le, drop-drop, take-add, take-at, drop-at, take-append-le, drop-append-le}
 use lib.Dec.{leb}
 use borrow.Author.Tests.{le-leb}
 use borrow.Rule.Slice.PartMut.{putMid}
@@ -28,10 +28,7 @@ lent at size xs = let e : at + size - at ≡ size = omega arith in ap (λ (n : �
 
 -- A lent part comes back changed.
 pub home : (at size : ℕ) (xs m : List ℕ) → putMid at (at + size - at) xs m ≡ withPart at size m xs
-home at size xs m =
-    let e : at + (at + size - at) ≡ at + size = omega arith in
-    ap (λ (l : List ℕ). take at xs ++ (m ++ l)) (drop-drop (at + size - at) at xs ∙ ap (λ (n : ℕ). drop n xs) e)
-    ∙ sym (append-assoc (take at xs) m (drop (at + size) xs))
+home at size xs m = let e : at + (at + size - at) ≡ at + size = omega arith in rw (drop-drop, e, append-assoc)
 
 -- ---- Laws of parts
 
@@ -46,11 +43,7 @@ module _ (at size : ℕ) (xs : List ℕ) (h : at + size ≤ length xs) where
 
   -- a part put where it stands
   pub with-part : withPart at size (partAt at size xs) xs ≡ xs
-  with-part =
-      append-assoc (take at xs) (partAt at size xs) (drop (at + size) xs)
-      ∙ ap (λ (l : List ℕ). take at xs ++ (partAt at size xs ++ l)) (sym (drop-drop size at xs))
-      ∙ ap (λ (l : List ℕ). take at xs ++ l) (take-append-drop size (drop at xs))
-      ∙ take-append-drop at xs
+  with-part = rw (← take-add at size xs) (take-append-drop (at + size) xs)
 
   module _ (m : List ℕ) (l : length m ≡ size) where
     -- The length of what lies before the part and of the part.
@@ -59,8 +52,7 @@ module _ (at size : ℕ) (xs : List ℕ) (h : at + size ≤ length xs) where
 
     -- The numbers before the part stay.
     take-with : take at (withPart at size m xs) ≡ take at xs
-    take-with =
-        ap (take at) (append-assoc (take at xs) m (drop (at + size) xs)) ∙ take-at (take at xs) (m ++ drop (at + size) xs) at before-length
+    take-with = rw append-assoc (take-at (take at xs) (m ++ drop (at + size) xs) at before-length)
 
     -- What lies behind the part stays.
     drop-with : drop (at + size) (withPart at size m xs) ≡ drop (at + size) xs
@@ -72,10 +64,7 @@ module _ (at size : ℕ) (xs : List ℕ) (h : at + size ≤ length xs) where
 
     -- the part is read back
     pub part-with : partAt at size (withPart at size m xs) ≡ m
-    part-with =
-        ap (λ (ys : List ℕ). take size (drop at ys)) (append-assoc (take at xs) m (drop (at + size) xs))
-        ∙ ap (take size) (drop-at (take at xs) (m ++ drop (at + size) xs) at before-length)
-        ∙ take-at m (drop (at + size) xs) size l
+    part-with = rw (append-assoc, drop-at (take at xs) (m ++ drop (at + size) xs) at before-length) (take-at m (drop (at + size) xs) size l)
 
     -- the last part counts
     pub with-with : (n : List ℕ) → withPart at size n (withPart at size m xs) ≡ withPart at size n xs
@@ -83,23 +72,16 @@ module _ (at size : ℕ) (xs : List ℕ) (h : at + size ≤ length xs) where
 
     -- a part that stands apart is as it was
     pub part-apart : (o : ℕ) → (o + size ≤ at) ⊎ (at + size ≤ o) → partAt o size (withPart at size m xs) ≡ partAt o size xs
-    part-apart o (inl k) =
-        ap (λ (ys : List ℕ). take size (drop o ys)) (append-assoc (take at xs) m (drop (at + size) xs))
-        ∙ front (m ++ drop (at + size) xs)
-        ∙ sym (front (drop at xs))
-        ∙ ap (λ (ys : List ℕ). take size (drop o ys)) (take-append-drop at xs)
+    part-apart o (inl k) = rw append-assoc (front (m ++ drop (at + size) xs) ∙ sym (front (drop at xs)) ∙ ap (partAt o size) (take-append-drop at xs))
       where
-        front : (rest : List ℕ) → take size (drop o (take at xs ++ rest)) ≡ take size (drop o (take at xs))
+        front : (rest : List ℕ) → partAt o size (take at xs ++ rest) ≡ partAt o size (take at xs)
         front rest =
             ap (take size) (drop-append-le o (take at xs) rest (omega (arith, before-length)))
             ∙ take-append-le size (drop o (take at xs)) rest (omega (arith, before-length, length-drop o (take at xs)))
     part-apart o (inr k) =
-        let e : at + size + (o - (at + size)) ≡ o = omega arith in
-        ap (λ (n : ℕ). take size (drop n (withPart at size m xs))) (sym e)
-        ∙ ap (take size) (sym (drop-drop (o - (at + size)) (at + size) (withPart at size m xs)))
-        ∙ ap (λ (ys : List ℕ). take size (drop (o - (at + size)) ys)) drop-with
-        ∙ ap (take size) (drop-drop (o - (at + size)) (at + size) xs)
-        ∙ ap (λ (n : ℕ). take size (drop n xs)) e
+        let d = o - (at + size) in
+        let e : o ≡ at + size + d = omega arith in
+        rw (e, ← drop-drop d (at + size) (withPart at size m xs), ← drop-drop d (at + size) xs, drop-with)
 
 -- ---- Bytes of maps
 

@@ -2,7 +2,7 @@
 use native.Mathlib.Omega.{arith}
 use mathlib.Core.Path.{sym, ap, _∙_}
 use denote.Ref.{now}
-use Rattle.extents_meaning.specs.Maps.{lawful, mapAt}
+use Rattle.extents_meaning.specs.Maps.{lawful}
 use Rattle.extents_pair.proofs.Pairing.{Told, two-told, map-few}
 use Rattle.extents_pair.proofs.Bounds.{marked-room, most}
 use Rattle.extents_pair.proofs.most_runs.Statement.{statement}
@@ -32,13 +32,9 @@ add-result c =
 returns : tie.Need-returns
 returns c =
     let s = c .before .before .before .before .before in
-    let a = s .args in
-    let p = a .pair in
-    let t = told s in
     let q = sym (c .before .before .before .is-mark-published .ensures) ∙ c .before .before .if1 .taken in
     let e = rw (c .before .map-at .ensures) at (c .runs-in .ensures) in
-    let m = most (mapAt (p .space) (p .view) (now (a .maps))) (mapAt (p .space) (p .below) (now (a .maps))) (t .view-law) (t .below-law) in
-    λ start n cell. omega (arith, e, rw q at (m start n cell (a .mode) (s .pre .1)))
+    λ start n cell. omega (arith, e, rw q at (most _ _ (told s .view-law) (told s .below-law) start n cell (s .args .mode) (s .pre .1)))
 
 map-at-requires-2 : tie.Need-map-at-requires-2
 map-at-requires-2 c κs = told (c .before .before .before) .below-in
@@ -66,13 +62,9 @@ add-result-2 c = omega (arith, add-result-3 c)
 returns-2 : tie.Need-returns-2
 returns-2 c =
     let s = c .before .before .before .before .before .before in
-    let a = s .args in
-    let p = a .pair in
-    let t = told s in
     let q = sym (c .before .before .before .before .is-mark-published .ensures) ∙ c .before .before .before .if1 .left in
     let e = rw (c .before .before .map-at2 .ensures) at (c .before .runs-in2 .ensures) in
-    let m = most (mapAt (p .space) (p .view) (now (a .maps))) (mapAt (p .space) (p .below) (now (a .maps))) (t .view-law) (t .below-law) in
-    λ start n cell. omega (arith, e, s .pre .2, rw q at (m start n cell (a .mode) (s .pre .1)))
+    λ start n cell. omega (arith, e, s .pre .2, rw q at (most _ _ (told s .view-law) (told s .below-law) start n cell (s .args .mode) (s .pre .1)))
 
 pub most-runs-spec : {M : Type 1} → statement M
 most-runs-spec =
