@@ -1,5 +1,5 @@
 -- The unpublished runs of a map and what they mean.
-use Prim.Native.Nat.{ℕ, suc, _+_, _≤_, _<_}
+use Prim.Native.Nat.{ℕ, suc, _+_, _*_, _≤_, _<_}
 use native.Mathlib.Omega.{arith}
 use mathlib.Core.Path.{_≡_, refl, ap, _∙_}
 use mathlib.Core.Bool.{Bool, true, false, cond, not, _&&_}
@@ -9,10 +9,10 @@ use lib.Seq.{drop-cons}
 use borrow.Author.Tests.{eqb-true, eqb-false}
 use Rattle.extents_meaning.specs.Cells.{Bytes, markIn, unpublished, published, asPublished, refreshed}
 use Rattle.extents_meaning.specs.Runs.{Run, cellAt, Lawful}
-use Rattle.extents_meaning.specs.Maps.{noMarks}
+use Rattle.extents_meaning.specs.Maps.{noMarks, runs, lawful}
 use Rattle.extents_meaning.proofs.Trips.{no-marks-out}
 use Rattle.extents_pair.specs.Marks.{marked}
-use Rattle.extents_pair.proofs.Spots.{noRun}
+use Rattle.extents_pair.proofs.Spots.{noRun, here-at}
 
 -- ---- Unpublished runs
 
@@ -35,13 +35,15 @@ marked-first r rs = go (unpublished (r .cell)) refl
     go true e = omega (arith, eqb-true (markIn (r .cell)) 1 e)
     go false e = let z : markIn (r .cell) ≡ 1 → ⊥ = eqb-false (markIn (r .cell)) 1 e in omega arith
 
--- The mark of run i tells whether there is one more from run i on than behind it.
-pub marked-at : (rs : List Run) (i : ℕ) → i < length rs →
-    length (marked (drop i rs)) ≡ markIn (getD rs i noRun .cell) + length (marked (drop (i + 1) rs))
-marked-at rs i h =
+-- The mark of run i of a lawful map tells whether there is one more from run i on than behind it.
+pub marked-at : (xs : List ℕ) → lawful xs ≡ true → (i : ℕ) → i < length (runs xs) →
+    length (marked (drop i (runs xs))) ≡ getD xs (i * 4 + 3) 0 + length (marked (drop (i + 1) (runs xs)))
+marked-at xs law i h =
+    let r = getD (runs xs) i noRun in
     let z : suc i ≡ i + 1 = omega arith in
-    ap (λ (l : List Run). length (marked l)) (drop-cons rs i noRun h ∙ ap (λ (j : ℕ). getD rs i noRun ∷ drop j rs) z)
-    ∙ marked-first (getD rs i noRun) (drop (i + 1) rs)
+    let e : i * 4 + 3 ≡ 4 * i + 3 = omega arith in
+    let first = ap (λ (l : List Run). length (marked l)) (drop-cons (runs xs) i noRun h ∙ ap (λ (j : ℕ). r ∷ drop j (runs xs)) z) in
+    omega (arith, first, marked-first r (drop (i + 1) (runs xs)), ap (λ (p : ℕ). getD xs p 0) e, here-at xs law i h .mark)
 
 -- There are no more unpublished runs than runs.
 pub marked-fewer : (rs : List Run) → length (marked rs) ≤ length rs

@@ -183,7 +183,7 @@ fn marked_in(map: &[u32]) -> usize
     let mut n = 0;
     let mut i = 0;
     while i < all {
-        n += extents_map::scan::mark_in(extents_map::locate::cell_at(map, i)) as usize;
+        n += map[i * 4 + 3] as usize;
         i += 1;
     }
     n
