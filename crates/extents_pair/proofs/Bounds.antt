@@ -79,7 +79,7 @@ unfoldable pub laid : (ℕ → ℕ) → List Run → Bytes → Bytes
 laid h [] f = f
 laid h (r ∷ rs) f = overwrite (r .start) (r .length) (h (r .cell)) (laid h rs f)
 
--- each adds at most two runs
+-- Each run that is written adds at most two runs.
 pub laid-more : (h : ℕ → ℕ) (rs : List Run) (f : Bytes) → length (runsOf (laid h rs f)) ≤ length (runsOf f) + 2 * length rs
 unfolding laid
 laid-more h [] f = omega arith
@@ -115,7 +115,7 @@ module _ (rs : List Run) (law : Lawful rs) (w : Bytes) where
   pub laid-over : (h : ℕ → ℕ) (b : ℕ) → over h (cellAt rs b) (w b) ≡ laid h (marked rs) w b
   laid-over h = marked-over h OFFSET-MAX 0 0 rs (law .in-order) w
 
-  -- Two runs more for each unpublished one.
+  -- The unpublished runs written over the published map add at most two runs each.
   over-most : (h : ℕ → ℕ) → length (runsOf (λ b. over h (cellAt rs b) (w b))) ≤ length (runsOf w) + 2 * length (marked rs)
   over-most h =
       let e = runs-same (λ b. over h (cellAt rs b) (w b)) (laid h (marked rs) w) (λ b _. laid-over h b) in

@@ -26,7 +26,7 @@ pub marked-out : (r : Run) (rs : List Run) → unpublished (r .cell) ≡ false �
 unfolding marked
 marked-out r rs e = rw e
 
--- one more where the mark is 1
+-- A run counts as unpublished where its mark is 1.
 pub marked-first : (r : Run) (rs : List Run) → length (marked (r ∷ rs)) ≡ markIn (r .cell) + length (marked rs)
 unfolding marked
 marked-first r rs = go (unpublished (r .cell)) refl
@@ -35,7 +35,7 @@ marked-first r rs = go (unpublished (r .cell)) refl
     go true e = omega (arith, eqb-true (markIn (r .cell)) 1 e)
     go false e = let z : markIn (r .cell) ≡ 1 → ⊥ = eqb-false (markIn (r .cell)) 1 e in omega arith
 
--- The mark of run i of a lawful map tells whether there is one more from run i on than behind it.
+-- In a lawful map there are as many unpublished runs from run i on as behind it, and one more where the mark of run i is 1.
 pub marked-at : (xs : List ℕ) → lawful xs ≡ true → (i : ℕ) → i < length (runs xs) →
     length (marked (drop i (runs xs))) ≡ getD xs (i * 4 + 3) 0 + length (marked (drop (i + 1) (runs xs)))
 marked-at xs law i h =
@@ -64,7 +64,7 @@ no-marks (r ∷ rs) z = go (unpublished (r .cell)) z (no-marks rs)
     go false z rest = rest z
 
 module _ (rs : List Run) (law : Lawful rs) (z : length (marked rs) ≡ 0) where
-  -- no byte is unpublished
+  -- Without unpublished runs no byte is unpublished.
   marked-none : (b : ℕ) → unpublished (cellAt rs b) ≡ false
   marked-none = no-marks-out rs (no-marks rs z)
 
@@ -72,7 +72,7 @@ module _ (rs : List Run) (law : Lawful rs) (z : length (marked rs) ≡ 0) where
   pub refreshed-none : (f : Bytes) (b : ℕ) → refreshed (cellAt rs) f b ≡ f b
   refreshed-none f b = rw (marked-none b)
 
-  -- publishes nothing
+  -- A view without unpublished runs publishes nothing.
   pub published-none : (f : Bytes) (b : ℕ) → published (cellAt rs) f b ≡ f b
   published-none f b = rw (marked-none b)
 

@@ -64,11 +64,11 @@ module _ (space view below : ℕ) (xs : List ℕ) where
         below-law = and-out (lawful (mapAt space below xs)) _ (e4 .1) .0;
       }
 
-  -- the two maps stand at two places
+  -- Two maps that pass the test stand at two places.
   pub two-apart : twoMaps space view below xs ≡ true → view ≡ below → ⊥
   two-apart e q = false≢true (sym (rw (eq-eqb view below q)) ∙ e)
 
-  -- where all else is so, the second map decides
+  -- Where two maps stand at two places inside the slice and the first is lawful, the test asks whether the second is lawful and published.
   pub last-law : (view ≡ below → ⊥) → leb ((view + 1) * (4 * space)) (length xs) ≡ true → leb ((below + 1) * (4 * space)) (length xs) ≡ true →
       lawful (mapAt space view xs) ≡ true → lawfulPublished (mapAt space below xs) ≡ twoMaps space view below xs
   last-law apart a b d = rw (ne-eqb view below apart, a, b, d)
@@ -85,7 +85,7 @@ module _ (space k : ℕ) (xs : List ℕ) where
   map-lent = lent (k * (4 * space)) (4 * space) xs
 
   module _ (fit : (k + 1) * (4 * space) ≤ length xs) where
-    -- of the space of every map
+    -- A map inside a slice has four numbers for each run of the space.
     pub map-length : length (mapAt space k xs) ≡ 4 * space
     map-length = part-length (k * (4 * space)) (4 * space) xs (omega (arith, fit))
 
@@ -101,7 +101,7 @@ module _ (space k : ℕ) (xs : List ℕ) where
     pub map-few : lawful (mapAt space k xs) ≡ true → length (runs (mapAt space k xs)) ≤ space
     map-few law = omega (arith, lawful-map (mapAt space k xs) law .fit, map-space)
 
-    -- The map made anew comes home.
+    -- A lent map that comes back as the map of other bytes is put in the place of map k.
     pub made-home : (f : Bytes → Bytes) → {last : List ℕ} → last ≡ mapFor (spaceIn lentMap) (f (bytesOf lentMap)) →
         putMid (k * (4 * space)) (k * (4 * space) + 4 * space - k * (4 * space)) xs last ≡
         withMap space k (mapFor space (f (bytesOf (mapAt space k xs)))) xs

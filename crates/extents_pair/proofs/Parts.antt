@@ -226,12 +226,12 @@ module _ {size v w : ℕ} {xs : List ℕ} (t : MapsApart size v w xs) {f : Bytes
 
 -- ---- A range laid in a map
 
-module _ (xs : List ℕ) (e : lawful xs ≡ true) (from to : ℕ) where
-  -- an empty one changes nothing
-  pub laid-none : (c : ℕ) → to ≤ from → xs ≡ mapFor (spaceIn xs) (overwrite from (to - from) c (bytesOf xs))
-  laid-none c h =
-      let f = overwrite from (to - from) c (bytesOf xs) in
-      sym (map-same (spaceIn xs) f (bytesOf xs) (λ b. over-out from to c (bytesOf xs) b (λ l. omega arith)) ∙ bytes-map xs e)
+-- An empty range laid in a lawful map changes nothing.
+pub laid-none : (xs : List ℕ) → lawful xs ≡ true → (from to c : ℕ) → to ≤ from →
+    xs ≡ mapFor (spaceIn xs) (overwrite from (to - from) c (bytesOf xs))
+laid-none xs e from to c h =
+    let f = overwrite from (to - from) c (bytesOf xs) in
+    sym (map-same (spaceIn xs) f (bytesOf xs) (λ b. over-out from to c (bytesOf xs) b (λ l. omega arith)) ∙ bytes-map xs e)
 
 -- what fits is laid
 pub laid-fit : (xs : List ℕ) (f : Bytes) {r : Bool} {ys : List ℕ} → length (runsOf f) ≤ spaceIn xs →

@@ -63,7 +63,7 @@ fn has_map(maps: &[u32], space: usize, k: usize) -> bool
     k < maps.len() / (4 * space)
 }
 
-// Map k of a slice.
+// Map k of a slice that is long enough for it.
 fn map_at(maps: &[u32], space: usize, k: usize) -> &[u32]
     requires { ⌜ (k + 1) * (4 * space) ≤ length (now maps) ⌝ }
     ensures { λ r. ⌜ now r ≡ mapAt space k (now (maps .entry)) ⌝ }

@@ -9,7 +9,7 @@ use Rattle.extents_meaning.specs.Runs.{runsOf}
 use Rattle.extents_pair.proofs.fits.Statement.{statement}
 use Rattle.extents_pair.proofs.fits.Tie as tie
 
--- What is at most k is at most a limit that k keeps.
+-- A number up to k is within a limit that k is within.
 within : {n k limit : ℕ} → n ≤ k → k ≤ limit → true ≡ leb n limit
 within {n} {k} {limit} h l = sym (le-leb n limit (omega arith))
 
