@@ -1,355 +1,200 @@
--- Pieces listed from the first byte on: each stretch of one value lengthens the latest piece or makes one more.
-use Prim.Native.Nat.{ℕ, zero, suc, _+_, _*_, _-_, _≤_, _<_, min}
+-- Pieces listed from the first byte on: one is in hand while the value stays, and is put when the value changes.
+use Prim.Native.Nat.{ℕ, suc, _+_, _*_, _-_, _/_, _≤_, _<_, min}
+use native.Mathlib.Nat.{add-zero}
 use native.Mathlib.Omega.{arith}
-use native.Mathlib.Decide.{ℕ-discrete}
+use native.Mathlib.Decide.{decLt, ℕ-discrete}
 use mathlib.Core.Path.{_≡_, refl, sym, ap, _∙_}
-use mathlib.Core.Bool.{Bool, true, false, cond, _&&_, and-false}
 use mathlib.Core.List.{List, [], _∷_, _++_, append-assoc, append-nil}
-use lib.ListN.{length, getD, take, drop, set, length-append, length-drop}
-use lib.Dec.{eqb}
-use lib.Seq.{take-at, drop-at, set-at, getD-at, drop-drop, sets-eq}
-use borrow.Author.Tests.{eq-eqb, ne-eqb}
+use lib.ListN.{length, drop, set, length-append, take-append-drop}
+use lib.Seq.{take-at, drop-at, drop-drop, sets-eq}
 use Rattle.rows.specs.Limits.{OFFSET-MAX}
 use Rattle.extents_meaning.specs.Cells.{Bytes, numberIn}
-use Rattle.extents_meaning.specs.Runs.{Run, runOf, joined, runsFrom}
-use Rattle.extents_meaning.specs.Maps.{threes, runs, bytesOf}
+use Rattle.extents_meaning.specs.Runs.{Run}
+use Rattle.extents_meaning.specs.Maps.{threes, runs, bytesOf, withPart, listedIn}
+use Rattle.extents_meaning.proofs.Changes.{change-iff, before-change}
+use Rattle.extents_meaning.proofs.Threes.{length-threes}
+use Rattle.extents_weave_meaning.proofs.Rests.{rest, put-none, put-some, rest-none, rest-skip, close}
+use Rattle.extents_map.specs.declared.list.Piece.{Piece}
 use Rattle.extents_map.specs.declared.scan.Look.{Look}
 use Rattle.extents_map.specs.Cursors.{Passing, Looked}
-use Rattle.extents_map.specs.Pieces.{Room, Put}
-use Rattle.extents_meaning.proofs.Changes.{change-iff, before-change}
+use Rattle.extents_map.specs.Pieces.{ended, Room, Turned}
 use Rattle.extents_map.proofs.Looking.{passing-on, passing-then}
 
--- ---- A run put before others
+-- ---- Numbers of pieces in a slice
 
--- a run with more bytes behind it
-abbrev grown : Run → ℕ → Run
-grown p size = runOf (p .start) (p .length + size) (p .cell)
-
--- a run put before others: joined to the first where that one follows at once with the same cell
-abbrev attach : Run → List Run → List Run
-attach p [] = p ∷ []
-attach p (r ∷ rs) = cond (eqb (r .start) (p .start + p .length) && eqb (r .cell) (p .cell)) (grown p (r .length) ∷ rs) (p ∷ (r ∷ rs))
-
--- a first one that follows at once with the same cell is joined
-attach-near : (p r : Run) (rs : List Run) → r .start ≡ p .start + p .length → r .cell ≡ p .cell → attach p (r ∷ rs) ≡ grown p (r .length) ∷ rs
-attach-near p r rs e d = rw (eq-eqb (r .start) (p .start + p .length) e, eq-eqb (r .cell) (p .cell) d)
-
--- one of another cell is not
-attach-apart : (p r : Run) (rs : List Run) → (r .cell ≡ p .cell → ⊥) → attach p (r ∷ rs) ≡ p ∷ (r ∷ rs)
-attach-apart p r rs h = rw (ne-eqb (r .cell) (p .cell) h, and-false)
-
--- two neighbours of one cell are put as one run
-attach-same : (p q : Run) (rs : List Run) → q .start ≡ p .start + p .length → q .cell ≡ p .cell →
-    attach p (attach q rs) ≡ attach (grown p (q .length)) rs
-attach-same p q [] e d = attach-near p q [] e d
-attach-same p q (r ∷ rs) e d =
-    let end : q .start + q .length ≡ p .start + (p .length + q .length) = omega arith in
-    let k = grown p (q .length) in
-    go (eqb (r .start) (q .start + q .length) && eqb (r .cell) (q .cell))
-    ∙ (λ i. cond (eqb (r .start) (end i) && eqb (r .cell) (d i)) (grown k (r .length) ∷ rs) (k ∷ (r ∷ rs)))
-  where
-    go : (b : Bool) →
-        attach p (cond b (grown q (r .length) ∷ rs) (q ∷ (r ∷ rs)))
-        ≡ cond b (grown (grown p (q .length)) (r .length) ∷ rs) (grown p (q .length) ∷ (r ∷ rs))
-    go true =
-        let l : p .length + (q .length + r .length) ≡ p .length + q .length + r .length = omega arith in
-        attach-near p (grown q (r .length)) rs e d ∙ (λ i. runOf (p .start) (l i) (p .cell) ∷ rs)
-    go false = attach-near p q (r ∷ rs) e d
-
--- two of different cells stay two
-attach-other : (p q : Run) (rs : List Run) → (q .cell ≡ p .cell → ⊥) → attach p (attach q rs) ≡ p ∷ attach q rs
-attach-other p q [] h = attach-apart p q [] h
-attach-other p q (r ∷ rs) h = go (eqb (r .start) (q .start + q .length) && eqb (r .cell) (q .cell))
-  where
-    go : (b : Bool) → (let js = cond b (grown q (r .length) ∷ rs) (q ∷ (r ∷ rs)) in attach p js ≡ p ∷ js)
-    go true = attach-apart p (grown q (r .length)) rs h
-    go false = attach-apart p q (r ∷ rs) h
-
--- at least one run is there then
-length-attach : (p : Run) (rs : List Run) → 1 ≤ length (attach p rs)
-length-attach p [] = omega arith
-length-attach p (r ∷ rs) = go (eqb (r .start) (p .start + p .length) && eqb (r .cell) (p .cell))
-  where
-    go : (b : Bool) → 1 ≤ length (cond b (grown p (r .length) ∷ rs) (p ∷ (r ∷ rs)))
-    go true = omega arith
-    go false = omega arith
-
--- ---- A stretch of one cell
-
--- a byte put before the runs behind it is a run of one byte put there
-attach-byte : (b c : ℕ) (rs : List Run) → joined b c rs ≡ attach (runOf b 1 c) rs
-unfolding joined
-attach-byte b c [] = refl
-attach-byte b c (r ∷ rs) =
-    let e : suc b ≡ b + 1 = omega arith in
-    let l : suc (r .length) ≡ 1 + r .length = omega arith in
-    λ i. cond (eqb (r .start) (e i) && eqb (r .cell) c) (runOf b (l i) c ∷ rs) (runOf b 1 c ∷ (r ∷ rs))
-
--- the runs from a byte on whose cell is not 0
-runs-byte : (n s v : ℕ) (f : Bytes) → f s ≡ v → 1 ≤ v → runsFrom (suc n) s f ≡ attach (runOf s 1 v) (runsFrom n (suc s) f)
-unfolding runsFrom
-runs-byte n s v f e h =
-    let z : f s ≡ 0 → ⊥ = omega arith in
-    rw (ne-eqb (f s) 0 z) (attach-byte s (f s) (runsFrom n (suc s) f) ∙ (λ i. attach (runOf s 1 (e i)) (runsFrom n (suc s) f)))
-
--- the runs from a stretch on are those behind it, with the stretch put before them
-runs-stretch : (m s e to v : ℕ) (f : Bytes) → s + suc m ≡ e → e ≤ to → 1 ≤ v → ((b : ℕ) → s ≤ b → b < e → f b ≡ v) →
-    runsFrom (to - s) s f ≡ attach (runOf s (suc m) v) (runsFrom (to - e) e f)
-runs-stretch zero s e to v f q h k c =
-    let n : to - s ≡ suc (to - e) = omega arith in
-    let d : suc s ≡ e = omega arith in
-    (λ i. runsFrom (n i) s f)
-    ∙ runs-byte (to - e) s v f (c s (omega arith) (omega arith)) k
-    ∙ (λ i. attach (runOf s 1 v) (runsFrom (to - e) (d i) f))
-runs-stretch (suc m) s e to v f q h k c =
-    let n : to - s ≡ suc (to - suc s) = omega arith in
-    let d : suc s ≡ s + 1 = omega arith in
-    let l : 1 + suc m ≡ suc (suc m) = omega arith in
-    (λ i. runsFrom (n i) s f)
-    ∙ runs-byte (to - suc s) s v f (c s (omega arith) (omega arith)) k
-    ∙ ap (attach (runOf s 1 v)) (runs-stretch m (suc s) e to v f (omega arith) h k (λ b x y. c b (omega arith) y))
-    ∙ attach-same (runOf s 1 v) (runOf (suc s) (suc m) v) (runsFrom (to - e) e f) d refl
-    ∙ (λ i. attach (runOf s (l i) v) (runsFrom (to - e) e f))
-
--- ---- Pieces, the latest first
-
--- runs behind pieces
-abbrev onto : List Run → List Run → List Run
-onto [] rs = rs
-onto (p ∷ ps) rs = onto ps (p ∷ rs)
-
--- runs behind pieces of which the latest may grow
-abbrev behind : List Run → List Run → List Run
-behind [] rs = rs
-behind (p ∷ ps) rs = onto ps (attach p rs)
-
--- the three numbers of a piece
-abbrev three : Run → List ℕ
-three p = p .start ∷ (p .length ∷ ((p .cell - 1) ∷ []))
-
--- the numbers of pieces
-abbrev backs : List Run → List ℕ
-backs [] = []
-backs (p ∷ ps) = backs ps ++ three p
-
--- Pieces with runs behind them: the sum of both counts.
-length-onto : (ps rs : List Run) → length (onto ps rs) ≡ length ps + length rs
-length-onto [] rs = omega arith
-length-onto (p ∷ ps) rs = omega (arith, length-onto ps (p ∷ rs))
-
--- three numbers a piece
-length-backs : (ps : List Run) → length (backs ps) ≡ length ps * 3
-length-backs [] = refl
-length-backs (p ∷ ps) = omega (arith, length-append (backs ps) (three p), length-backs ps)
-
--- no fewer than the pieces, also where the latest grows
-length-behind : (ps rs : List Run) → length ps ≤ length (behind ps rs)
-length-behind [] rs = omega arith
-length-behind (p ∷ ps) rs = omega (arith, length-onto ps (attach p rs), length-attach p rs)
-
--- the numbers of pieces stand before those of the runs behind them
-threes-onto : (ps rs : List Run) → threes (onto ps rs) ≡ backs ps ++ threes rs
+-- pieces behind others
+threes-append : (ps qs : List Run) → threes (ps ++ qs) ≡ threes ps ++ threes qs
 unfolding threes
-threes-onto [] rs = refl
-threes-onto (p ∷ ps) rs = threes-onto ps (p ∷ rs) ∙ sym (append-assoc (backs ps) (three p) (threes rs))
+threes-append [] qs = refl
+threes-append (p ∷ ps) qs = ap (λ (l : List ℕ). p .start ∷ (p .length ∷ ((p .cell - 1) ∷ l))) (threes-append ps qs)
 
--- with no run behind it the latest piece does not grow
-behind-none : (ps : List Run) → behind ps [] ≡ onto ps []
-behind-none [] = refl
-behind-none (p ∷ ps) = refl
+-- numbers put behind the front of a slice make the front longer
+front-more : (ns bs xs : List ℕ) (k : ℕ) → length ns ≡ k →
+    withPart k (length bs) bs (ns ++ drop (length ns) xs) ≡ (ns ++ bs) ++ drop (length (ns ++ bs)) xs
+front-more ns bs xs k l =
+    let d = drop (length ns) xs in
+    let e : length ns + length bs ≡ length (ns ++ bs) = sym (length-append ns bs) in
+    let later = sym (drop-drop (length bs) k (ns ++ d)) ∙ ap (drop (length bs)) (drop-at ns d k l) ∙ drop-drop (length bs) (length ns) xs in
+    λ i. (take-at ns d k l i ++ bs) ++ (later ∙ ap (λ (n : ℕ). drop n xs) e) i
 
--- what is known of the latest piece: where it ends, and its cell
-abbrev Ends : ℕ → ℕ → List Run → Type 0
-Ends x last [] = last ≡ 0
-Ends x last (p ∷ ps) = (p .start + p .length ≡ x) × (p .cell ≡ last)
+-- ---- A turn
 
--- a stretch of another cell is a piece of its own
-behind-more : (ps rs : List Run) (x last size v : ℕ) → Ends x last ps → (v ≡ last → ⊥) →
-    behind ps (attach (runOf x size v) rs) ≡ onto ps (attach (runOf x size v) rs)
-behind-more [] rs x last size v e h = refl
-behind-more (p ∷ ps) rs x last size v e h = ap (onto ps) (attach-other p (runOf x size v) rs (λ q. h (q ∙ e .1)))
+-- the piece in hand with pieces put before it
+abbrev pieceOf : ℕ → ℕ → ℕ → Piece
+pieceOf count start value = record { count = count; start = start; value = value }
 
--- a stretch of its cell makes the latest piece longer
-behind-longer : (p : Run) (ps rs : List Run) (x last size v : ℕ) → Ends x last (p ∷ ps) → v ≡ last →
-    behind (p ∷ ps) (attach (runOf x size v) rs) ≡ behind (grown p size ∷ ps) rs
-behind-longer p ps rs x last size v e h = ap (onto ps) (attach-same p (runOf x size v) rs (sym (e .0)) (h ∙ sym (e .1)))
+module _ {xs : List ℕ} {hand : Piece} {x value : ℕ} where
+  -- where none is in hand, one begins
+  pub turn-none : hand .value ≡ 0 → Turned xs hand x value (pieceOf (hand .count) x value) xs
+  unfolding threes
+  turn-none z =
+      record {
+        same = λ h e. absurd (omega arith);
+        other = λ f. rw (put-none (hand .start) x (hand .value) [] z) (simp add-zero, simp (append-nil, add-zero, take-append-drop));
+      }
 
--- ---- Their numbers in a slice
-
-module _ (p : Run) (ps : List Run) (t : List ℕ) where
-  -- the length of the latest piece between the numbers before it and behind it
-  backs-open : backs (p ∷ ps) ++ t ≡ (backs ps ++ (p .start ∷ [])) ++ (p .length ∷ ((p .cell - 1) ∷ t))
-  backs-open = append-assoc (backs ps) (three p) t ∙ sym (append-assoc (backs ps) (p .start ∷ []) (p .length ∷ ((p .cell - 1) ∷ t)))
-
-  -- how many numbers stand before it
-  backs-place : length (backs ps ++ (p .start ∷ [])) ≡ suc (length ps) * 3 - 2
-  backs-place = omega (arith, length-append (backs ps) (p .start ∷ []), length-backs ps)
-
-  -- The length of the latest piece is read in its place.
-  backs-get : getD (backs (p ∷ ps) ++ t) (suc (length ps) * 3 - 2) 0 ≡ p .length
-  backs-get =
-      ap (λ (l : List ℕ). getD l (suc (length ps) * 3 - 2) 0) backs-open
-      ∙ getD-at (backs ps ++ (p .start ∷ [])) (p .length) ((p .cell - 1) ∷ t) 0 (suc (length ps) * 3 - 2) backs-place
-
--- A store at that place changes the length of the latest piece.
-backs-set : (p : Run) (ps : List Run) (t : List ℕ) (l : ℕ) →
-    set (backs (p ∷ ps) ++ t) (suc (length ps) * 3 - 2) l ≡ backs (runOf (p .start) l (p .cell) ∷ ps) ++ t
-backs-set p ps t l =
-    ap (λ (k : List ℕ). set k (suc (length ps) * 3 - 2) l) (backs-open p ps t)
-    ∙ set-at (backs ps ++ (p .start ∷ [])) (p .length) ((p .cell - 1) ∷ t) l (suc (length ps) * 3 - 2) (backs-place p ps t)
-    ∙ sym (backs-open (runOf (p .start) l (p .cell)) ps t)
-
--- three numbers stored one behind the other
-pub three-put : (xs : List ℕ) (k a b c : ℕ) → k + 3 ≤ length xs →
-    set (set (set xs k a) (k + 1) b) (k + 2) c ≡ take k xs ++ (a ∷ (b ∷ (c ∷ drop (k + 3) xs)))
-three-put xs k a b c h =
-    let e : k + 1 ≡ suc k = omega arith in
-    let d : k + 2 ≡ suc (suc k) = omega arith in
-    (λ i. set (set (set xs k a) (e i) b) (d i) c)
-    ∙ sets-eq (a ∷ (b ∷ (c ∷ []))) xs k h
-    ∙ append-assoc (take k xs) (a ∷ (b ∷ (c ∷ []))) (drop (k + 3) xs)
-
--- Three numbers stored behind the front of a slice lengthen that front.
-three-more : (bs xs ys : List ℕ) (k a b c : ℕ) → length bs ≡ k → ys ≡ bs ++ drop k xs →
-    take k ys ++ (a ∷ (b ∷ (c ∷ drop (k + 3) ys))) ≡ (bs ++ (a ∷ (b ∷ (c ∷ [])))) ++ drop (k + 3) xs
-three-more bs xs ys k a b c l q =
-    let front : take k ys ≡ bs = ap (take k) q ∙ take-at bs (drop k xs) k l in
-    let later : drop k ys ≡ drop k xs = ap (drop k) q ∙ drop-at bs (drop k xs) k l in
-    let rest : drop (k + 3) ys ≡ drop (k + 3) xs = sym (drop-drop 3 k ys) ∙ ap (drop 3) later ∙ drop-drop 3 k xs in
-    (λ i. front i ++ (a ∷ (b ∷ (c ∷ rest i)))) ∙ sym (append-assoc bs (a ∷ (b ∷ (c ∷ []))) (drop (k + 3) xs))
+  -- another value puts the one in hand
+  pub turn-put : (hand .value ≡ 0 → ⊥) → (value ≡ hand .value → ⊥) → hand .count * 3 + 3 ≤ length xs →
+      (let k = hand .count * 3 in
+      Turned xs hand x value (pieceOf (hand .count + 1) x value)
+      (set (set (set xs k (hand .start)) (k + 1) (x - hand .start)) (k + 2) (hand .value - 1)))
+  unfolding threes
+  turn-put z n h =
+      let k = hand .count * 3 in
+      let e : k + 1 ≡ suc k = omega arith in
+      let d : k + 2 ≡ suc (suc k) = omega arith in
+      let ns = hand .start ∷ ((x - hand .start) ∷ ((hand .value - 1) ∷ [])) in
+      record {
+        same = λ l q. absurd (n q);
+        other = λ f.
+            rw (put-some (hand .start) x (hand .value) [] z)
+            (refl, (λ i. set (set (set xs k (hand .start)) (e i) (x - hand .start)) (d i) (hand .value - 1)) ∙ sets-eq ns xs k h);
+      }
 
 -- ---- A listing
 
--- The pieces up to byte x are in place, and with the runs behind them they make the whole.
-pub record Listing (f : Bytes) (from to : ℕ) (xs ys : List ℕ) (x n last : ℕ) : Type 0 where
+-- The pieces before the one in hand are put, and with the runs from its start on they make the whole; its bytes up to byte x have its value.
+pub record Listing (f : Bytes) (from to : ℕ) (xs ys : List ℕ) (x : ℕ) (hand : Piece) : Type 0 where
   done : List Run
-  whole : behind done (runsFrom (to - x) x f) ≡ runsFrom (to - from) from f
-  ends : Ends x last done
-  count : n ≡ length done
-  laid : ys ≡ backs done ++ drop (n * 3) xs
-  fit : 3 * length (runsFrom (to - from) from f) ≤ length xs
+  whole : rest to f from ≡ done ++ rest to f (hand .start)
+  order : hand .start ≤ x
+  begun : 1 ≤ hand .value → hand .start < x
+  held : (b : ℕ) → hand .start ≤ b → b < x → f b ≡ hand .value
+  top : x ≤ to
+  count : hand .count ≡ length done
+  laid : ys ≡ listedIn done xs
+  pub size : length ys ≡ length xs
+  fit : 3 * length (rest to f from) ≤ length xs
 
--- at first there is no piece
-pub list-start : (f : Bytes) (from to : ℕ) (xs : List ℕ) → 3 * length (runsFrom (to - from) from f) ≤ length xs →
-    Listing f from to xs xs from 0 0
-list-start f from to xs k = record { done = []; whole = refl; ends = refl; count = refl; laid = refl; fit = k }
+-- at first no piece is in hand
+pub list-start : (f : Bytes) (from to : ℕ) (xs : List ℕ) → from ≤ to → 3 * length (rest to f from) ≤ length xs →
+    Listing f from to xs xs from (pieceOf 0 from 0)
+unfolding threes
+list-start f from to xs h k =
+    record {
+      done = [];
+      whole = refl;
+      order = omega arith;
+      begun = λ l. absurd (omega arith);
+      held = λ b l m. absurd (omega arith);
+      top = h;
+      count = refl;
+      laid = refl;
+      size = refl;
+      fit = k;
+    }
 
-module _ {f : Bytes} {from to : ℕ} {xs ys : List ℕ} {x n last : ℕ} (g : Listing f from to xs ys x n last) where
-  -- there are no more pieces than in the whole
-  list-few : n * 3 ≤ length xs
-  list-few = omega (arith, ap length (g .whole), length-behind (g .done) (runsFrom (to - x) x f), g .count, g .fit)
-
-  -- the slice keeps its length
-  pub list-length : length ys ≡ length xs
-  list-length =
-      ap length (g .laid)
-      ∙ omega (arith, length-append (backs (g .done)) (drop (n * 3) xs), length-backs (g .done), length-drop (n * 3) xs, g .count, list-few)
-
-  -- at the end all pieces are in place
-  pub list-done : to ≤ x →
-      (let ps = runsFrom (to - from) from f in (n ≡ length ps) × (ys ≡ threes ps ++ drop (length (threes ps)) xs))
-  unfolding runsFrom threes
-  list-done h =
-      let ps = runsFrom (to - from) from f in
-      let z : 0 ≡ to - x = omega arith in
-      let w : onto (g .done) [] ≡ ps = sym (behind-none (g .done)) ∙ (λ i. behind (g .done) (runsFrom (z i) x f)) ∙ g .whole in
-      let t : backs (g .done) ≡ threes ps = sym (threes-onto (g .done) [] ∙ append-nil (backs (g .done))) ∙ ap threes w in
-      let k : n * 3 ≡ length (threes ps) = omega (arith, ap length t, length-backs (g .done), g .count) in
-      (g .count ∙ omega (arith, length-onto (g .done) []) ∙ ap length w, g .laid ∙ (λ i. t i ++ drop (k i) xs))
-
-  -- the latest piece
-  record Latest : Type 0 where
-    piece : Run
-    older : List Run
-    split : g .done ≡ piece ∷ older
-    here : Ends x last (piece ∷ older)
-    number : n ≡ suc (length older)
-    all : ys ≡ backs (piece ∷ older) ++ drop (n * 3) xs
-    size : getD ys (n * 3 - 2) 0 ≡ piece .length
-
-  -- there is one where its cell is not 0
-  latest : 1 ≤ last → Latest
-  latest h = go (g .done) refl (g .ends)
+-- byte x has a value
+module _ {f : Bytes} {from to : ℕ} {xs ys : List ℕ} {x : ℕ} {hand : Piece} (g : Listing f from to xs ys x hand) {value : ℕ}
+    (here : x < to → f x ≡ value) where
+  -- where it is another, the piece in hand is one of the whole
+  whole-put : (value ≡ hand .value → value ≡ 0) → rest to f from ≡ (g .done ++ ended hand x) ++ rest to f x
+  whole-put other =
+      g .whole ∙ ap (λ (l : List Run). g .done ++ l) (go (ℕ-discrete (hand .value) 0)) ∙ sym (append-assoc (g .done) (ended hand x) (rest to f x))
     where
-      go : (ps : List Run) → g .done ≡ ps → Ends x last ps → Latest
-      go [] s k = absurd (omega (arith, h, k))
-      go (p ∷ ps) s k =
-          let d = drop (n * 3) xs in
-          let c : n ≡ suc (length ps) = g .count ∙ ap length s in
-          let t : ys ≡ backs (p ∷ ps) ++ d = g .laid ∙ (λ i. backs (s i) ++ d) in
-          let l : getD ys (n * 3 - 2) 0 ≡ p .length = (λ i. getD (t i) (c i * 3 - 2) 0) ∙ backs-get p ps d in
-          record { piece = p; older = ps; split = s; here = k; number = c; all = t; size = l }
+      a : ℕ
+      a = hand .start
 
-  -- a stretch behind the pieces
-  module _ {e v : ℕ} (on : x < e) (top : e ≤ to) (low : 1 ≤ v) (cells : (b : ℕ) → x ≤ b → b < e → f b ≡ v) where
-    -- the runs behind the pieces start with it
-    rest : runsFrom (to - x) x f ≡ attach (runOf x (e - x) v) (runsFrom (to - e) e f)
-    rest =
-        let m : suc (e - suc x) ≡ e - x = omega arith in
-        runs-stretch (e - suc x) x e to v f (omega arith) top low cells ∙ (λ i. attach (runOf x (m i) v) (runsFrom (to - e) e f))
+      v : ℕ
+      v = hand .value
 
-    -- one piece more makes the whole with the runs behind it
-    whole-more : (v ≡ last → ⊥) → behind (runOf x (e - x) v ∷ g .done) (runsFrom (to - e) e f) ≡ runsFrom (to - from) from f
-    whole-more h =
-        sym (behind-more (g .done) (runsFrom (to - e) e f) x last (e - x) v (g .ends) h) ∙ ap (behind (g .done)) (sym rest) ∙ g .whole
+      go : Dec (v ≡ 0) → rest to f a ≡ ended hand x ++ rest to f x
+      go (yes z) = rw (put-none a x v [] z) (rest-skip to f a x (g .order) (g .top) (λ b l k. g .held b l k ∙ z))
+      go (no z) =
+          rw (put-some a x v [] z)
+          (close to f a x x v (g .begun (omega arith)) (omega arith) (g .top) z (g .held) (λ b l k. absurd (omega arith))
+          (λ e l q. let s : value ≡ v = sym (here l) ∙ q in z (sym s ∙ other s))
+          ∙ put-some a x v (rest to f x) z)
 
-    -- The latest piece made longer makes the whole with the runs behind it.
-    whole-longer : v ≡ last → (z : Latest) → behind (grown (z .piece) (e - x) ∷ z .older) (runsFrom (to - e) e f) ≡ runsFrom (to - from) from f
-    whole-longer q z =
-        sym (behind-longer (z .piece) (z .older) (runsFrom (to - e) e f) x last (e - x) v (z .here) q)
-        ∙ (λ i. behind (sym (z .split) i) (sym rest i))
-        ∙ g .whole
+  -- there is room for it
+  pub list-room : Room ys hand x value
+  list-room =
+      record {
+        order = g .order;
+        room = λ z n.
+            let one = ap length (put-some (hand .start) x (hand .value) [] z) in
+            omega (arith, one, g .fit, g .size, g .count, simp length-append at (ap length (whole-put (λ e. absurd (n e)))));
+      }
 
-    -- the slice has room for the stretch
-    pub list-room : to ≤ OFFSET-MAX → Room ys n last (e - x) v
-    list-room h = record { some = low; longer = longer; more = more }
+  module _ {r : Piece} {zs : List ℕ} (t : Turned ys hand x value r zs) where
+    -- with it put the numbers of one piece more are in place
+    laid-put : (value ≡ hand .value → value ≡ 0) → zs ≡ listedIn (g .done ++ ended hand x) xs
+    laid-put other =
+        let ns = threes (g .done) in
+        let bs = threes (ended hand x) in
+        t .other other .1
+        ∙ ap (withPart (hand .count * 3) (length bs) bs) (g .laid)
+        ∙ front-more ns bs xs (hand .count * 3) (omega (arith, length-threes (g .done), g .count))
+        ∙ ap (λ (l : List ℕ). l ++ drop (length l) xs) (sym (threes-append (g .done) (ended hand x)))
+
+    -- at the end all pieces are in place
+    pub list-done : to ≤ x → value ≡ 0 → (r .count ≡ length (rest to f from)) × (zs ≡ listedIn (rest to f from) xs)
+    list-done h z =
+        let ps = g .done ++ ended hand x in
+        let e : rest to f from ≡ ps = whole-put (λ s. z) ∙ ap (λ (l : List Run). ps ++ l) (rest-none to f x h) ∙ append-nil ps in
+        let n : r .count ≡ hand .count + length (ended hand x) = ap (λ (k : Piece). k .count) (t .other (λ s. z) .0) in
+        (omega (arith, n, g .count, length-append (g .done) (ended hand x), ap length e), laid-put (λ s. z) ∙ ap (λ (l : List Run). listedIn l xs) (sym e))
+
+    -- from byte x up to byte y the value stays
+    pub list-next : 1 ≤ value → length zs ≡ length ys → (y : ℕ) → x < y → y ≤ to → ((b : ℕ) → x ≤ b → b < y → f b ≡ value) →
+        Listing f from to xs zs y r
+    list-next low kept y on top cells = go (ℕ-discrete value (hand .value))
       where
-        longer : v ≡ last → (1 ≤ n) × (n * 3 ≤ length ys) × (getD ys (n * 3 - 2) 0 + (e - x) ≤ OFFSET-MAX)
-        longer q =
-            let z = latest (omega (arith, low)) in
-            (omega (arith, z .number), omega (arith, list-length, list-few), omega (arith, h, on, top, z .size, z .here .0))
-
-        more : (v ≡ last → ⊥) → n * 3 + 3 ≤ length ys
-        more k =
-            let few = length-behind (runOf x (e - x) v ∷ g .done) (runsFrom (to - e) e f) in
-            omega (arith, ap length (whole-more k), few, g .count, g .fit, list-length)
-
-    -- with the stretch in place it goes on
-    pub list-next : {r : ℕ} {zs : List ℕ} → Put ys n last x (e - x) v r zs → Listing f from to xs zs e r v
-    list-next {r} {zs} u = go (ℕ-discrete v last)
-      where
-        go : Dec (v ≡ last) → Listing f from to xs zs e r v
-        go (yes q) =
-            let z = latest (omega (arith, low)) in
-            let p = z .piece in
-            let o = u .longer q in
-            record {
-              done = grown p (e - x) ∷ z .older;
-              whole = whole-longer q z;
-              ends = (omega (arith, on, z .here .0), z .here .1 ∙ sym q);
-              count = o .0 ∙ z .number;
-              laid =
-                  o .1
-                  ∙ (λ i. set (z .all i) (z .number i * 3 - 2) (z .size i + (e - x)))
-                  ∙ backs-set p (z .older) (drop (n * 3) xs) (p .length + (e - x))
-                  ∙ (λ i. backs (grown p (e - x) ∷ z .older) ++ drop (sym (o .0) i * 3) xs);
+        go : Dec (value ≡ hand .value) → Listing f from to xs zs y r
+        go (yes e) =
+            let o = t .same low e in
+            rw (o .0, o .1)
+            (record {
+              done = g .done;
+              whole = g .whole;
+              order = omega (arith, g .order, on);
+              begun = λ l. omega (arith, g .order, on);
+              held = λ b l k. held b l k (decLt b x);
+              top = top;
+              count = g .count;
+              laid = g .laid;
+              size = g .size;
               fit = g .fit;
-            }
-        go (no h) =
-            let o = u .more h in
-            let k : n * 3 + 3 ≡ r * 3 = omega (arith, o .0) in
-            let l : length (backs (g .done)) ≡ n * 3 = omega (arith, length-backs (g .done), g .count) in
-            record {
-              done = runOf x (e - x) v ∷ g .done;
-              whole = whole-more h;
-              ends = (omega (arith, on), refl);
-              count = omega (arith, o .0, g .count);
-              laid =
-                  o .1
-                  ∙ three-more (backs (g .done)) xs ys (n * 3) x (e - x) (v - 1) l (g .laid)
-                  ∙ (λ i. backs (runOf x (e - x) v ∷ g .done) ++ drop (k i) xs);
+            })
+          where
+            held : (b : ℕ) → hand .start ≤ b → b < y → Dec (b < x) → f b ≡ hand .value
+            held b l k (yes m) = g .held b l m
+            held b l k (no m) = cells b (omega arith) k ∙ e
+        go (no n) =
+            let other : value ≡ hand .value → value ≡ 0 = λ e. absurd (n e) in
+            rw (t .other other .0)
+            (record {
+              done = g .done ++ ended hand x;
+              whole = whole-put other;
+              order = omega (arith, on);
+              begun = λ l. on;
+              held = cells;
+              top = top;
+              count = sym (length-append (g .done) (ended hand x) ∙ ap (λ (k : ℕ). k + length (ended hand x)) (sym (g .count)));
+              laid = laid-put other;
+              size = kept ∙ g .size;
               fit = g .fit;
-            }
+            })
 
 -- ---- A listing of a map
 
@@ -357,27 +202,29 @@ module _ {f : Bytes} {from to : ℕ} {xs ys : List ℕ} {x n last : ℕ} (g : Li
 abbrev pub valuesOf : List ℕ → Bytes
 valuesOf map b = suc (numberIn (bytesOf map b))
 
--- a look at byte x, up to the end of the range
-module _ {map : List ℕ} {from to : ℕ} {xs ys : List ℕ} {x n last i : ℕ} (g : Listing (valuesOf map) from to xs ys x n last) (p : Passing map 0 x i)
-    (on : x < to) (top : to ≤ OFFSET-MAX) {r : Look} (s : Looked map i x r) {e : ℕ} (q : e ≡ min (r .next) to) where
-  -- the stretch looked at is not empty
-  pub look-further : (x < e) × (x < r .next)
-  look-further =
-      let h = change-iff (bytesOf (drop (4 * i) map)) x (r .next) (omega arith) .0 (sym (s .next)) .0 in (omega arith, h)
+-- a look at byte x
+module _ {map : List ℕ} {from to : ℕ} {xs ys : List ℕ} {x i : ℕ} {hand : Piece} (g : Listing (valuesOf map) from to xs ys x hand)
+    (p : Passing map 0 x i) (on : x < to) (below : to ≤ OFFSET-MAX) {s : Look} (l : Looked map i x s) where
+  -- the next byte of another cell lies behind x
+  pub look-further : x < s .next
+  look-further = change-iff (bytesOf (drop (4 * i) map)) x (s .next) (omega arith) .0 (sym (l .next)) .0
 
-  -- The stretch looked at has one value.
-  look-value : (b : ℕ) → x ≤ b → b < e → valuesOf map b ≡ numberIn (r .cell) + 1
+  -- up to there the value stays
+  look-value : (b : ℕ) → x ≤ b → b < s .next → valuesOf map b ≡ s .cell / 2 + 1
   look-value b h k =
-      let m : bytesOf map b ≡ r .cell =
-      sym (p .same b h) ∙ before-change (bytesOf (drop (4 * i) map)) x b (omega arith) h (omega (arith, s .next)) ∙ sym (s .cell) in
-      ap (λ (c : ℕ). suc (numberIn c)) m ∙ omega arith
+      let e : bytesOf map b ≡ s .cell =
+      sym (p .same b h) ∙ before-change (bytesOf (drop (4 * i) map)) x b (omega arith) h (omega (arith, l .next)) ∙ sym (l .cell) in
+      ap (λ (c : ℕ). suc (numberIn c)) e ∙ omega arith
 
-  -- the slice has room for it
-  pub look-room : Room ys n last (e - x) (numberIn (r .cell) + 1)
-  look-room = list-room g (look-further .0) (omega arith) (omega arith) look-value top
+  -- the slice has room for the piece in hand
+  pub look-room : Room ys hand x (s .cell / 2 + 1)
+  look-room = list-room g (λ h. look-value x (omega arith) look-further)
 
-  -- With the stretch in place the listing and its cursor go on.
-  pub look-next : {k : ℕ} {zs : List ℕ} → Put ys n last x (e - x) (numberIn (r .cell) + 1) k zs →
-      Listing (valuesOf map) from to xs zs e k (numberIn (r .cell) + 1) × Passing map 0 e (r .at)
-  look-next u =
-      (list-next g (look-further .0) (omega arith) (omega arith) look-value u, passing-on (passing-then p (s .passing)) e (omega (arith, look-further .0)))
+  -- The listing and its cursor go on from the next byte of another cell.
+  pub look-next : {r : Piece} {zs : List ℕ} → Turned ys hand x (s .cell / 2 + 1) r zs → length zs ≡ length ys → {y : ℕ} → y ≡ min (s .next) to →
+      Listing (valuesOf map) from to xs zs y r × Passing map 0 y (s .at)
+  look-next t kept {y} q = (
+    list-next g (λ h. look-value x (omega arith) look-further) t (omega arith) kept y (omega (arith, look-further)) (omega arith)
+        (λ b h k. look-value b h (omega arith)),
+    passing-on (passing-then p (l .passing)) y (omega (arith, look-further)),
+  )

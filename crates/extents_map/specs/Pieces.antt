@@ -1,17 +1,25 @@
--- Pieces in an answer slice, three numbers each, and what the function that puts them there relies on.
-use Prim.Native.Nat.{ℕ, _+_, _*_, _-_, _≤_}
+-- The piece in hand while a range is listed, and what the function that puts it into an answer slice relies on and makes.
+use Prim.Native.Nat.{ℕ, _+_, _*_, _≤_}
 use mathlib.Core.Path.{_≡_}
-use mathlib.Core.List.{List, _∷_, _++_}
-use lib.ListN.{length, getD, take, drop, set}
-use Rattle.rows.specs.Limits.{OFFSET-MAX}
+use mathlib.Core.List.{List, []}
+use lib.ListN.{length}
+use Rattle.extents_meaning.specs.Runs.{Run}
+use Rattle.extents_meaning.specs.Maps.{threes, withPart}
+use Rattle.extents_weave_meaning.specs.Walks.{put}
+use Rattle.extents_map.specs.declared.list.Piece.{Piece}
 
--- there is room for a piece behind n others, or for its bytes in the last of them where that has its value
-pub record Room (xs : List ℕ) (n last size value : ℕ) : Type 0 where
-  pub some : 1 ≤ value
-  pub longer : value ≡ last → (1 ≤ n) × (n * 3 ≤ length xs) × (getD xs (n * 3 - 2) 0 + size ≤ OFFSET-MAX)
-  pub more : (value ≡ last → ⊥) → n * 3 + 3 ≤ length xs
+-- The piece in hand where it ends at byte x, none where none is in hand.
+abbrev pub ended : Piece → ℕ → List Run
+ended hand x = put (hand .start) x (hand .value) []
 
--- the count of pieces and the slice then: the last one is longer, or there is one more
-pub record Put (xs : List ℕ) (n last start size value count : ℕ) (ys : List ℕ) : Type 0 where
-  pub longer : value ≡ last → (count ≡ n) × (ys ≡ set xs (n * 3 - 2) (getD xs (n * 3 - 2) 0 + size))
-  pub more : (value ≡ last → ⊥) → (count ≡ n + 1) × (ys ≡ take (n * 3) xs ++ (start ∷ (size ∷ ((value - 1) ∷ drop (n * 3 + 3) xs))))
+-- The piece in hand begins at byte x or earlier, and there is room for it where the value becomes another.
+pub record Room (xs : List ℕ) (hand : Piece) (x value : ℕ) : Type 0 where
+  pub order : hand .start ≤ x
+  pub room : (hand .value ≡ 0 → ⊥) → (value ≡ hand .value → ⊥) → hand .count * 3 + 3 ≤ length xs
+
+-- The piece in hand and the slice then: where the value stays all stays, else the old piece is put and another begins at byte x.
+pub record Turned (xs : List ℕ) (hand : Piece) (x value : ℕ) (r : Piece) (ys : List ℕ) : Type 0 where
+  pub same : 1 ≤ value → value ≡ hand .value → (r ≡ hand) × (ys ≡ xs)
+  pub other : (value ≡ hand .value → value ≡ 0) →
+      (r ≡ record { count = hand .count + length (ended hand x); start = x; value = value })
+      × (ys ≡ withPart (hand .count * 3) (length (threes (ended hand x))) (threes (ended hand x)) xs)

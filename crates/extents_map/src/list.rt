@@ -5,7 +5,14 @@ ghost use mathlib.Core.Bool.{true};
 ghost use lib.ListN.{length};
 ghost use Rattle.extents_meaning.specs.Runs.{piecesOf};
 ghost use Rattle.extents_meaning.specs.Maps.{bytesOf, lawful, listedIn};
-ghost use Rattle.extents_map.specs.Pieces.{Room, Put};
+ghost use Rattle.extents_map.specs.Pieces.{Room, Turned};
+
+// How many pieces are put, and the one in hand, whose bytes from `start` on have the value; none is in hand where the value is 0.
+struct Piece {
+    count: usize,
+    start: u32,
+    value: u32,
+}
 
 // Puts the pieces of a range of a map into a slice that has room for them, and answers their count.
 pub fn list(map: &[u32], from: u32, to: u32, out: &mut [u32]) -> usize
@@ -15,34 +22,44 @@ pub fn list(map: &[u32], from: u32, to: u32, out: &mut [u32]) -> usize
     ensures { λ r. ⌜ now (out .exit) ≡ listedIn (piecesOf (bytesOf (now (map .entry))) from (to - from)) (now (out .entry)) ⌝ }
 {
     let mut x = from;
-    let mut n = 0;
     let mut i = crate::scan::seek(map, from);
-    let mut last = 0;
+    let mut hand = Piece {
+        count: 0,
+        start: from,
+        value: 0,
+    };
     while x < to {
-        let v = crate::scan::see(map, i, x);
-        let next = crate::scan::least(v.next, to);
-        let value = v.cell / 2 + 1;
-        n = put_piece(out, n, last, x, next - x, value);
-        last = value;
-        i = v.at;
-        x = next;
+        let s = crate::scan::see(map, i, x);
+        hand = turn(out, hand, x, s.cell / 2 + 1);
+        i = s.at;
+        x = crate::scan::least(s.next, to);
     }
-    n
+    let last = turn(out, hand, x, 0);
+    last.count
 }
 
-// Puts a piece behind n others, or lengthens the last of them where both have one value, and answers how many pieces there are then.
-fn put_piece(out: &mut [u32], n: usize, last: u32, start: u32, size: u32, value: u32) -> usize
-    requires { ⌜ Room (now out) n last size value ⌝ }
-    ensures { λ r. ⌜ Put (now (out .entry)) n last start size value r (now (out .exit)) ⌝ }
+// At byte x the value is `value`: another one than that of the piece in hand puts that piece down and begins one at x.
+fn turn(out: &mut [u32], hand: Piece, x: u32, value: u32) -> Piece
+    requires { ⌜ Room (now out) hand x value ⌝ }
+    ensures { λ r. ⌜ Turned (now (out .entry)) hand x value r (now (out .exit)) ⌝ }
 {
-    if value == last {
-        let at = n * 3 - 2;
-        out[at] += size;
-        return n;
+    if hand.value == 0 {
+        return Piece {
+            count: hand.count,
+            start: x,
+            value: value,
+        };
     }
-    let at = n * 3;
-    out[at] = start;
-    out[at + 1] = size;
-    out[at + 2] = value - 1;
-    n + 1
+    if value == hand.value {
+        return hand;
+    }
+    let at = hand.count * 3;
+    out[at] = hand.start;
+    out[at + 1] = x - hand.start;
+    out[at + 2] = hand.value - 1;
+    Piece {
+        count: hand.count + 1,
+        start: x,
+        value: value,
+    }
 }
