@@ -9,15 +9,15 @@ use Rattle.extents_map.proofs.Listing.{turn-none, turn-put}
 use Rattle.extents_map.proofs.list.turn.Statement.{statement}
 use Rattle.extents_map.proofs.list.turn.Tie as tie
 
--- there is room for the three numbers of the piece in hand
-room : (c : tie.After-struct-known3) → (let a = c .before .before .before .before .before .args in a .hand .count * 3 + 3 ≤ length (now (a .out)))
-room c = c .before .before .before .before .before .pre .room (c .before .before .before .if1 .left) (c .before .if2 .left)
-
 returns : tie.Need-returns
 returns c = turn-none (c .if1 .taken)
 
 returns-2 : tie.Need-returns-2
 returns-2 c = record { same = λ h e. (refl, refl); other = λ f. absurd (c .before .before .if1 .left (omega (arith, f (c .if2 .taken), c .if2 .taken))) }
+
+-- there is room for the three numbers of the piece in hand
+room : (c : tie.After-struct-known3) → (let a = c .before .before .before .before .before .args in a .hand .count * 3 + 3 ≤ length (now (a .out)))
+room c = c .before .before .before .before .before .pre .room (c .before .before .before .if1 .left) (c .before .if2 .left)
 
 mul-at : tie.Need-mul-at
 mul-at c = let h = room c in omega arith
