@@ -110,10 +110,6 @@ module _ {xs : List ℕ} {from x i : ℕ} (p : Passing xs from x i) (below : x <
       let s = see-none f x below (λ b l h. ap (λ (rs : List Run). cellAt rs b) (sym e) ∙ p .same b l) in
       record { passing = p; first = subst (Open x) (sym e) tt; cell = sym (s .0); next = sym (s .1) }
 
-  -- At a length 0 no run is left.
-  pub look-stop : getD xs (4 * i + 1) 0 ≡ 0 → Looked xs from x (lookOf 0 OFFSET-MAX i)
-  look-stop e = none (runs-stop (spaceIn (drop (4 * i) xs)) (drop (4 * i) xs) (getD-drop (4 * i) xs 1 0 ∙ e))
-
   -- Where no space is left, no run is.
   pub look-end : length xs / 4 ≤ i → Looked xs from x (lookOf 0 OFFSET-MAX i)
   unfolding runsIn
@@ -122,69 +118,76 @@ module _ {xs : List ℕ} {from x i : ℕ} (p : Passing xs from x i) (below : x <
       let e : spaceIn (drop (4 * i) xs) ≡ 0 = omega (arith, m .fours-in, length-drop (4 * i) xs, p .fits) in
       none (ap (λ (k : ℕ). runsIn k (drop (4 * i) xs)) e)
 
-  module _ (more : i < length xs / 4) (some : getD xs (4 * i + 1) 0 ≢ 0) where
-    -- the run to look at
-    abbrev r : Run
-    r = runAt i xs
+  -- the length of the run to look at is read
+  module _ {l : ℕ} (read : l ≡ getD xs (4 * i + 1) 0) where
+    -- At a length 0 no run is left.
+    pub look-stop : l ≡ 0 → Looked xs from x (lookOf 0 OFFSET-MAX i)
+    look-stop e = none (runs-stop (spaceIn (drop (4 * i) xs)) (drop (4 * i) xs) (getD-drop (4 * i) xs 1 0 ∙ sym read ∙ e))
 
-    -- The runs behind the run to look at.
-    abbrev rs : List Run
-    rs = runsIn (spaceIn (drop (4 * i) xs) - 1) (drop 4 (drop (4 * i) xs))
+    module _ (more : i < length xs / 4) (some : l ≢ 0) where
+      -- the run to look at
+      abbrev r : Run
+      r = runAt i xs
 
-    -- it is the first of those not passed
-    first-run : ahead xs i ≡ r ∷ rs
-    first-run =
-        let n : spaceIn (drop (4 * i) xs) ≡ suc (spaceIn (drop (4 * i) xs) - 1) = omega (arith, length-drop (4 * i) xs) in
-        ap (λ (k : ℕ). runsIn k (drop (4 * i) xs)) n
-        ∙ runs-step (spaceIn (drop (4 * i) xs) - 1) (drop (4 * i) xs) (λ e. some (sym (getD-drop (4 * i) xs 1 0) ∙ e))
-        ∙ ap (λ (q : Run). q ∷ rs) (run-there i xs)
+      -- The runs behind the run to look at.
+      abbrev rs : List Run
+      rs = runsIn (spaceIn (drop (4 * i) xs) - 1) (drop 4 (drop (4 * i) xs))
 
-    -- The runs not passed are lawful.
-    law-runs : Lawful (r ∷ rs)
-    law-runs = subst Lawful first-run (lawful-map (drop (4 * i) xs) (p .law) .lawful-runs)
+      -- it is the first of those not passed
+      first-run : ahead xs i ≡ r ∷ rs
+      first-run =
+          let n : spaceIn (drop (4 * i) xs) ≡ suc (spaceIn (drop (4 * i) xs) - 1) = omega (arith, length-drop (4 * i) xs) in
+          ap (λ (k : ℕ). runsIn k (drop (4 * i) xs)) n
+          ∙ runs-step (spaceIn (drop (4 * i) xs) - 1) (drop (4 * i) xs) (λ e. some (read ∙ sym (getD-drop (4 * i) xs 1 0) ∙ e))
+          ∙ ap (λ (q : Run). q ∷ rs) (run-there i xs)
 
-    -- The runs not passed say all from x on.
-    means : (b : ℕ) → x ≤ b → b < OFFSET-MAX → cellAt (r ∷ rs) b ≡ f b
-    means b l h = ap (λ (q : List Run). cellAt q b) (sym first-run) ∙ p .same b l
+      -- The runs not passed are lawful.
+      law-runs : Lawful (r ∷ rs)
+      law-runs = subst Lawful first-run (lawful-map (drop (4 * i) xs) (p .law) .lawful-runs)
 
-    -- The cell of the run is that of a row number to 4,096 and a mark.
-    pub look-cell : r .cell ≤ 8193
-    look-cell =
-        let a = run-at (drop (4 * i) xs) (p .law) [] rs r 0 first-run refl in
-        omega (arith, a .2, a .3, law-runs .numbered .1)
+      -- The runs not passed say all from x on.
+      means : (b : ℕ) → x ≤ b → b < OFFSET-MAX → cellAt (r ∷ rs) b ≡ f b
+      means b l h = ap (λ (q : List Run). cellAt q b) (sym first-run) ∙ p .same b l
 
-    -- The run ends within the offset range.
-    pub look-inside : r .start + r .length ≤ OFFSET-MAX
-    look-inside = law-runs .in-order .0 .inside
+      -- The cell of the run is that of a row number to 4,096 and a mark.
+      pub look-cell : r .cell ≤ 8193
+      look-cell =
+          let a = run-at (drop (4 * i) xs) (p .law) [] rs r 0 first-run refl in
+          omega (arith, a .2, a .3, law-runs .numbered .1)
 
-    -- a byte before the run is not written, nor are those up to it
-    pub look-before : x < r .start → Looked xs from x (lookOf 0 (r .start) i)
-    look-before h =
-        let s = see-gap f x below r rs (law-runs .in-order) means h in
-        record { passing = p; first = subst (Open x) (sym first-run) (omega arith); cell = sym (s .0); next = sym (s .1) }
+      -- The run ends within the offset range.
+      pub look-inside : r .start + l ≤ OFFSET-MAX
+      look-inside = rw read (law-runs .in-order .0 .inside)
 
-    -- one of its bytes has its cell, up to its end
-    pub look-in : r .start ≤ x → x < r .start + r .length → Looked xs from x (lookOf (r .cell) (r .start + r .length) i)
-    look-in h k =
-        let s = see-run f x below r rs (law-runs .in-order) means h k in
-        record { passing = p; first = subst (Open x) (sym first-run) k; cell = sym (s .0); next = sym (s .1) }
+      -- a byte before the run is not written, nor are those up to it
+      pub look-before : x < r .start → Looked xs from x (lookOf 0 (r .start) i)
+      look-before h =
+          let s = see-gap f x below r rs (law-runs .in-order) means h in
+          record { passing = p; first = subst (Open x) (sym first-run) (omega arith); cell = sym (s .0); next = sym (s .1) }
 
-    -- a run that ends at the byte or before is passed
-    pub look-on : r .start + r .length ≤ x → Passing xs from x (i + 1)
-    look-on h =
-        let part = drop (4 * i) xs in
-        let e : 4 * (i + 1) ≡ 4 * i + 4 = omega arith in
-        let w : drop (4 * (i + 1)) xs ≡ drop 4 part = ap (λ (j : ℕ). drop j xs) e ∙ sym (drop-drop 4 (4 * i) xs) in
-        let n : 1 ≤ length (runs part) = omega (arith, ap length first-run) in
-        let b : ahead xs (i + 1) ≡ rs = ap runs w ∙ ahead-runs part (p .law) 1 n ∙ ap (drop 1) first-run in
-        let c = p .count in
-        record {
-          fits = omega (arith, more);
-          law = ap lawful w ∙ ahead-law part (p .law) 1 n;
-          count = omega (arith, ap length b, ap length first-run, c);
-          same = λ y o.
-              ap (λ (q : List Run). cellAt q y) b ∙ sym (cell-behind r rs y (omega arith)) ∙ ap (λ (q : List Run). cellAt q y) (sym first-run) ∙ p .same y o;
-        }
+      -- one of its bytes has its cell, up to its end
+      pub look-in : r .start ≤ x → x < r .start + l → {c : ℕ} → c ≡ r .cell → Looked xs from x (lookOf c (r .start + l) i)
+      look-in h k e =
+          let u : x < r .start + r .length = omega arith in
+          let s = see-run f x below r rs (law-runs .in-order) means h u in
+          record { passing = p; first = subst (Open x) (sym first-run) u; cell = e ∙ sym (s .0); next = rw read (sym (s .1)) }
+
+      -- a run that ends at the byte or before is passed
+      pub look-on : r .start + l ≤ x → Passing xs from x (i + 1)
+      look-on h =
+          let part = drop (4 * i) xs in
+          let e : 4 * (i + 1) ≡ 4 * i + 4 = omega arith in
+          let w : drop (4 * (i + 1)) xs ≡ drop 4 part = ap (λ (j : ℕ). drop j xs) e ∙ sym (drop-drop 4 (4 * i) xs) in
+          let n : 1 ≤ length (runs part) = omega (arith, ap length first-run) in
+          let b : ahead xs (i + 1) ≡ rs = ap runs w ∙ ahead-runs part (p .law) 1 n ∙ ap (drop 1) first-run in
+          let c = p .count in
+          record {
+            fits = omega (arith, more);
+            law = ap lawful w ∙ ahead-law part (p .law) 1 n;
+            count = omega (arith, ap length b, ap length first-run, c);
+            same = λ y o.
+                ap (λ (q : List Run). cellAt q y) b ∙ sym (cell-behind r rs y (omega arith)) ∙ ap (λ (q : List Run). cellAt q y) (sym first-run) ∙ p .same y o;
+          }
 
 -- ---- Two looks and a range
 

@@ -68,24 +68,26 @@ module _ {xs : List ℕ} {space i end cell : ℕ} (s : Reached xs space i end ce
   unfolding lawfulFrom
   lawful-end h = let e : space - i ≡ 0 = omega arith in s .rest ∙ rw e
 
-  -- from a length 0 on all must be 0
-  pub lawful-stop : i < space → getD xs (4 * i + 1) 0 ≡ 0 → lawful xs ≡ allZero (drop (4 * i) xs)
-  lawful-stop h e = s .rest ∙ scan-stop space i xs h end cell e
-
   -- a test says whether run i may follow
-  module _ {r : Bool} (t : r ≡ followsAt end cell i xs) where
-    -- a run that may not says no
-    pub lawful-bad : i < space → getD xs (4 * i + 1) 0 ≢ 0 → not r ≡ true → lawful xs ≡ false
-    lawful-bad h f e = s .rest ∙ scan-bad space i xs h end cell f (sym t ∙ not-true r e)
-
-    -- one that may leaves it to the runs behind
-    pub lawful-on : i < space → getD xs (4 * i + 1) 0 ≢ 0 → not r ≡ false →
-        Reached xs space (i + 1) (runAt i xs .start + runAt i xs .length) (runAt i xs .cell)
-    lawful-on h f e = record { rest = s .rest ∙ scan-on space i xs h end cell f (sym t ∙ not-false r e) }
-
+  module _ {r : Bool} (t : r ≡ followsAt end cell i xs) (e : not r ≡ false) where
     -- The numbers of a run that may follow are in range.
-    pub lawful-may : not r ≡ false → May end cell (getD xs (4 * i) 0) (getD xs (4 * i + 1) 0) (getD xs (4 * i + 2) 0) (getD xs (4 * i + 3) 0)
-    lawful-may e = may-out end cell _ _ _ _ (sym t ∙ not-false r e)
+    pub lawful-may : May end cell (getD xs (4 * i) 0) (getD xs (4 * i + 1) 0) (getD xs (4 * i + 2) 0) (getD xs (4 * i + 3) 0)
+    lawful-may = may-out end cell _ _ _ _ (sym t ∙ not-false r e)
+
+  -- the length of run i is read
+  module _ (h : i < space) {l : ℕ} (read : l ≡ getD xs (4 * i + 1) 0) where
+    -- from a length 0 on all must be 0
+    pub lawful-stop : l ≡ 0 → lawful xs ≡ allZero (drop (4 * i) xs)
+    lawful-stop z = s .rest ∙ scan-stop space i xs h end cell (sym read ∙ z)
+
+    module _ (f : l ≢ 0) {r : Bool} (t : r ≡ followsAt end cell i xs) where
+      -- a run that may not follow says no
+      pub lawful-bad : not r ≡ true → lawful xs ≡ false
+      lawful-bad e = s .rest ∙ scan-bad space i xs h end cell (λ z. f (read ∙ z)) (sym t ∙ not-true r e)
+
+      -- one that may leaves it to the runs behind
+      pub lawful-on : not r ≡ false → {e c : ℕ} → e ≡ runAt i xs .start + runAt i xs .length → c ≡ runAt i xs .cell → Reached xs space (i + 1) e c
+      lawful-on e p q = rw (p, q) (record { rest = s .rest ∙ scan-on space i xs h end cell (λ z. f (read ∙ z)) (sym t ∙ not-false r e) })
 
 -- ---- Marks
 
@@ -103,21 +105,24 @@ module _ {xs : List ℕ} {space i : ℕ} (u : Unmarked xs space i) where
   unfolding noMarks runsIn
   marks-end h = let e : space - i ≡ 0 = omega arith in u .rest ∙ rw e
 
-  -- a length 0: no runs are left, so no marks
-  pub marks-stop : getD xs (4 * i + 1) 0 ≡ 0 → noMarks (runs xs) ≡ true
-  unfolding noMarks
-  marks-stop e = u .rest ∙ rw (read-stop space i xs e)
+  -- the length of run i is read
+  module _ {l : ℕ} (read : l ≡ getD xs (4 * i + 1) 0) where
+    -- a length 0: no runs are left, so no marks
+    pub marks-stop : l ≡ 0 → noMarks (runs xs) ≡ true
+    unfolding noMarks
+    marks-stop z = u .rest ∙ rw (read-stop space i xs (sym read ∙ z))
 
-  -- a mark says no
-  pub marks-bad : i < space → getD xs (4 * i + 1) 0 ≢ 0 → getD xs (4 * i + 3) 0 % 2 ≡ 1 → noMarks (runs xs) ≡ false
-  unfolding noMarks
-  marks-bad h f e =
-      let m : runAt i xs .cell % 2 ≡ 1 = omega arith in
-      u .rest ∙ rw (read-on space i xs h f, eq-eqb (runAt i xs .cell % 2) 1 m)
+    module _ (f : l ≢ 0) (h : i < space) where
+      -- a mark says no
+      pub marks-bad : getD xs (4 * i + 3) 0 % 2 ≡ 1 → noMarks (runs xs) ≡ false
+      unfolding noMarks
+      marks-bad e =
+          let m : runAt i xs .cell % 2 ≡ 1 = omega arith in
+          u .rest ∙ rw (read-on space i xs h (λ z. f (read ∙ z)), eq-eqb (runAt i xs .cell % 2) 1 m)
 
-  -- a run without one leaves it to the runs behind
-  pub marks-on : i < space → getD xs (4 * i + 1) 0 ≢ 0 → getD xs (4 * i + 3) 0 % 2 ≢ 1 → Unmarked xs space (i + 1)
-  unfolding noMarks
-  marks-on h f e =
-      let m : runAt i xs .cell % 2 ≢ 1 = omega arith in
-      record { rest = u .rest ∙ rw (read-on space i xs h f, ne-eqb (runAt i xs .cell % 2) 1 m) }
+      -- a run without one leaves it to the runs behind
+      pub marks-on : getD xs (4 * i + 3) 0 % 2 ≢ 1 → Unmarked xs space (i + 1)
+      unfolding noMarks
+      marks-on e =
+          let m : runAt i xs .cell % 2 ≢ 1 = omega arith in
+          record { rest = u .rest ∙ rw (read-on space i xs h (λ z. f (read ∙ z)), ne-eqb (runAt i xs .cell % 2) 1 m) }

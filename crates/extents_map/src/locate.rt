@@ -2,7 +2,9 @@
 ghost use Prim.Native.Nat.{_+_, _*_, _-_, _≤_, _<_};
 ghost use mathlib.Core.Path.{_≡_};
 ghost use mathlib.Core.Bool.{true};
-ghost use lib.ListN.{length};
+ghost use lib.ListN.{length, getD};
+ghost use Rattle.rows.specs.Limits.{OFFSET-MAX};
+ghost use Rattle.extents_meaning.specs.Cells.{cellOf};
 ghost use Rattle.extents_meaning.specs.Maps.{runs, lawful};
 ghost use Rattle.extents_map.specs.Beside.{endOf, runNo, runBefore};
 
@@ -23,8 +25,7 @@ pub fn runs_in(map: &[u32]) -> usize
     let mut hi = map.len() / 4;
     while lo < hi {
         let mid = lo + (hi - lo) / 2;
-        let at = mid * 4;
-        if map[at + 1] == 0 {
+        if length_of(map, mid * 4) == 0 {
             hi = mid;
         } else {
             lo = mid + 1;
@@ -46,8 +47,7 @@ pub fn end_at(map: &[u32], i: usize) -> u32
     requires { ⌜ (lawful (now map) ≡ true) × (i < length (runs (now map))) ⌝ }
     ensures { λ r. ⌜ r ≡ endOf (runNo (runs (now (map .entry))) i) ⌝ }
 {
-    let at = i * 4;
-    map[at] + map[at + 1]
+    end_of(map, i * 4)
 }
 
 // The cell of run i.
@@ -55,8 +55,7 @@ pub fn cell_at(map: &[u32], i: usize) -> u32
     requires { ⌜ (lawful (now map) ≡ true) × (i < length (runs (now map))) ⌝ }
     ensures { λ r. ⌜ r ≡ runNo (runs (now (map .entry))) i .cell ⌝ }
 {
-    let at = i * 4;
-    map[at + 2] * 2 + map[at + 3]
+    cell_of(map, i * 4)
 }
 
 // The first run that ends behind byte x.
@@ -77,4 +76,28 @@ pub fn first_past(map: &[u32], all: usize, x: u32) -> usize
         }
     }
     lo
+}
+
+// The length of the run at a place of a slice.
+pub(crate) fn length_of(map: &[u32], at: usize) -> u32
+    requires { ⌜ at + 4 ≤ length (now map) ⌝ }
+    ensures { λ r. ⌜ r ≡ getD (now (map .entry)) (at + 1) 0 ⌝ }
+{
+    map[at + 1]
+}
+
+// The byte behind the run at a place of a slice.
+pub(crate) fn end_of(map: &[u32], at: usize) -> u32
+    requires { ⌜ (at + 4 ≤ length (now map)) × (getD (now map) at 0 + getD (now map) (at + 1) 0 ≤ OFFSET-MAX) ⌝ }
+    ensures { λ r. ⌜ r ≡ getD (now (map .entry)) at 0 + getD (now (map .entry)) (at + 1) 0 ⌝ }
+{
+    map[at] + map[at + 1]
+}
+
+// The cell of the run at a place of a slice.
+pub(crate) fn cell_of(map: &[u32], at: usize) -> u32
+    requires { ⌜ (at + 4 ≤ length (now map)) × (cellOf (getD (now map) (at + 2) 0) (getD (now map) (at + 3) 0) ≤ OFFSET-MAX) ⌝ }
+    ensures { λ r. ⌜ r ≡ cellOf (getD (now (map .entry)) (at + 2) 0) (getD (now (map .entry)) (at + 3) 0) ⌝ }
+{
+    map[at + 2] * 2 + map[at + 3]
 }

@@ -2,7 +2,7 @@
 ghost use Prim.Native.Nat.{ℕ, _+_, _*_, _-_, _≤_, _<_, min, max};
 ghost use mathlib.Core.Path.{_≡_};
 ghost use mathlib.Core.Bool.{true, cond, not, _&&_};
-ghost use lib.ListN.{length, drop};
+ghost use lib.ListN.{length, getD, drop};
 ghost use lib.Dec.{eqb};
 ghost use Rattle.extents_meaning.specs.Cells.{numberIn, markIn, inRange};
 ghost use Rattle.extents_meaning.specs.Runs.{runsFrom};
@@ -31,18 +31,14 @@ pub fn is_lawful(map: &[u32]) -> bool
     let mut cell = 0;
     while i < space {
         let at = 4 * i;
-        let length = map[at + 1];
-        if length == 0 {
+        if crate::locate::length_of(map, at) == 0 {
             return is_zero(map, at);
         }
-        let start = map[at];
-        let number = map[at + 2];
-        let mark = map[at + 3];
-        if !may_follow(end, cell, start, length, number, mark) {
+        if !may_stand(map, at, end, cell) {
             return false;
         }
-        end = start + length;
-        cell = number * 2 + mark;
+        end = crate::locate::end_of(map, at);
+        cell = crate::locate::cell_of(map, at);
         i += 1;
     }
     true
@@ -59,6 +55,14 @@ fn is_zero(map: &[u32], from: usize) -> bool
         i += 1;
     }
     bits == 0
+}
+
+// May the run at a place of a slice follow one that ends at `end` with the cell `cell`?
+fn may_stand(map: &[u32], at: usize, end: u32, cell: u32) -> bool
+    requires { ⌜ at + 4 ≤ length (now map) ⌝ }
+    ensures { λ r. ⌜ r ≡ follows end cell (getD (now (map .entry)) at 0) (getD (now (map .entry)) (at + 1) 0) (getD (now (map .entry)) (at + 2) 0) (getD (now (map .entry)) (at + 3) 0) ⌝ }
+{
+    may_follow(end, cell, map[at], map[at + 1], map[at + 2], map[at + 3])
 }
 
 // May a run follow one that ends at `end` with the cell `cell`?
@@ -107,7 +111,7 @@ fn has_no_marks(map: &[u32]) -> bool
     let mut i = 0;
     while i < space {
         let at = 4 * i;
-        if map[at + 1] == 0 {
+        if crate::locate::length_of(map, at) == 0 {
             return true;
         }
         if map[at + 3] % 2 == 1 {
@@ -127,7 +131,7 @@ pub fn see(map: &[u32], from: usize, x: u32) -> Look
     let mut i = from;
     while i < space {
         let at = 4 * i;
-        let length = map[at + 1];
+        let length = crate::locate::length_of(map, at);
         if length == 0 {
             return Look {
                 cell: 0,
@@ -145,7 +149,7 @@ pub fn see(map: &[u32], from: usize, x: u32) -> Look
         }
         if x - start < length {
             return Look {
-                cell: map[at + 2] * 2 + map[at + 3],
+                cell: crate::locate::cell_of(map, at),
                 next: start + length,
                 at: i,
             };

@@ -1,5 +1,6 @@
 -- `extents_map::locate::end_at` meets its contract.
 use native.Mathlib.Omega.{arith}
+use mathlib.Core.Path.{_∙_}
 use denote.Ref.{now}
 use Rattle.extents_map.proofs.Places.{Here, here}
 use Rattle.extents_map.proofs.locate.end_at.Statement.{statement}
@@ -9,39 +10,14 @@ use Rattle.extents_map.proofs.locate.end_at.Tie as tie
 place : (c : tie.Start) → Here (now (c .args .map)) (c .args .i)
 place c = here (now (c .args .map)) (c .args .i) (c .pre .0) (c .pre .1)
 
-mul-at : tie.Need-mul-at
-mul-at c = let h = place (c) in omega arith
+mul-end-of : tie.Need-mul-end-of
+mul-end-of c = let h = place (c .before) in omega arith
 
-mul-result : tie.Need-mul-result
-mul-result c = let h = place (c) in omega arith
-
-shared-slice-read-result : tie.Need-shared-slice-read-result
-shared-slice-read-result c = let h = place (c .before) in omega arith
-
-add-result : tie.Need-add-result
-add-result c = let h = place (c .before) in omega arith
-
-mul-result-2 : tie.Need-mul-result-2
-mul-result-2 c = let h = place (c .before) in omega arith
-
-shared-slice-read-result-2 : tie.Need-shared-slice-read-result-2
-shared-slice-read-result-2 c = let h = place (c .before .before) in omega arith
-
-add-result-2 : tie.Need-add-result-2
-add-result-2 c = let h = place (c .before .before) in omega arith
+end-of-requires : tie.Need-end-of-requires
+end-of-requires c κs = let h = place (c .before) in (omega arith, omega arith)
 
 returns : tie.Need-returns
-returns c = place (c .before .before) .end
+returns c = c .end-of .ensures ∙ place (c .before .before) .end
 
 pub end-at-spec : {M : Type 1} → statement M
-end-at-spec =
-    tie.close
-    (tie.spec
-    mul-at
-    mul-result
-    shared-slice-read-result
-    add-result
-    mul-result-2
-    shared-slice-read-result-2
-    add-result-2
-    returns)
+end-at-spec = tie.close (tie.spec mul-end-of end-of-requires returns)

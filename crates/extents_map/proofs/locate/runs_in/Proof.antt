@@ -2,6 +2,7 @@
 use borrow.Author.Needs.{needs}
 use Prim.Native.Nat.{_-_, _≤_}
 use native.Mathlib.Omega.{arith}
+use mathlib.Core.Path.{sym, _∙_}
 use lib.ListN.{length}
 use denote.Ref.{now}
 use Rattle.extents_meaning.specs.Maps.{runs, spaceIn}
@@ -18,7 +19,7 @@ abbrev μ-loop : tie.MeasureT-loop
 μ-loop map lo₀ hi₀ lo hi = hi - lo
 
 loop-holds : tie.Need-loop-holds Inv-loop μ-loop
-loop-holds c = let m = lawful-map (now (c .args .map)) (c .pre) in (omega arith, omega (arith, m .fit), omega arith)
+loop-holds c = let m = lawful-map (now (c .before .args .map)) (c .before .pre) in (omega arith, omega (arith, m .fit), omega arith)
 
 sub-mid : tie.Need-sub-mid Inv-loop μ-loop
 sub-mid c = search needs
@@ -26,28 +27,21 @@ sub-mid c = search needs
 add-mid : tie.Need-add-mid Inv-loop μ-loop
 add-mid c = search needs
 
-mul-at : tie.Need-mul-at Inv-loop μ-loop
-mul-at c = search needs
+mul-length-of : tie.Need-mul-length-of Inv-loop μ-loop
+mul-length-of c = search needs
 
-add-if1 : tie.Need-add-if1 Inv-loop μ-loop
-add-if1 c = search needs
-
-mul-if1 : tie.Need-mul-if1 Inv-loop μ-loop
-mul-if1 c = search needs
-
-shared-slice-read-if1 : tie.Need-shared-slice-read-if1 Inv-loop μ-loop
-shared-slice-read-if1 c =
-    let s = c .before .before .before in
-    omega (arith, lawful-map (now (s .args .map)) (s .pre) .fours-in, c .before .loop-test .taken)
+length-of-requires : tie.Need-length-of-requires Inv-loop μ-loop
+length-of-requires c κs = let s = c .before .before .before in omega (arith, lawful-map (now (s .args .map)) (s .pre) .fours-in, c .loop-test .taken)
 
 loop-less : tie.Need-loop-less Inv-loop μ-loop
 loop-less c = search needs
 
 loop-again : tie.Need-loop-again Inv-loop μ-loop
 loop-again c =
-    let s = c .before .before .before .before in
-    let k = c .before .before .before .loop .inv in
-    (k .0, count-none (now (s .args .map)) (s .pre) _ (c .if1 .taken), omega (arith, c .before .before .loop-test .taken))
+    let k = c .before .before .before in
+    let s = k .before .before in
+    let none = count-none (now (s .args .map)) (s .pre) _ (sym (c .before .length-of .ensures) ∙ c .if1 .taken) in
+    (k .loop .inv .0, none, omega (arith, c .before .before .loop-test .taken))
 
 add-lo : tie.Need-add-lo Inv-loop μ-loop
 add-lo c = search needs
@@ -57,9 +51,10 @@ loop-less-2 c = search needs
 
 loop-again-2 : tie.Need-loop-again-2 Inv-loop μ-loop
 loop-again-2 c =
-    let s = c .before .before .before .before in
-    let k = c .before .before .before .loop .inv in
-    (omega (arith, count-some (now (s .args .map)) (s .pre) _ (c .if1 .left)), k .1, k .2)
+    let k = c .before .before .before in
+    let s = k .before .before in
+    let more = count-some (now (s .args .map)) (s .pre) _ (λ z. c .if1 .left (c .before .length-of .ensures ∙ z)) in
+    (omega arith, k .loop .inv .1, k .loop .inv .2)
 
 returns : tie.Need-returns Inv-loop μ-loop
 returns c = search needs
@@ -73,10 +68,8 @@ runs-in-spec =
     loop-holds
     sub-mid
     add-mid
-    mul-at
-    add-if1
-    mul-if1
-    shared-slice-read-if1
+    mul-length-of
+    length-of-requires
     loop-less
     loop-again
     add-lo

@@ -15,22 +15,16 @@ abbrev μ-loop : tie.MeasureT-loop
 μ-loop map space i₀ i = space - i
 
 loop-holds : tie.Need-loop-holds Inv-loop μ-loop
-loop-holds c = marks-start (now (c .args .map))
+loop-holds c = marks-start (now (c .before .args .map))
 
 mul-at : tie.Need-mul-at Inv-loop μ-loop
 mul-at c = search needs
 
-add-if1 : tie.Need-add-if1 Inv-loop μ-loop
-add-if1 c = search needs
-
-mul-if1 : tie.Need-mul-if1 Inv-loop μ-loop
-mul-if1 c = search needs
-
-shared-slice-read-if1 : tie.Need-shared-slice-read-if1 Inv-loop μ-loop
-shared-slice-read-if1 c = search needs
+length-of-requires : tie.Need-length-of-requires Inv-loop μ-loop
+length-of-requires c κs = search needs
 
 returns : tie.Need-returns Inv-loop μ-loop
-returns c = sym (marks-stop (c .before .before .before .loop .inv) (c .if1 .taken))
+returns c = sym (marks-stop (c .before .before .before .loop .inv) (c .before .length-of .ensures) (c .if1 .taken))
 
 add-if2 : tie.Need-add-if2 Inv-loop μ-loop
 add-if2 c = search needs
@@ -43,8 +37,9 @@ shared-slice-read-if2 c = search needs
 
 returns-2 : tie.Need-returns-2 Inv-loop μ-loop
 returns-2 c =
-    let s = c .before .before .before .before in
-    sym (marks-bad (s .before .loop .inv) (s .loop-test .taken) (c .before .before .if1 .left) (c .if2 .taken))
+    let t = c .before .before in
+    let s = t .before .before in
+    sym (marks-bad (s .before .loop .inv) (t .before .length-of .ensures) (t .if1 .left) (s .loop-test .taken) (c .if2 .taken))
 
 add-i : tie.Need-add-i Inv-loop μ-loop
 add-i c = search needs
@@ -54,8 +49,9 @@ loop-less c = search needs
 
 loop-again : tie.Need-loop-again Inv-loop μ-loop
 loop-again c =
-    let s = c .before .before .before .before in
-    marks-on (s .before .loop .inv) (s .loop-test .taken) (c .before .before .if1 .left) (c .if2 .left)
+    let t = c .before .before in
+    let s = t .before .before in
+    marks-on (s .before .loop .inv) (t .before .length-of .ensures) (t .if1 .left) (s .loop-test .taken) (c .if2 .left)
 
 returns-3 : tie.Need-returns-3 Inv-loop μ-loop
 returns-3 c = sym (marks-end (c .before .loop .inv) (c .loop-test .left))
@@ -68,9 +64,7 @@ has-no-marks-spec =
     μ-loop
     loop-holds
     mul-at
-    add-if1
-    mul-if1
-    shared-slice-read-if1
+    length-of-requires
     returns
     add-if2
     mul-if2
