@@ -1,6 +1,6 @@
 -- Runs parted at a place, and a range laid between the parts.
 use Prim.Native.Nat.{ℕ, zero, suc, _+_, _-_, _≤_, _<_}
-use native.Mathlib.Decide.{decLt}
+use native.Mathlib.Decide.{decLt, ℕ-discrete}
 use native.Mathlib.Numerals.{add-one}
 use native.Mathlib.Omega.{arith}
 use mathlib.Core.Path.{_≡_, refl, sym, ap, _∙_}
@@ -12,7 +12,9 @@ use borrow.Author.Tests.{eq-eqb, ne-eqb}
 use Rattle.rows.specs.Limits.{OFFSET-MAX}
 use Rattle.extents_meaning.specs.Cells.{Bytes, inRange, overwrite}
 use Rattle.extents_meaning.specs.Runs.{Run, runOf, cellAt, runsOf, Next, Rising}
-use Rattle.extents_meaning.proofs.Longest.{range-in, range-before, range-behind, cell-first, cell-before, cell-behind, mean-before, mean-first, unique-from}
+use Rattle.extents_meaning.proofs.Longest.{cell-first, cell-before, cell-behind, mean-before, mean-first, mean-end, unique-from, rising-earlier}
+use Rattle.extents_meaning.proofs.Overwrites.{over-in, over-before, over-behind}
+use Rattle.extents_weave_meaning.proofs.Rests.{rest, put-some, rest-rising, rest-mean, rest-unique, rest-skip, close}
 use Rattle.extents_map.specs.Cursors.{partOf}
 use Rattle.extents_map.specs.Beside.{endOf, runNo, runBefore, Met, Behind, Front, Back}
 
@@ -32,6 +34,15 @@ rising-from end c x d (r ∷ rs) h e g =
     let longest : r .start ≡ end → r .cell ≡ c → ⊥ =
     λ p q. let z : end ≡ x = omega arith in n .longest (p ∙ z) (q ∙ e z) in
     (record { rising = omega arith; filled = n .filled; inside = n .inside; written = n .written; longest = longest }, g .1)
+
+-- runs that may follow at byte x may follow a run that ends there with a cell that the byte has not
+rising-apart : (x c : ℕ) (rs : List Run) → (cellAt rs x ≡ c → 1 ≤ c → ⊥) → Rising OFFSET-MAX x 0 rs → Rising OFFSET-MAX x c rs
+rising-apart x c [] h g = tt
+rising-apart x c (r ∷ rs) h g =
+    let n = g .0 in
+    let longest : r .start ≡ x → r .cell ≡ c → ⊥ =
+    λ p q. h (cell-first r rs x (omega arith) (omega arith) ∙ q) (omega arith) in
+    (record { rising = n .rising; filled = n .filled; inside = n .inside; written = n .written; longest = longest }, g .1)
 
 -- a part of length 0 is no run
 pub part-none : (s l c : ℕ) → l ≡ 0 → partOf s l c ≡ []
@@ -83,20 +94,6 @@ ends-at p [] g (suc i) h qs b k = absurd (omega arith)
 ends-at p (r ∷ rs) g (suc i) h qs b k =
     cell-behind r (take i rs ++ qs) b (omega (arith, end-at r rs (g .1) i (omega arith))) ∙ ends-at r rs (g .1) i (omega arith) qs b k
 
--- run i starts where p ends or later
-start-low : (p : Run) (rs : List Run) → Rising OFFSET-MAX (endOf p) (p .cell) rs → (i : ℕ) → i < length rs → endOf p ≤ runNo rs i .start
-start-low p [] g i h = absurd (omega arith)
-start-low p (r ∷ rs) g zero h = g .0 .rising
-start-low p (r ∷ rs) g (suc i) h = let n = g .0 in omega (arith, start-low r rs (g .1) i (omega arith))
-
--- The bytes of run i have its cell.
-cell-in : (p : Run) (rs : List Run) → Rising OFFSET-MAX (endOf p) (p .cell) rs → (i : ℕ) → i < length rs → (b : ℕ) → runNo rs i .start ≤ b →
-    b < endOf (runNo rs i) → cellAt rs b ≡ runNo rs i .cell
-cell-in p [] g i h b l k = absurd (omega arith)
-cell-in p (r ∷ rs) g zero h b l k = cell-first r rs b l k
-cell-in p (r ∷ rs) g (suc i) h b l k =
-    cell-behind r rs b (omega (arith, start-low r rs (g .1) i (omega arith))) ∙ cell-in r rs (g .1) i (omega arith) b l k
-
 -- ---- Runs in order
 
 -- the run before run i + 1 is run i
@@ -117,6 +114,14 @@ module _ (rs : List Run) (g : Rising OFFSET-MAX 0 0 rs) where
   -- from where the run before run i ends on, the runs from run i on say all
   pub same-behind : (i : ℕ) → i ≤ length rs → (b : ℕ) → endOf (runBefore rs i) ≤ b → cellAt (drop i rs) b ≡ cellAt rs b
   same-behind i h b k = sym (ends-at (runOf 0 0 0) rs g i h (drop i rs) b k) ∙ ap (λ (qs : List Run). cellAt qs b) (take-append-drop i rs)
+
+  -- The bytes of run i have its cell.
+  cell-in : (i : ℕ) → i < length rs → (b : ℕ) → runNo rs i .start ≤ b → b < endOf (runNo rs i) → cellAt rs b ≡ runNo rs i .cell
+  cell-in i h b l k =
+      let n = next-at i h .0 in
+      sym (same-behind i (omega arith) b (omega arith))
+      ∙ ap (λ (qs : List Run). cellAt qs b) (drop-cons rs i (runOf 0 0 0) h)
+      ∙ cell-first (runNo rs i) (drop (suc i) rs) b l k
 
 -- ---- The side before a range
 
@@ -175,7 +180,7 @@ module _ {rs : List Run} (g : Rising OFFSET-MAX 0 0 rs) {start cell i : ℕ} (m 
     left-join l e =
         let n = next-at rs g i h .0 in
         left-whole (here .start) (omega arith) (n .rising) (λ p q o. n .longest (sym p) (e ∙ sym q)) (λ b k. free-here _ b (omega arith) k)
-        (λ b k o. cell-in (runOf 0 0 0) rs g i h b k (omega (arith, m .meets h)) ∙ e)
+        (λ b k o. cell-in rs g i h b k (omega (arith, m .meets h)) ∙ e)
 
     -- the part of it before the range
     abbrev part : Run
@@ -248,7 +253,7 @@ module _ {rs : List Run} (g : Rising OFFSET-MAX 0 0 rs) {first end cell i : ℕ}
     final-in : (b : ℕ) → end ≤ b → b < endOf final → cellAt rs b ≡ final .cell
     final-in b l k =
         let low : final .start ≤ end = rw final-at at (m .reached h) in
-        cell-in (runOf 0 0 0) rs g (i - 1) (omega (arith, m .most)) b (omega arith) k
+        cell-in rs g (i - 1) (omega (arith, m .most)) b (omega arith) k
 
     -- The last run met may follow the run before it.
     final-next : Next OFFSET-MAX (endOf (runBefore rs (i - 1))) (runBefore rs (i - 1) .cell) final
@@ -329,11 +334,6 @@ module _ {rs : List Run} {x lo hi : ℕ} (k : Past rs x lo hi) {mid : ℕ} (l : 
 pub past-stop : {rs : List Run} {x lo hi all : ℕ} → Past rs x lo hi → hi ≤ lo → all ≡ length rs → lo < all → x < endOf (runNo rs lo)
 past-stop {rs} {x} {lo} {hi} k h e l = let z : hi ≡ lo = omega (arith, k .order) in rw z at k .behind (omega arith)
 
--- all before it are passed
-pub past-cursor : (rs : List Run) → Rising OFFSET-MAX 0 0 rs → (x at : ℕ) → at ≤ length rs → endOf (runBefore rs at) ≤ x → (b : ℕ) → x ≤ b →
-    cellAt (drop at rs) b ≡ cellAt rs b
-past-cursor rs g x at h l b k = same-behind rs g at h b (omega arith)
-
 -- run 0 ends behind the start, or there is none: it is met
 pub met-first : {rs : List Run} {start cell all i : ℕ} → (i < all → start < endOf (runNo rs i)) → i ≡ 0 → all ≡ length rs → Met rs start cell 0
 met-first {rs} {start} m z n =
@@ -395,92 +395,71 @@ free-behind {rs} {first} {end} {cell} {i} m h b l =
 
 module _ (rs : List Run) (start end cell : ℕ) (wide : start < end) {front back : List Run} {from to : ℕ} (a : Front rs start cell front from)
     (z : Back rs end cell back to) {n : ℕ} (clear : cell ≡ 0 → n ≡ 0) (fill : 1 ≤ cell → n ≡ to - from) where
-  -- the range, none where the cell is 0, and the runs behind it
-  abbrev rest : List Run
-  rest = partOf from n cell ++ back
-
-  -- The range and the runs behind it may follow the runs before the range; `before`, `inside` and `behind` give their cells.
-  record Rest : Type 0 where
-    order : Rising OFFSET-MAX from (a .last) rest
-    before : (b : ℕ) → b < from → cellAt rest b ≡ 0
-    inside : (b : ℕ) → from ≤ b → b < to → cellAt rest b ≡ cell
-    behind : (b : ℕ) → to ≤ b → cellAt rest b ≡ cellAt rs b
-
-  -- The range and the runs behind it keep all of `Rest`.
-  rested : Rest
-  rested = go (decLt 0 cell)
-    where
-      wider : from < to
-      wider = omega (arith, a .near, z .far)
-
-      go : Dec (0 < cell) → Rest
-      go (yes l) =
-          let s : n ≡ to - from = fill l in
-          let w = wider in
-          let range = runOf from n cell in
-          let o : endOf range ≡ to = omega arith in
-          let q : partOf from n cell ≡ range ∷ [] = part-some from n cell (omega arith) in
-          let next : Next OFFSET-MAX from (a .last) range =
-          record {
-            rising = omega arith;
-            filled = omega arith;
-            inside = omega (arith, z .inside);
-            written = l;
-            longest = λ p e. a .apart (sym e) l;
-          } in
-          record {
-            order = rw q (next, rw o (z .in-order));
-            before = λ b k. rw q (cell-before range back b k ∙ mean-before OFFSET-MAX to cell back (z .in-order) b (omega arith));
-            inside = λ b k h. rw q (cell-first range back b k (omega arith));
-            behind = λ b k. rw q (cell-behind range back b (omega arith) ∙ z .same b k);
-          }
-      go (no l) =
-          let e : cell ≡ 0 = omega arith in
-          let w = wider in
-          let q : partOf from n cell ≡ [] = part-none from n cell (clear e) in
-          record {
-            order = rw q (rising-from from (a .last) to cell back (omega arith) (λ p. absurd (omega arith)) (z .in-order));
-            before = λ b k. rw q (mean-before OFFSET-MAX to cell back (z .in-order) b (omega arith));
-            inside = λ b k h. rw q (mean-before OFFSET-MAX to cell back (z .in-order) b h ∙ sym e);
-            behind = λ b k. rw q (z .same b k);
-          }
-
   -- what every byte is to hold
   abbrev goal : Bytes
   goal = overwrite start (end - start) cell (cellAt rs)
 
-  -- the bytes before the range have their cells
-  mean-early : (b : ℕ) → b < start → Dec (b < from) → cellAt (front ++ rest) b ≡ goal b
-  mean-early b l d = go d ∙ rw (range-before start (end - start) b l)
+  -- from `from` up to `to` all bytes are to have the range's cell
+  goal-cell : (b : ℕ) → from ≤ b → b < to → goal b ≡ cell
+  goal-cell b l k = go (decLt b start) (decLt b end)
     where
-      go : Dec (b < from) → cellAt (front ++ rest) b ≡ cellAt rs b
-      go (yes k) = a .same rest b k (rested .before b k)
-      go (no k) =
-          let o : from ≤ b = omega arith in
-          a .ends rest b o ∙ rested .inside b o (omega (arith, z .far)) ∙ sym (a .join b o l)
+      go : Dec (b < start) → Dec (b < end) → goal b ≡ cell
+      go (yes h) d = over-before start (end - start) cell (cellAt rs) b h ∙ a .join b l h
+      go (no h) (yes d) = over-in start (end - start) cell (cellAt rs) b (omega arith) (omega arith)
+      go (no h) (no d) = over-behind start (end - start) cell (cellAt rs) b (omega arith) ∙ z .join b (omega arith) k
 
-  -- The bytes in the range have their cells.
-  mean-range : (b : ℕ) → start ≤ b → b < end → cellAt (front ++ rest) b ≡ goal b
-  mean-range b l k =
-      let o : from ≤ b = omega (arith, a .near) in
-      a .ends rest b o ∙ rested .inside b o (omega (arith, z .far)) ∙ sym (rw (range-in start (end - start) b (omega arith) (omega arith)))
+  -- from `to` on they keep their cells
+  goal-behind : (b : ℕ) → to ≤ b → goal b ≡ cellAt back b
+  goal-behind b l = over-behind start (end - start) cell (cellAt rs) b (omega (arith, z .far)) ∙ sym (z .same b l)
 
-  -- The bytes behind the range have their cells.
-  mean-late : (b : ℕ) → end ≤ b → Dec (b < to) → cellAt (front ++ rest) b ≡ goal b
-  mean-late b l d = a .ends rest b (omega (arith, a .near)) ∙ go d ∙ rw (range-behind start (end - start) b (omega arith))
+  -- the runs behind the range are those of what every byte is to hold
+  laid-back : rest OFFSET-MAX goal to ≡ back
+  laid-back =
+      rest-unique OFFSET-MAX goal to back (z .inside) (rising-earlier OFFSET-MAX to cell to back (omega arith) (z .in-order))
+      (λ b l k. sym (goal-behind b l))
+
+  -- With the range, none where its cell is 0, they are those from `from` on.
+  laid-range : rest OFFSET-MAX goal from ≡ partOf from n cell ++ back
+  laid-range = go (ℕ-discrete cell 0)
     where
-      go : Dec (b < to) → cellAt rest b ≡ cellAt rs b
-      go (yes k) = rested .inside b (omega (arith, a .near)) k ∙ sym (z .join b l k)
-      go (no k) = rested .behind b (omega arith)
+      wider : from < to
+      wider = omega (arith, a .near, z .far, wide)
 
-  -- all have
-  laid-mean : (b : ℕ) → Dec (b < start) → Dec (b < end) → cellAt (front ++ rest) b ≡ goal b
-  laid-mean b (yes l) d = mean-early b l (decLt b from)
-  laid-mean b (no l) (yes k) = mean-range b (omega arith) k
-  laid-mean b (no l) (no k) = mean-late b (omega arith) (decLt b to)
+      go : Dec (cell ≡ 0) → rest OFFSET-MAX goal from ≡ partOf from n cell ++ back
+      go (yes e) =
+          rw (part-none from n cell (clear e))
+          (rest-skip OFFSET-MAX goal from to (omega (arith, wider)) (z .inside) (λ b l k. goal-cell b l k ∙ e) ∙ laid-back)
+      go (no e) =
+          let s : to - from ≡ n = sym (fill (omega arith)) in
+          rw (part-some from n cell (omega (arith, wider)))
+          (close OFFSET-MAX goal from to to cell wider (omega arith) (z .inside) e goal-cell (λ b l k. absurd (omega arith))
+          (λ p l q. mean-end OFFSET-MAX to cell back (z .in-order) (omega arith) (sym (goal-behind to (omega arith)) ∙ q))
+          ∙ put-some from to cell (rest OFFSET-MAX goal to) e
+          ∙ (λ i. runOf from (s i) cell ∷ laid-back i))
 
   -- The runs before the range, the range and the runs behind it are the runs of what every byte is to hold.
-  pub laid-runs : front ++ rest ≡ runsOf goal
+  pub laid-runs : front ++ (partOf from n cell ++ back) ≡ runsOf goal
   unfolding runsOf
   laid-runs =
-      unique-from OFFSET-MAX 0 goal (front ++ rest) (a .follow rest (rested .order)) (λ b l k. laid-mean b (decLt b start) (decLt b end))
+      ap (λ (l : List Run). front ++ l) (sym laid-range)
+      ∙ unique-from OFFSET-MAX 0 goal (front ++ more) (a .follow more (rising-apart from (a .last) more apart order)) (λ b l k. go b k (decLt b from))
+    where
+      more : List Run
+      more = rest OFFSET-MAX goal from
+
+      order : Rising OFFSET-MAX from 0 more
+      order = rest-rising OFFSET-MAX goal from (omega (arith, a .near, z .far, z .inside, wide))
+
+      mean : (b : ℕ) → from ≤ b → b < OFFSET-MAX → cellAt more b ≡ goal b
+      mean = rest-mean OFFSET-MAX goal from
+
+      apart : cellAt more from ≡ a .last → 1 ≤ a .last → ⊥
+      apart p l =
+          let w : from < to = omega (arith, a .near, z .far, wide) in
+          let e : a .last ≡ cell = sym p ∙ mean from (omega arith) (omega (arith, z .inside)) ∙ goal-cell from (omega arith) w in
+          a .apart e (omega arith)
+
+      go : (b : ℕ) → b < OFFSET-MAX → Dec (b < from) → cellAt (front ++ more) b ≡ goal b
+      go b k (yes h) =
+          a .same more b h (mean-before OFFSET-MAX from 0 more order b h) ∙ sym (over-before start (end - start) cell (cellAt rs) b (omega (arith, a .near)))
+      go b k (no h) = a .ends more b (omega arith) ∙ mean b (omega arith) k
