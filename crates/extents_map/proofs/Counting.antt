@@ -7,14 +7,14 @@ use lib.ListN.{length}
 use Rattle.rows.specs.Limits.{OFFSET-MAX}
 use Rattle.extents_meaning.specs.Cells.{Bytes}
 use Rattle.extents_meaning.specs.Runs.{runsFrom}
-use Rattle.extents_meaning.specs.Maps.{runs, bytesOf}
+use Rattle.extents_meaning.specs.Maps.{bytesOf}
 use Rattle.extents_meaning.specs.Points.{starts}
 use Rattle.extents_meaning.proofs.Points.{begins, begins-same, begins-most, count-starts}
 use Rattle.extents_map.specs.Mixes.{mixed, mixIn}
-use Rattle.extents_map.specs.Cursors.{Part, Passing, BothLooked}
+use Rattle.extents_map.specs.Cursors.{Passing, BothLooked}
 use Rattle.extents_map.specs.declared.scan.Both.{Both}
 use Rattle.extents_map.specs.declared.scan.Mix.{Mix}
-use Rattle.extents_map.proofs.Looking.{passing-on, passing-then, passing-part, both-on, both-cell, both-other, both-inside}
+use Rattle.extents_map.proofs.Looking.{passing-on, passing-then, both-on, both-cell, both-other, both-inside}
 
 -- ---- Starts
 
@@ -61,11 +61,6 @@ pub record Counted (map below : List ℕ) (mix : Mix) (from to x n last i j : �
   pub view : Passing map 0 x i
   pub under : Passing below 0 x j
 
--- at first no run is counted
-pub count-start : (map below : List ℕ) (mix : Mix) (from to i j : ℕ) → Passing map 0 from i → Passing below 0 from j →
-    Counted map below mix from to from 0 0 i j
-count-start map below mix from to i j v u = record { sum = omega arith; view = v; under = u }
-
 module _ {map below : List ℕ} {mix : Mix} {from to x n last i j : ℕ} (k : Counted map below mix from to x n last i j) where
   -- what is counted
   abbrev mixOf : Bytes
@@ -79,20 +74,12 @@ module _ {map below : List ℕ} {mix : Mix} {from to x n last i j : ℕ} (k : Co
   pub count-end : to ≤ x → n ≡ length (runsFrom (to - from) from mixOf)
   count-end h = omega (arith, k .sum, starts-most (to - x) x last mixOf, count-starts (to - from) from mixOf)
 
-  -- A look may start at both cursors.
-  pub count-parts : x < OFFSET-MAX → Part map i x × Part below j x
-  count-parts h = (passing-part (k .view) h, passing-part (k .under) h)
-
   -- a turn goes to the nearest byte y at which a map or the range changes
   module _ {s : Both} {y : ℕ} (h : x < to) (top : to ≤ OFFSET-MAX) (o : mix .start ≤ mix .end)
       (p : BothLooked map i below j mix x s) (l : y ≡ min (s .next) to) where
     -- y lies behind x
-    further : x < y
+    pub further : x < y
     further = omega (arith, both-on p (omega arith) o .0)
-
-    -- Fewer bytes are left from y on than from x on.
-    pub count-less : to - y < to - x
-    count-less = omega (arith, further)
 
     module _ {here new : ℕ} (m : here ≡ mixed (mix .mode) (s .inside) (mix .cell) (s .cell) (s .other)) (r : new ≡ begins here last) where
       -- up to there the mix has one cell

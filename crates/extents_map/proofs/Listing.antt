@@ -10,7 +10,7 @@ use lib.Seq.{take-at, drop-at, drop-drop, sets-eq}
 use Rattle.rows.specs.Limits.{OFFSET-MAX}
 use Rattle.extents_meaning.specs.Cells.{Bytes, numberIn}
 use Rattle.extents_meaning.specs.Runs.{Run}
-use Rattle.extents_meaning.specs.Maps.{threes, runs, bytesOf, withPart, listedIn}
+use Rattle.extents_meaning.specs.Maps.{threes, bytesOf, withPart, listedIn}
 use Rattle.extents_meaning.proofs.Changes.{change-iff, before-change}
 use Rattle.extents_meaning.proofs.Threes.{length-threes}
 use Rattle.extents_weave_meaning.proofs.Rests.{rest, put-none, put-some, rest-none, rest-skip, close}

@@ -11,27 +11,23 @@ use lib.Seq.{getD-drop, drop-drop, length-take-le}
 use borrow.Author.Tests.{lt-ltb, le-ltb}
 use Rattle.rows.specs.Limits.{OFFSET-MAX}
 use Rattle.extents_meaning.specs.Cells.{Bytes, inRange}
-use Rattle.extents_meaning.specs.Runs.{Run, cellAt, Rising, Open, NumbersLegal, Lawful}
+use Rattle.extents_meaning.specs.Runs.{Run, runOf, cellAt, Open, NumbersLegal, Lawful}
 use Rattle.extents_meaning.specs.Maps.{runs, runsIn, spaceIn, mapOf, lawful, bytesOf}
 use Rattle.extents_meaning.specs.Lookups.{changeOf}
 use Rattle.extents_meaning.proofs.Longest.{range-in, range-before, range-behind, cell-behind, rising-earlier}
 use Rattle.extents_meaning.proofs.Trips.{runAt, runs-step, runs-stop, lawful-map, map-lawful, map-back, rest-at, run-at, run-there}
 use Rattle.extents_meaning.proofs.Changes.{change-iff, before-change, see-none, see-gap, see-run}
+use Rattle.extents_map.specs.Beside.{endOf, runBefore}
 use Rattle.extents_map.specs.Cursors.{ahead, Part, Passing, Looked, edgeOf, BothLooked}
 use Rattle.extents_map.specs.declared.scan.Look.{Look}
 use Rattle.extents_map.specs.declared.scan.Both.{Both}
 use Rattle.extents_map.specs.declared.scan.Mix.{Mix}
+use Rattle.extents_map.proofs.Parted.{rising-at}
 
 -- ---- The part of a map from a run on
 
--- the runs from run i on are in rising order
-rising-drop : (top end c : ℕ) (rs : List Run) → Rising top end c rs → (i : ℕ) → Rising top 0 0 (drop i rs)
-rising-drop top end c rs g zero = rising-earlier top end c 0 rs (omega arith) g
-rising-drop top end c [] g (suc i) = tt
-rising-drop top end c (r ∷ rs) g (suc i) = rising-drop top (r .start + r .length) (r .cell) rs (g .1) i
-
 -- The runs from run i on have legal row numbers.
-numbered-drop : (rs : List Run) → NumbersLegal rs → (i : ℕ) → NumbersLegal (drop i rs)
+pub numbered-drop : (rs : List Run) → NumbersLegal rs → (i : ℕ) → NumbersLegal (drop i rs)
 numbered-drop rs g zero = g
 numbered-drop [] g (suc i) = tt
 numbered-drop (r ∷ rs) g (suc i) = numbered-drop rs (g .2) i
@@ -45,7 +41,9 @@ module _ (xs : List ℕ) (e : lawful xs ≡ true) (i : ℕ) (h : i ≤ length (r
   part-lawful : Lawful (drop i (runs xs))
   part-lawful =
       let l = lawful-map xs e .lawful-runs in
-      record { in-order = rising-drop OFFSET-MAX 0 0 (runs xs) (l .in-order) i; numbered = numbered-drop (runs xs) (l .numbered) i }
+      let p = runBefore (runs xs) i in
+      let order = rising-earlier OFFSET-MAX (endOf p) (p .cell) 0 (drop i (runs xs)) (omega arith) (rising-at (runOf 0 0 0) (runs xs) (l .in-order) i h) in
+      record { in-order = order; numbered = numbered-drop (runs xs) (l .numbered) i }
 
   -- The runs from run i on fit.
   part-fit : length (drop i (runs xs)) ≤ spaceIn xs - i
@@ -191,28 +189,24 @@ module _ {xs : List ℕ} {from x i : ℕ} (p : Passing xs from x i) (below : x <
 
 -- ---- Two looks and a range
 
--- the next edge of a range lies behind a byte
-edge-on : (start end x : ℕ) → x < OFFSET-MAX → x < edgeOf start end x
-edge-on start end x below = go (decLt x start) (decLt x end)
-  where
-    go : Dec (x < start) → Dec (x < end) → x < edgeOf start end x
-    go (yes l) e = rw (lt-ltb x start l) l
-    go (no l) (yes e) = rw (le-ltb x start (omega arith), lt-ltb x end e) e
-    go (no l) (no e) = rw (le-ltb x start (omega arith), le-ltb x end (omega arith)) below
+-- The next edge of a range lies behind a byte, and up to it all bytes lie in the range, or none.
+abbrev Edge : ℕ → ℕ → ℕ → ℕ → Type 0
+Edge start end x y = (x < y) × ((b : ℕ) → x ≤ b → b < y → inRange start (end - start) b ≡ inRange start (end - start) x)
 
--- Up to the next edge all bytes lie in the range, or none.
-edge-flat : (start end x b : ℕ) → start ≤ end → x ≤ b → b < edgeOf start end x → inRange start (end - start) b ≡ inRange start (end - start) x
-edge-flat start end x b o l = go (decLt x start) (decLt x end)
+edge-next : (start end x : ℕ) → start ≤ end → x < OFFSET-MAX → Edge start end x (edgeOf start end x)
+edge-next start end x o below = go (decLt x start) (decLt x end)
   where
-    go : Dec (x < start) → Dec (x < end) → b < edgeOf start end x → inRange start (end - start) b ≡ inRange start (end - start) x
-    go (yes h) e =
-        rw (lt-ltb x start h) (λ k. range-before start (end - start) b k ∙ sym (range-before start (end - start) x h))
+    n : ℕ
+    n = end - start
+
+    go : Dec (x < start) → Dec (x < end) → Edge start end x (edgeOf start end x)
+    go (yes h) e = rw (lt-ltb x start h) (h, λ b l k. range-before start n b k ∙ sym (range-before start n x h))
     go (no h) (yes e) =
         rw (le-ltb x start (omega arith), lt-ltb x end e)
-        (λ k. range-in start (end - start) b (omega arith) (omega arith) ∙ sym (range-in start (end - start) x (omega arith) (omega arith)))
+        (e, λ b l k. range-in start n b (omega arith) (omega arith) ∙ sym (range-in start n x (omega arith) (omega arith)))
     go (no h) (no e) =
         rw (le-ltb x start (omega arith), le-ltb x end (omega arith))
-        (λ k. range-behind start (end - start) b (omega arith) ∙ sym (range-behind start (end - start) x (omega arith)))
+        (below, λ b l k. range-behind start n b (omega arith) ∙ sym (range-behind start n x (omega arith)))
 
 module _ {xs : List ℕ} {i : ℕ} {os : List ℕ} {j : ℕ} {mix : Mix} {x : ℕ} {r : Both} (p : BothLooked xs i os j mix x r) (below : x < OFFSET-MAX)
     (order : mix .start ≤ mix .end) where
@@ -229,7 +223,7 @@ module _ {xs : List ℕ} {i : ℕ} {os : List ℕ} {j : ℕ} {mix : Mix} {x : �
   both-on =
       let a = change-iff g x (changeOf g x) below .0 refl in
       let b = change-iff o x (changeOf o x) below .0 refl in
-      (omega (arith, p .next, a .0, b .0, edge-on (mix .start) (mix .end) x below), omega (arith, p .next, a .1))
+      (omega (arith, p .next, a .0, b .0, edge-next (mix .start) (mix .end) x order below .0), omega (arith, p .next, a .1))
 
   -- up to it the map has one cell
   pub both-cell : (b : ℕ) → x ≤ b → b < r .next → g b ≡ r .cell
@@ -241,4 +235,4 @@ module _ {xs : List ℕ} {i : ℕ} {os : List ℕ} {j : ℕ} {mix : Mix} {x : �
 
   -- Up to it all bytes lie in the range, or none.
   pub both-inside : (b : ℕ) → x ≤ b → b < r .next → inRange (mix .start) (mix .end - mix .start) b ≡ r .inside
-  both-inside b l h = edge-flat (mix .start) (mix .end) x b order l (omega (arith, p .next)) ∙ sym (p .inside)
+  both-inside b l h = edge-next (mix .start) (mix .end) x order below .1 b l (omega (arith, p .next)) ∙ sym (p .inside)

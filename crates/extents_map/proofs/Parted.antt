@@ -65,7 +65,7 @@ size-some s l c f = ap length (sym (part-some s l c (omega arith)))
 -- ---- The first i runs of a list behind a run p
 
 -- the others may follow the last of them
-rising-at : (p : Run) (rs : List Run) → Rising OFFSET-MAX (endOf p) (p .cell) rs → (i : ℕ) → i ≤ length rs →
+pub rising-at : (p : Run) (rs : List Run) → Rising OFFSET-MAX (endOf p) (p .cell) rs → (i : ℕ) → i ≤ length rs →
     Rising OFFSET-MAX (endOf (getD (p ∷ rs) i (runOf 0 0 0))) (getD (p ∷ rs) i (runOf 0 0 0) .cell) (drop i rs)
 rising-at p rs g zero h = g
 rising-at p [] g (suc i) h = absurd (omega arith)
@@ -308,31 +308,7 @@ module _ {rs : List Run} (g : Rising OFFSET-MAX 0 0 rs) {first end cell i : ℕ}
           join = λ b k o. absurd (omega arith);
         })
 
--- ---- Looking for the first run met, and for the first behind
-
--- the first run that ends behind byte x is one from run lo to run hi, or there is none: the run before run lo ends at x or earlier
-pub record Past (rs : List Run) (x lo hi : ℕ) : Type 0 where
-  pub order : lo ≤ hi
-  pub within : hi ≤ length rs
-  pub passed : endOf (runBefore rs lo) ≤ x
-  pub behind : hi < length rs → x < endOf (runNo rs hi)
-
--- At first the run looked for may be any of the runs.
-pub past-start : (rs : List Run) (x : ℕ) {all : ℕ} → all ≡ length rs → Past rs x 0 all
-past-start rs x e = record { order = omega arith; within = omega arith; passed = omega arith; behind = λ h. absurd (omega arith) }
-
-module _ {rs : List Run} {x lo hi : ℕ} (k : Past rs x lo hi) {mid : ℕ} (l : lo ≤ mid) (h : mid < hi) where
-  -- Run mid ends behind x: the run looked for is run mid or an earlier one.
-  pub past-low : x < endOf (runNo rs mid) → Past rs x lo mid
-  past-low f = record { order = l; within = omega (arith, k .within); passed = k .passed; behind = λ o. f }
-
-  -- one behind run mid, where that one does not
-  pub past-high : endOf (runNo rs mid) ≤ x → Past rs x (mid + 1) hi
-  past-high f = record { order = omega arith; within = k .within; passed = rw (before-next rs mid) f; behind = k .behind }
-
--- no other is left: it is run lo
-pub past-stop : {rs : List Run} {x lo hi all : ℕ} → Past rs x lo hi → hi ≤ lo → all ≡ length rs → lo < all → x < endOf (runNo rs lo)
-past-stop {rs} {x} {lo} {hi} k h e l = let z : hi ≡ lo = omega (arith, k .order) in rw z at k .behind (omega arith)
+-- ---- The first run met, and the first behind
 
 -- run 0 ends behind the start, or there is none: it is met
 pub met-first : {rs : List Run} {start cell all i : ℕ} → (i < all → start < endOf (runNo rs i)) → i ≡ 0 → all ≡ length rs → Met rs start cell 0

@@ -1,26 +1,20 @@
 -- The numbers of a run in a lawful map, and how many runs it has.
-use Prim.Native.Nat.{ℕ, zero, suc, _+_, _*_, _-_, _≤_, _<_}
+use Prim.Native.Nat.{ℕ, suc, _+_, _*_, _-_, _≤_, _<_}
 use native.Mathlib.Decide.{decLt}
 use native.Mathlib.Omega.{arith}
 use mathlib.Core.Path.{_≡_, refl, sym, ap, _∙_}
 use mathlib.Core.Bool.{true}
-use mathlib.Core.List.{List, [], _∷_, append-nil}
+use mathlib.Core.List.{List, [], append-nil}
 use lib.ListN.{length, getD, take, drop}
-use lib.Seq.{split-at, length-take-le, getD-drop}
-use Rattle.rows.specs.Limits.{ROWS, OFFSET-MAX}
-use Rattle.extents_meaning.specs.Cells.{numberIn}
-use Rattle.extents_meaning.specs.Runs.{Run, runOf, NumbersLegal}
+use lib.Seq.{split-at, length-take-le, getD-drop, drop-cons}
+use Rattle.rows.specs.Limits.{OFFSET-MAX}
+use Rattle.extents_meaning.specs.Runs.{runOf}
 use Rattle.extents_meaning.specs.Maps.{spaceIn, runs, lawful}
 use Rattle.extents_meaning.proofs.Trips.{map-none, lawful-map, rest-at, run-at}
 use Rattle.rows.proofs.Zeros.{zeros}
 use Rattle.extents_map.specs.Beside.{endOf, runNo}
 use Rattle.extents_map.proofs.Parted.{next-at}
-
--- every run has a row number
-number-at : (rs : List Run) → NumbersLegal rs → (i : ℕ) → i < length rs → numberIn (runNo rs i .cell) ≤ ROWS
-number-at [] n i h = absurd (omega arith)
-number-at (r ∷ rs) n zero h = n .1
-number-at (r ∷ rs) n (suc i) h = number-at rs (n .2) i (omega arith)
+use Rattle.extents_map.proofs.Looking.{numbered-drop}
 
 -- what stands at the place of run i
 pub record Here (xs : List ℕ) (i : ℕ) : Type 0 where
@@ -40,7 +34,7 @@ here xs i e h =
     let r = runNo rs i in
     let q : 4 * i ≡ i * 4 = omega arith in
     let n = next-at rs (m .lawful-runs .in-order) i h .0 in
-    let k = number-at rs (m .lawful-runs .numbered) i h in
+    let k = rw (drop-cons rs i (runOf 0 0 0) h) at (numbered-drop rs (m .lawful-runs .numbered) i) in
     let a = rw q at (run-at xs e (take i rs) (drop (suc i) rs) r i (split-at rs i (runOf 0 0 0) h) (length-take-le i rs (omega arith))) in
     record {
       start = a .0;
@@ -48,7 +42,7 @@ here xs i e h =
       cell = omega (arith, a .2, a .3);
       room = omega (arith, m .fours-in, m .fit);
       inside = n .inside;
-      low = omega (arith, k);
+      low = omega (arith, k .1);
       filled = omega (arith, a .1, n .filled);
     }
 

@@ -26,25 +26,16 @@ bits-none a b = go (ℕ-discrete b 0)
     go (yes e) = ap (λ (n : ℕ). eqb (bitOr a n) 0) e ∙ ap (λ (n : ℕ). eqb n 0) (or-zero-r a) ∙ sym (rw (eq-eqb b 0 e, and-true))
     go (no n) = ne-eqb (bitOr a b) 0 (λ z. n (omega (arith, z, or-add-and a b, and-le-l a b))) ∙ sym (rw (ne-eqb b 0 n, and-false))
 
--- place i is reached: the bits up to it and the rest say whether all from a place on is 0
-pub record Zeros (xs : List ℕ) (from bits i : ℕ) : Type 0 where
-  pub rest : allZero (drop from xs) ≡ eqb bits 0 && allZero (drop i xs)
-
--- at first the place itself is reached
-pub zero-start : (xs : List ℕ) (from : ℕ) → Zeros xs from 0 from
-zero-start xs from = record { rest = refl }
-
-module _ {xs : List ℕ} {from bits i : ℕ} (z : Zeros xs from bits i) where
-  -- behind the end the bits say it
-  pub zero-end : length xs ≤ i → allZero (drop from xs) ≡ eqb bits 0
+module _ (xs : List ℕ) (bits i : ℕ) where
+  -- Behind the end the bits gathered say whether all is 0.
+  pub zero-end : length xs ≤ i → eqb bits 0 && allZero (drop i xs) ≡ eqb bits 0
   unfolding allZero
-  zero-end h = z .rest ∙ rw (drop-of-length-le xs h, and-true)
+  zero-end h = rw (drop-of-length-le xs h, and-true)
 
-  -- a number gives its bits
-  pub zero-on : i < length xs → Zeros xs from (bitOr bits (getD xs i 0)) (i + 1)
+  -- A number adds its bits to those gathered.
+  pub zero-on : i < length xs → eqb bits 0 && allZero (drop i xs) ≡ eqb (bitOr bits (getD xs i 0)) 0 && allZero (drop (i + 1) xs)
   unfolding allZero
-  zero-on h =
-      record { rest = z .rest ∙ rw (add-one, drop-cons xs i 0 h, bits-none bits (getD xs i 0)) (sym (and-assoc (eqb bits 0) (eqb (getD xs i 0) 0) _)) }
+  zero-on h = rw (add-one, drop-cons xs i 0 h, bits-none bits (getD xs i 0)) (sym (and-assoc (eqb bits 0) (eqb (getD xs i 0) 0) _))
 
 -- ---- Whether a map is lawful
 

@@ -1,21 +1,25 @@
 -- `extents_map::locate::first_past` meets its contract.
 use borrow.Author.Needs.{needs}
-use Prim.Native.Nat.{_-_}
+use Prim.Native.Nat.{_-_, _≤_, _<_}
 use native.Mathlib.Omega.{arith}
+use mathlib.Core.Path.{_≡_}
+use lib.ListN.{length}
 use Rattle.extents_meaning.specs.Maps.{runs}
-use Rattle.extents_map.proofs.Parted.{Past, past-start, past-low, past-high, past-stop}
+use Rattle.extents_map.specs.Beside.{endOf, runNo, runBefore}
+use Rattle.extents_map.proofs.Parted.{before-next}
 use Rattle.extents_map.proofs.locate.first_past.Statement.{statement}
 use Rattle.extents_map.proofs.locate.first_past.Tie as tie
 
 -- The first run that ends behind byte x is one from run lo to run hi, or there is none.
 abbrev Inv-loop : tie.InvT-loop
-Inv-loop map all x lo₀ hi₀ lo hi = Past (runs map) x lo hi
+Inv-loop map all x lo₀ hi₀ lo hi =
+    (lo ≤ hi) × (hi ≤ length (runs map)) × (endOf (runBefore (runs map) lo) ≤ x) × (hi < length (runs map) → x < endOf (runNo (runs map) hi))
 
 abbrev μ-loop : tie.MeasureT-loop
 μ-loop map all x lo₀ hi₀ lo hi = hi - lo
 
 loop-holds : tie.Need-loop-holds Inv-loop μ-loop
-loop-holds c = past-start _ _ (c .before .pre .1)
+loop-holds c = let e = c .before .pre .1 in (omega arith, omega arith, omega arith, λ h. absurd (omega arith))
 
 sub-mid : tie.Need-sub-mid Inv-loop μ-loop
 sub-mid c = search needs
@@ -26,7 +30,7 @@ add-mid c = search needs
 end-at-requires : tie.Need-end-at-requires Inv-loop μ-loop
 end-at-requires c κs =
     let s = c .before .before .before in
-    (s .pre .0, omega (arith, c .before .loop .inv .within, c .loop-test .taken))
+    (s .pre .0, omega (arith, c .loop-test .taken))
 
 loop-less : tie.Need-loop-less Inv-loop μ-loop
 loop-less c = search needs
@@ -34,7 +38,7 @@ loop-less c = search needs
 loop-again : tie.Need-loop-again Inv-loop μ-loop
 loop-again c =
     let k = c .before .before .before .loop .inv in
-    past-low k (omega arith) (omega (arith, c .before .before .loop-test .taken)) (omega (arith, c .before .end-at .ensures, c .if1 .taken))
+    (omega arith, omega (arith, c .before .before .loop-test .taken), k .2, λ h. omega (arith, c .before .end-at .ensures, c .if1 .taken))
 
 add-lo : tie.Need-add-lo Inv-loop μ-loop
 add-lo c = search needs
@@ -45,13 +49,14 @@ loop-less-2 c = search needs
 loop-again-2 : tie.Need-loop-again-2 Inv-loop μ-loop
 loop-again-2 c =
     let k = c .before .before .before .loop .inv in
-    past-high k (omega arith) (omega (arith, c .before .before .loop-test .taken)) (omega (arith, c .before .end-at .ensures, c .if1 .left))
+    (omega (arith, c .before .before .loop-test .taken), k .1, rw (before-next _ _) (omega (arith, c .before .end-at .ensures, c .if1 .left)), k .3)
 
 returns : tie.Need-returns Inv-loop μ-loop
 returns c =
     let k = c .before .loop .inv in
     let e = c .before .before .before .pre .1 in
-    (omega (arith, k .order, k .within, e), (k .passed, past-stop k (c .loop-test .left) e))
+    let z : c .before .loop .hi ≡ c .before .loop .lo = omega (arith, c .loop-test .left) in
+    (omega arith, (k .2, λ l. rw z at (k .3 (omega arith))))
 
 pub first-past-spec : {M : Type 1} → statement M
 first-past-spec =

@@ -2,9 +2,9 @@
 use borrow.Author.Needs.{needs}
 use Prim.Native.Nat.{_-_}
 use native.Mathlib.Omega.{arith}
-use denote.Ref.{now}
 use Rattle.extents_meaning.proofs.Points.{begins-most}
-use Rattle.extents_map.proofs.Counting.{Counted, count-start, count-parts, count-most, count-end, count-less, count-next}
+use Rattle.extents_map.proofs.Counting.{Counted, count-most, count-end, further, count-next}
+use Rattle.extents_map.proofs.Looking.{passing-part}
 use Rattle.extents_map.proofs.scan.count.Statement.{statement}
 use Rattle.extents_map.proofs.scan.count.Tie as tie
 
@@ -22,14 +22,12 @@ seek-requires-2 : tie.Need-seek-requires-2 Inv-loop μ-loop
 seek-requires-2 c κs = search needs
 
 loop-holds : tie.Need-loop-holds Inv-loop μ-loop
-loop-holds c =
-    let a = c .before .before .before .before .args in
-    count-start (now (a .map)) (now (a .below)) (a .mix) (a .from) (a .to) _ _ (c .before .seek .ensures) (c .seek2 .ensures)
+loop-holds c = record { sum = omega arith; view = c .before .seek .ensures; under = c .seek2 .ensures }
 
 see-both-requires : tie.Need-see-both-requires Inv-loop μ-loop
 see-both-requires c κs =
-    let p = count-parts (c .before .loop .inv) (omega arith) in
-    (p .0, p .1, c .before .before .before .before .before .before .pre .1 .1)
+    let k = c .before .loop .inv in
+    (passing-part (k .view) (omega arith), passing-part (k .under) (omega arith), c .before .before .before .before .before .before .pre .1 .1)
 
 mixed-requires : tie.Need-mixed-requires Inv-loop μ-loop
 mixed-requires c κs = search needs
@@ -50,7 +48,7 @@ loop-less c =
     let s = c .before .before .before in
     let l = s .before .before in
     let p = l .before .before .before .before .before in
-    count-less (l .loop .inv) (s .before .loop-test .taken) (omega arith) (p .pre .1 .1) (s .see-both .ensures) (c .least .ensures)
+    omega (arith, further (l .loop .inv) (s .before .loop-test .taken) (omega arith) (p .pre .1 .1) (s .see-both .ensures) (c .least .ensures))
 
 loop-again : tie.Need-loop-again Inv-loop μ-loop
 loop-again c =

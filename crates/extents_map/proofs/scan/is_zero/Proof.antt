@@ -1,22 +1,25 @@
 -- `extents_map::scan::is_zero` meets its contract.
 use borrow.Author.Needs.{needs}
 use Prim.Native.Nat.{_-_}
-use mathlib.Core.Path.{sym}
+use mathlib.Core.Path.{_≡_, refl, sym, _∙_}
+use mathlib.Core.Bool.{_&&_}
 use denote.Ref.{now}
-use lib.ListN.{length}
-use Rattle.extents_map.proofs.Scanning.{Zeros, zero-start, zero-end, zero-on}
+use lib.ListN.{length, drop}
+use lib.Dec.{eqb}
+use Rattle.extents_meaning.specs.Maps.{allZero}
+use Rattle.extents_map.proofs.Scanning.{zero-end, zero-on}
 use Rattle.extents_map.proofs.scan.is_zero.Statement.{statement}
 use Rattle.extents_map.proofs.scan.is_zero.Tie as tie
 
--- The numbers up to place i are all 0 if `bits` is 0.
+-- All numbers from a place on are 0 if `bits` is 0 and those from place i on are 0.
 abbrev Inv-loop : tie.InvT-loop
-Inv-loop map from bits₀ i₀ bits i = Zeros map from bits i
+Inv-loop map from bits₀ i₀ bits i = allZero (drop from map) ≡ eqb bits 0 && allZero (drop i map)
 
 abbrev μ-loop : tie.MeasureT-loop
 μ-loop map from bits₀ i₀ bits i = length map - i
 
 loop-holds : tie.Need-loop-holds Inv-loop μ-loop
-loop-holds c = zero-start (now (c .args .map)) (c .args .from)
+loop-holds c = refl
 
 mul-bits : tie.Need-mul-bits Inv-loop μ-loop
 mul-bits c = search needs
@@ -31,10 +34,10 @@ loop-less : tie.Need-loop-less Inv-loop μ-loop
 loop-less c = search needs
 
 loop-again : tie.Need-loop-again Inv-loop μ-loop
-loop-again c = zero-on (c .before .before .loop .inv) (c .before .loop-test .taken)
+loop-again c = let l = c .before .before in l .loop .inv ∙ zero-on (now (l .before .args .map)) (l .loop .bits) (l .loop .i) (c .before .loop-test .taken)
 
 returns : tie.Need-returns Inv-loop μ-loop
-returns c = sym (zero-end (c .before .loop .inv) (c .loop-test .left))
+returns c = let l = c .before in sym (l .loop .inv ∙ zero-end (now (l .before .args .map)) (l .loop .bits) (l .loop .i) (c .loop-test .left))
 
 pub is-zero-spec : {M : Type 1} → statement M
 is-zero-spec =

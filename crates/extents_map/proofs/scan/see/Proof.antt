@@ -2,7 +2,6 @@
 use borrow.Author.Needs.{needs}
 use Prim.Native.Nat.{_-_, _<_}
 use native.Mathlib.Omega.{arith}
-use mathlib.Core.Path.{sym, _∙_}
 use Rattle.rows.specs.Limits.{OFFSET-MAX}
 use Rattle.extents_map.specs.Cursors.{Passing}
 use Rattle.extents_map.proofs.Looking.{passing-start, look-stop, look-end, look-cell, look-inside, look-before, look-in, look-on}
