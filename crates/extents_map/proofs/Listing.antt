@@ -73,12 +73,12 @@ module _ {xs : List ℕ} {hand : Piece} {x value : ℕ} where
 
 -- ---- A listing
 
--- The pieces before the one in hand are put, and with the runs from its start on they make the whole; its bytes up to byte x have its value.
+-- The pieces before the one in hand are put, and with the runs from its start on they make the whole; its bytes up to byte x have its value, and it
+-- has a byte unless none is in hand.
 pub record Listing (f : Bytes) (from to : ℕ) (xs ys : List ℕ) (x : ℕ) (hand : Piece) : Type 0 where
   done : List Run
   whole : rest to f from ≡ done ++ rest to f (hand .start)
-  order : hand .start ≤ x
-  begun : 1 ≤ hand .value → hand .start < x
+  begun : hand .start + min 1 (hand .value) ≤ x
   held : (b : ℕ) → hand .start ≤ b → b < x → f b ≡ hand .value
   top : x ≤ to
   count : hand .count ≡ length done
@@ -94,8 +94,7 @@ list-start f from to xs h k =
     record {
       done = [];
       whole = refl;
-      order = omega arith;
-      begun = λ l. absurd (omega arith);
+      begun = omega arith;
       held = λ b l m. absurd (omega arith);
       top = h;
       count = refl;
@@ -119,10 +118,10 @@ module _ {f : Bytes} {from to : ℕ} {xs ys : List ℕ} {x : ℕ} {hand : Piece}
       v = hand .value
 
       go : Dec (v ≡ 0) → rest to f a ≡ ended hand x ++ rest to f x
-      go (yes z) = rw (put-none a x v [] z) (rest-skip to f a x (g .order) (g .top) (λ b l k. g .held b l k ∙ z))
+      go (yes z) = rw (put-none a x v [] z) (rest-skip to f a x (omega (arith, g .begun)) (g .top) (λ b l k. g .held b l k ∙ z))
       go (no z) =
           rw (put-some a x v [] z)
-          (close to f a x x v (g .begun (omega arith)) (omega arith) (g .top) z (g .held) (λ b l k. absurd (omega arith))
+          (close to f a x x v (omega (arith, g .begun)) (omega arith) (g .top) z (g .held) (λ b l k. absurd (omega arith))
           (λ e l q. let s : value ≡ v = sym (here l) ∙ q in z (sym s ∙ other s))
           ∙ put-some a x v (rest to f x) z)
 
@@ -130,7 +129,7 @@ module _ {f : Bytes} {from to : ℕ} {xs ys : List ℕ} {x : ℕ} {hand : Piece}
   pub list-room : Room ys hand x value
   list-room =
       record {
-        order = g .order;
+        order = omega (arith, g .begun);
         room = λ z n.
             let one = ap length (put-some (hand .start) x (hand .value) [] z) in
             omega (arith, one, g .fit, g .size, g .count, simp length-append at (ap length (whole-put (λ e. absurd (n e)))));
@@ -167,8 +166,7 @@ module _ {f : Bytes} {from to : ℕ} {xs ys : List ℕ} {x : ℕ} {hand : Piece}
             (record {
               done = g .done;
               whole = g .whole;
-              order = omega (arith, g .order, on);
-              begun = λ l. omega (arith, g .order, on);
+              begun = omega (arith, g .begun, on);
               held = λ b l k. held b l k (decLt b x);
               top = top;
               count = g .count;
@@ -186,8 +184,7 @@ module _ {f : Bytes} {from to : ℕ} {xs ys : List ℕ} {x : ℕ} {hand : Piece}
             (record {
               done = g .done ++ ended hand x;
               whole = whole-put other;
-              order = omega (arith, on);
-              begun = λ l. on;
+              begun = omega (arith, on);
               held = cells;
               top = top;
               count = sym (length-append (g .done) (ended hand x) ∙ ap (λ (k : ℕ). k + length (ended hand x)) (sym (g .count)));

@@ -255,13 +255,10 @@ module _ {rs : List Run} (g : Rising OFFSET-MAX 0 0 rs) {first end cell i : ℕ}
         let low : final .start ≤ end = rw final-at at (m .reached h) in
         cell-in rs g (i - 1) (omega (arith, m .most)) b (omega arith) k
 
-    -- The last run met may follow the run before it.
-    final-next : Next OFFSET-MAX (endOf (runBefore rs (i - 1))) (runBefore rs (i - 1) .cell) final
-    final-next = next-at rs g (i - 1) (omega (arith, m .most)) .0
-
-    -- the runs behind it may follow it
-    final-order : Rising OFFSET-MAX (endOf final) (final .cell) (drop i rs)
-    final-order = let e : suc (i - 1) ≡ i = omega arith in rw e at (next-at rs g (i - 1) (omega (arith, m .most)) .1)
+    -- The last run met may follow the run before it, and the runs behind it may follow it.
+    final-next :
+        Next OFFSET-MAX (endOf (runBefore rs (i - 1))) (runBefore rs (i - 1) .cell) final × Rising OFFSET-MAX (endOf final) (final .cell) (drop i rs)
+    final-next = let e : suc (i - 1) ≡ i = omega arith in rw e at (next-at rs g (i - 1) (omega (arith, m .most)))
 
     -- From the end of the last run met on, the runs behind it say all.
     final-same : (b : ℕ) → endOf final ≤ b → cellAt (drop i rs) b ≡ cellAt rs b
@@ -277,8 +274,8 @@ module _ {rs : List Run} (g : Rising OFFSET-MAX 0 0 rs) {first end cell i : ℕ}
         rw (part-none 0 0 0 refl)
         (record {
           far = omega arith;
-          inside = final-next .inside;
-          in-order = rw e at final-order;
+          inside = final-next .0 .inside;
+          in-order = rw e at (final-next .1);
           same = final-same;
           join = λ b k o. final-in b k o ∙ e;
         })
@@ -295,7 +292,7 @@ module _ {rs : List Run} (g : Rising OFFSET-MAX 0 0 rs) {first end cell i : ℕ}
     -- The last run met ends later, with another cell: its part behind the range stays.
     pub right-rest : end < endOf final → (final .cell ≡ cell → ⊥) → Back rs end cell (partOf end (endOf final - end) (final .cell) ++ drop i rs) end
     right-rest l e =
-        let n = final-next in
+        let n = final-next .0 in
         let o : endOf rest-part ≡ endOf final = omega arith in
         let next : Next OFFSET-MAX end cell rest-part =
         record { rising = omega arith; filled = omega arith; inside = omega (arith, n .inside); written = n .written; longest = λ p q. e q } in
@@ -303,7 +300,7 @@ module _ {rs : List Run} (g : Rising OFFSET-MAX 0 0 rs) {first end cell i : ℕ}
         (record {
           far = omega arith;
           inside = t;
-          in-order = (next, rw o final-order);
+          in-order = (next, rw o (final-next .1));
           same = λ b k. rest-cell b k (decLt b (endOf final));
           join = λ b k o. absurd (omega arith);
         })

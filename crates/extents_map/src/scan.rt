@@ -1,5 +1,5 @@
 // Reading maps: whether a map is lawful, which cell a byte has, and how many runs a mix of two maps has.
-ghost use Prim.Native.Nat.{ℕ, _+_, _*_, _-_, _≤_, _<_, min, max};
+ghost use Prim.Native.Nat.{_+_, _*_, _-_, _≤_, _<_, min, max};
 ghost use mathlib.Core.Path.{_≡_};
 ghost use mathlib.Core.Bool.{true, cond, not, _&&_};
 ghost use lib.ListN.{length, getD, drop};
@@ -9,7 +9,6 @@ ghost use Rattle.extents_meaning.specs.Runs.{runsFrom};
 ghost use Rattle.extents_meaning.specs.Maps.{runs, bytesOf, allZero, follows, lawful, noMarks, lawfulPublished};
 ghost use Rattle.extents_map.specs.Mixes.{mixed as Mixes·mixed, mixIn};
 ghost use Rattle.extents_map.specs.Cursors.{Part, Passing, Looked, edgeOf, BothLooked};
-ghost use Rattle.rows.specs.Limits.{OFFSET-MAX, ROWS};
 
 // The cell of a byte, the next byte that has another, and the run to go on from: the first that does not end at the byte or before.
 pub struct Look {
