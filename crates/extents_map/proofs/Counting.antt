@@ -1,5 +1,6 @@
 -- Counting the runs of a mix of two maps and a range, from one byte that may start a run to the next.
 use Prim.Native.Nat.{ℕ, zero, suc, _+_, _-_, _≤_, _<_, min}
+use native.Mathlib.Nat.{zero-add, add-zero, suc-add}
 use native.Mathlib.Omega.{arith}
 use mathlib.Core.Path.{_≡_, refl, sym, ap, _∙_}
 use mathlib.Core.List.{List}
@@ -24,32 +25,25 @@ unfolding starts
 starts-most zero s c f = omega arith
 starts-most (suc n) s c f = omega (arith, begins-most (f s) c, starts-most n (suc s) (f s) f)
 
--- bytes of one cell start at most one run
-starts-same : (k n x c here : ℕ) (f : Bytes) → ((b : ℕ) → x ≤ b → b < x + suc k → f b ≡ here) →
-    starts (suc (k + n)) x c f ≡ begins here c + starts n (x + suc k) here f
+-- k bytes of the cell before them start no run
+starts-same : (k n x here : ℕ) (f : Bytes) → ((b : ℕ) → x ≤ b → b < x + k → f b ≡ here) → starts (k + n) x here f ≡ starts n (x + k) here f
 unfolding starts
-starts-same zero n x c here f h =
-    let e : suc x ≡ x + 1 = omega arith in
-    let d : 0 + n ≡ n = omega arith in
+starts-same zero n x here f h = rw (zero-add, add-zero)
+starts-same (suc k) n x here f h =
     let q = h x (omega arith) (omega arith) in
-    λ i. begins (q i) c + starts (d i) (e i) (q i) f
-starts-same (suc k) n x c here f h =
-    let e : suc x + suc k ≡ x + suc (suc k) = omega arith in
-    let d : suc k + n ≡ suc (k + n) = omega arith in
-    let q = h x (omega arith) (omega arith) in
-    let r = starts-same k n (suc x) here here f (λ b l m. h b (omega arith) (omega arith)) in
-    let t : starts n (suc x + suc k) here f ≡ starts n (x + suc (suc k)) here f = ap (λ (y : ℕ). starts n y here f) e in
-    (λ i. begins (q i) c + starts (d i) (suc x) (q i) f) ∙ omega (arith, r, begins-same here here refl, t)
+    let r = starts-same k n (suc x) here f (λ b l m. h b (omega arith) (omega arith)) in
+    let e : suc x + k ≡ x + suc k = omega arith in
+    rw (suc-add, ← e, q, begins-same here here refl) (omega (arith, r))
 
 -- the bytes from x to y, of one cell, count once; the rest stands behind that cell
 starts-on : (x y to c here : ℕ) (f : Bytes) → x < y → y ≤ to → ((b : ℕ) → x ≤ b → b < y → f b ≡ here) →
     starts (to - x) x c f ≡ begins here c + starts (to - y) y here f
+unfolding starts
 starts-on x y to c here f l m h =
     let k : to - x ≡ suc (y - suc x + (to - y)) = omega arith in
-    let e : x + suc (y - suc x) ≡ y = omega arith in
-    ap (λ (n : ℕ). starts n x c f) k
-    ∙ starts-same (y - suc x) (to - y) x c here f (λ b o p. h b o (omega arith))
-    ∙ ap (λ (z : ℕ). begins here c + starts (to - y) z here f) e
+    let e : suc x + (y - suc x) ≡ y = omega arith in
+    let r = starts-same (y - suc x) (to - y) (suc x) here f (λ b o p. h b (omega arith) (omega arith)) in
+    rw (k, h x (omega arith) l) (ap (λ (s : ℕ). begins here c + s) (rw e at r))
 
 -- ---- The walk
 

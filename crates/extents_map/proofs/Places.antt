@@ -1,6 +1,5 @@
 -- The numbers of a run in a lawful map, and how many runs it has.
 use Prim.Native.Nat.{ℕ, suc, _+_, _*_, _-_, _≤_, _<_}
-use native.Mathlib.Decide.{decLt}
 use native.Mathlib.Omega.{arith}
 use mathlib.Core.Path.{_≡_, refl, sym, ap, _∙_}
 use mathlib.Core.Bool.{true}
@@ -62,16 +61,8 @@ module _ (xs : List ℕ) (e : lawful xs ≡ true) (i : ℕ) where
 
   -- A run stands where the length is other than 0.
   pub count-some : (getD xs (i * 4 + 1) 0 ≡ 0 → ⊥) → i < length (runs xs)
-  count-some f = go (decLt i (length (runs xs)))
-    where
-      go : Dec (i < length (runs xs)) → i < length (runs xs)
-      go (yes h) = h
-      go (no h) = absurd (f (length-none (omega arith)))
+  count-some f = let some : length (runs xs) ≤ i → ⊥ = λ h. f (length-none h) in omega arith
 
   -- No run stands where the length is 0.
   pub count-none : getD xs (i * 4 + 1) 0 ≡ 0 → length (runs xs) ≤ i
-  count-none z = go (decLt i (length (runs xs)))
-    where
-      go : Dec (i < length (runs xs)) → length (runs xs) ≤ i
-      go (yes h) = absurd (omega (arith, here xs i e h .filled))
-      go (no h) = omega arith
+  count-none z = let none : i < length (runs xs) → ⊥ = λ h. omega (arith, here xs i e h .filled) in omega arith

@@ -24,7 +24,7 @@ pub fn runs_in(map: &[u32]) -> usize
     let mut lo = 0;
     let mut hi = map.len() / 4;
     while lo < hi {
-        let mid = lo + (hi - lo) / 2;
+        let mid = middle(lo, hi);
         if length_of(map, mid * 4) == 0 {
             hi = mid;
         } else {
@@ -68,7 +68,7 @@ pub fn first_past(map: &[u32], all: usize, x: u32) -> usize
     let mut lo = 0;
     let mut hi = all;
     while lo < hi {
-        let mid = lo + (hi - lo) / 2;
+        let mid = middle(lo, hi);
         if x < end_at(map, mid) {
             hi = mid;
         } else {
@@ -76,6 +76,14 @@ pub fn first_past(map: &[u32], all: usize, x: u32) -> usize
         }
     }
     lo
+}
+
+// A number halfway between two others, not below the lower one and below the upper one.
+fn middle(lo: usize, hi: usize) -> usize
+    requires { ⌜ lo < hi ⌝ }
+    ensures { λ r. ⌜ (lo ≤ r) × (r < hi) ⌝ }
+{
+    lo + (hi - lo) / 2
 }
 
 // The length of the run at a place of a slice.

@@ -21,24 +21,19 @@ abbrev μ-loop : tie.MeasureT-loop
 loop-holds : tie.Need-loop-holds Inv-loop μ-loop
 loop-holds c = let e = c .before .pre .1 in (omega arith, omega arith, omega arith, λ h. absurd (omega arith))
 
-sub-mid : tie.Need-sub-mid Inv-loop μ-loop
-sub-mid c = search needs
-
-add-mid : tie.Need-add-mid Inv-loop μ-loop
-add-mid c = search needs
+middle-requires : tie.Need-middle-requires Inv-loop μ-loop
+middle-requires c κs = c .loop-test .taken
 
 end-at-requires : tie.Need-end-at-requires Inv-loop μ-loop
-end-at-requires c κs =
-    let s = c .before .before .before in
-    (s .pre .0, omega (arith, c .loop-test .taken))
+end-at-requires c κs = (c .before .before .before .before .pre .0, omega (arith, c .middle .ensures .1))
 
 loop-less : tie.Need-loop-less Inv-loop μ-loop
 loop-less c = search needs
 
 loop-again : tie.Need-loop-again Inv-loop μ-loop
 loop-again c =
-    let k = c .before .before .before .loop .inv in
-    (omega arith, omega (arith, c .before .before .loop-test .taken), k .2, λ h. omega (arith, c .before .end-at .ensures, c .if1 .taken))
+    let m = c .before .before in
+    (m .middle .ensures .0, omega (arith, m .middle .ensures .1), m .before .before .loop .inv .2, λ h. omega (arith, c .before .end-at .ensures, c .if1 .taken))
 
 add-lo : tie.Need-add-lo Inv-loop μ-loop
 add-lo c = search needs
@@ -48,8 +43,9 @@ loop-less-2 c = search needs
 
 loop-again-2 : tie.Need-loop-again-2 Inv-loop μ-loop
 loop-again-2 c =
-    let k = c .before .before .before .loop .inv in
-    (omega (arith, c .before .before .loop-test .taken), k .1, rw (before-next _ _) (omega (arith, c .before .end-at .ensures, c .if1 .left)), k .3)
+    let m = c .before .before in
+    let k = m .before .before .loop .inv in
+    (omega (arith, m .middle .ensures .1), k .1, rw (before-next _ _) (omega (arith, c .before .end-at .ensures, c .if1 .left)), k .3)
 
 returns : tie.Need-returns Inv-loop μ-loop
 returns c =
@@ -65,8 +61,7 @@ first-past-spec =
     Inv-loop
     μ-loop
     loop-holds
-    sub-mid
-    add-mid
+    middle-requires
     end-at-requires
     loop-less
     loop-again

@@ -21,27 +21,24 @@ abbrev μ-loop : tie.MeasureT-loop
 loop-holds : tie.Need-loop-holds Inv-loop μ-loop
 loop-holds c = let m = lawful-map (now (c .before .args .map)) (c .before .pre) in (omega arith, omega (arith, m .fit), omega arith)
 
-sub-mid : tie.Need-sub-mid Inv-loop μ-loop
-sub-mid c = search needs
-
-add-mid : tie.Need-add-mid Inv-loop μ-loop
-add-mid c = search needs
+middle-requires : tie.Need-middle-requires Inv-loop μ-loop
+middle-requires c κs = c .loop-test .taken
 
 mul-length-of : tie.Need-mul-length-of Inv-loop μ-loop
 mul-length-of c = search needs
 
 length-of-requires : tie.Need-length-of-requires Inv-loop μ-loop
-length-of-requires c κs = let s = c .before .before .before in omega (arith, lawful-map (now (s .args .map)) (s .pre) .fours-in, c .loop-test .taken)
+length-of-requires c κs = let s = c .before .before .before .before in omega (arith, lawful-map (now (s .args .map)) (s .pre) .fours-in, c .middle .ensures .1)
 
 loop-less : tie.Need-loop-less Inv-loop μ-loop
 loop-less c = search needs
 
 loop-again : tie.Need-loop-again Inv-loop μ-loop
 loop-again c =
-    let k = c .before .before .before in
-    let s = k .before .before in
+    let m = c .before .before in
+    let s = m .before .before .before .before in
     let none = count-none (now (s .args .map)) (s .pre) _ (sym (c .before .length-of .ensures) ∙ c .if1 .taken) in
-    (k .loop .inv .0, none, omega (arith, c .before .before .loop-test .taken))
+    (m .before .before .loop .inv .0, none, omega (arith, m .middle .ensures .1))
 
 add-lo : tie.Need-add-lo Inv-loop μ-loop
 add-lo c = search needs
@@ -51,7 +48,7 @@ loop-less-2 c = search needs
 
 loop-again-2 : tie.Need-loop-again-2 Inv-loop μ-loop
 loop-again-2 c =
-    let k = c .before .before .before in
+    let k = c .before .before .before .before in
     let s = k .before .before in
     let more = count-some (now (s .args .map)) (s .pre) _ (λ z. c .if1 .left (c .before .length-of .ensures ∙ z)) in
     (omega arith, k .loop .inv .1, k .loop .inv .2)
@@ -66,8 +63,7 @@ runs-in-spec =
     Inv-loop
     μ-loop
     loop-holds
-    sub-mid
-    add-mid
+    middle-requires
     mul-length-of
     length-of-requires
     loop-less
