@@ -200,8 +200,8 @@ abbrev pub valuesOf : List ℕ → Bytes
 valuesOf map b = suc (numberIn (bytesOf map b))
 
 -- a look at byte x
-module _ {map : List ℕ} {from to : ℕ} {xs ys : List ℕ} {x i : ℕ} {hand : Piece} (g : Listing (valuesOf map) from to xs ys x hand)
-    (p : Passing map 0 x i) (on : x < to) (below : to ≤ OFFSET-MAX) {s : Look} (l : Looked map i x s) where
+module _ {map : List ℕ} {from to : ℕ} {xs ys : List ℕ} {x i : ℕ} {hand : Piece} (g : Listing (valuesOf map) from to xs ys x hand × Passing map 0 x i)
+    (on : x < to) (below : to ≤ OFFSET-MAX) {s : Look} (l : Looked map i x s) where
   -- the next byte of another cell lies behind x
   pub look-further : x < s .next
   look-further = change-iff (bytesOf (drop (4 * i) map)) x (s .next) (omega arith) .0 (sym (l .next)) .0
@@ -210,18 +210,18 @@ module _ {map : List ℕ} {from to : ℕ} {xs ys : List ℕ} {x i : ℕ} {hand :
   look-value : (b : ℕ) → x ≤ b → b < s .next → valuesOf map b ≡ s .cell / 2 + 1
   look-value b h k =
       let e : bytesOf map b ≡ s .cell =
-      sym (p .same b h) ∙ before-change (bytesOf (drop (4 * i) map)) x b (omega arith) h (omega (arith, l .next)) ∙ sym (l .cell) in
+      sym (g .1 .same b h) ∙ before-change (bytesOf (drop (4 * i) map)) x b (omega arith) h (omega (arith, l .next)) ∙ sym (l .cell) in
       ap (λ (c : ℕ). suc (numberIn c)) e ∙ omega arith
 
   -- the slice has room for the piece in hand
   pub look-room : Room ys hand x (s .cell / 2 + 1)
-  look-room = list-room g (λ h. look-value x (omega arith) look-further)
+  look-room = list-room (g .0) (λ h. look-value x (omega arith) look-further)
 
   -- The listing and its cursor go on from the next byte of another cell.
   pub look-next : {r : Piece} {zs : List ℕ} → Turned ys hand x (s .cell / 2 + 1) r zs → length zs ≡ length ys → {y : ℕ} → y ≡ min (s .next) to →
       Listing (valuesOf map) from to xs zs y r × Passing map 0 y (s .at)
   look-next t kept {y} q = (
-    list-next g (λ h. look-value x (omega arith) look-further) t (omega arith) kept y (omega (arith, look-further)) (omega arith)
+    list-next (g .0) (λ h. look-value x (omega arith) look-further) t (omega arith) kept y (omega (arith, look-further)) (omega arith)
         (λ b h k. look-value b h (omega arith)),
-    passing-on (passing-then p (l .passing)) y (omega (arith, look-further)),
+    passing-on (passing-then (g .1) (l .passing)) y (omega (arith, look-further)),
   )

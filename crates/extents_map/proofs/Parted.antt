@@ -5,7 +5,7 @@ use native.Mathlib.Numerals.{add-one}
 use native.Mathlib.Omega.{arith}
 use mathlib.Core.Path.{_≡_, refl, sym, ap, _∙_}
 use mathlib.Core.Bool.{cond}
-use mathlib.Core.List.{List, [], _∷_, _++_, append-nil, append-assoc}
+use mathlib.Core.List.{List, [], _∷_, _++_, append-assoc}
 use lib.ListN.{length, getD, take, drop, take-append-drop, drop-of-length-le}
 use lib.Seq.{drop-cons}
 use borrow.Author.Tests.{eq-eqb, ne-eqb}
@@ -126,29 +126,39 @@ module _ (rs : List Run) (g : Rising OFFSET-MAX 0 0 rs) where
 -- ---- The side before a range
 
 module _ {rs : List Run} (g : Rising OFFSET-MAX 0 0 rs) {start cell i : ℕ} (m : Met rs start cell i) where
+  -- the first i runs with a part of run i behind them, none or one run, before the range, which begins at x
+  left-by : (ps : List Run) (x d : ℕ) → x ≤ start → endOf (runBefore rs i) ≤ x → (d ≡ cell → 1 ≤ cell → ⊥) →
+      ((qs : List Run) → Rising OFFSET-MAX x d qs → Rising OFFSET-MAX (endOf (runBefore rs i)) (runBefore rs i .cell) (ps ++ qs)) →
+      ((qs : List Run) (b : ℕ) → x ≤ b → cellAt (ps ++ qs) b ≡ cellAt qs b) →
+      ((qs : List Run) (b : ℕ) → b < x → cellAt qs b ≡ 0 → cellAt (ps ++ qs) b ≡ cellAt (drop i rs) b) →
+      ((b : ℕ) → x ≤ b → b < start → cellAt rs b ≡ cell) → Front rs start cell (take i rs ++ ps) x
+  left-by ps x d near passed apart follow ends same join =
+      record {
+        last = d;
+        apart = apart;
+        near = near;
+        follow = λ qs k. rw append-assoc (follow-at (runOf 0 0 0) rs g i (m .most) (ps ++ qs) (follow qs k));
+        ends = λ qs b k. rw append-assoc (ends-at (runOf 0 0 0) rs g i (m .most) (ps ++ qs) b (omega arith) ∙ ends qs b k);
+        same = λ qs b k z.
+            rw append-assoc
+            (cell-same (take i rs) (ps ++ qs) (drop i rs) b (same qs b k z) ∙ ap (λ (l : List Run). cellAt l b) (take-append-drop i rs));
+        join = join;
+      }
+
   -- nothing of run i is left before the range, which begins at x
   left-whole : (x : ℕ) → x ≤ start → endOf (runBefore rs i) ≤ x → (endOf (runBefore rs i) ≡ x → runBefore rs i .cell ≡ cell → 1 ≤ cell → ⊥) →
       ((b : ℕ) → b < x → cellAt (drop i rs) b ≡ 0) → ((b : ℕ) → x ≤ b → b < start → cellAt rs b ≡ cell) →
       Front rs start cell (take i rs ++ partOf 0 0 0) x
-  left-whole x near passed apart free join = rw (part-none 0 0 0 refl, append-nil) (go (decLt (endOf (runBefore rs i)) x))
+  left-whole x near passed apart free join = rw (part-none 0 0 0 refl) (go (decLt (endOf p) x))
     where
       p : Run
       p = runBefore rs i
 
-      front : (d : ℕ) → (d ≡ cell → 1 ≤ cell → ⊥) → (endOf p ≡ x → p .cell ≡ d) → Front rs start cell (take i rs) x
+      front : (d : ℕ) → (d ≡ cell → 1 ≤ cell → ⊥) → (endOf p ≡ x → p .cell ≡ d) → Front rs start cell (take i rs ++ []) x
       front d a e =
-          record {
-            last = d;
-            apart = a;
-            near = near;
-            follow = λ qs k. follow-at (runOf 0 0 0) rs g i (m .most) qs (rising-from (endOf p) (p .cell) x d qs passed e k);
-            ends = λ qs b k. ends-at (runOf 0 0 0) rs g i (m .most) qs b (omega arith);
-            same =
-                λ qs b l z. cell-same (take i rs) qs (drop i rs) b (z ∙ sym (free b l)) ∙ ap (λ (l : List Run). cellAt l b) (take-append-drop i rs);
-            join = join;
-          }
+          left-by [] x d near passed a (λ qs. rising-from (endOf p) (p .cell) x d qs passed e) (λ qs b k. refl) (λ qs b k z. z ∙ sym (free b k)) join
 
-      go : Dec (endOf p < x) → Front rs start cell (take i rs) x
+      go : Dec (endOf p < x) → Front rs start cell (take i rs ++ []) x
       go (yes l) = front 0 (λ a b. omega arith) (λ e. absurd (omega arith))
       go (no l) = front (p .cell) (apart (omega arith)) (λ e. refl)
 
@@ -204,22 +214,8 @@ module _ {rs : List Run} (g : Rising OFFSET-MAX 0 0 rs) {start cell i : ℕ} (m 
         let next : Next OFFSET-MAX (endOf (runBefore rs i)) (runBefore rs i .cell) part =
         record { rising = n .rising; filled = omega arith; inside = omega (arith, n .inside); written = n .written; longest = n .longest } in
         rw (part-some (here .start) (start - here .start) (here .cell) (omega arith))
-        (record {
-          last = here .cell;
-          apart = λ q o. e q;
-          near = omega arith;
-          follow = λ qs k. rw append-assoc (follow-at (runOf 0 0 0) rs g i (m .most) (part ∷ qs) (next, rw end k));
-          ends =
-              λ qs b k.
-              rw append-assoc
-              (ends-at (runOf 0 0 0) rs g i (m .most) (part ∷ qs) b (omega (arith, m .passed)) ∙ cell-behind part qs b (omega arith));
-          same =
-              λ qs b k z.
-              rw append-assoc
-              (cell-same (take i rs) (part ∷ qs) (drop i rs) b (part-cell l qs b k z (decLt b (here .start)))
-              ∙ ap (λ (l : List Run). cellAt l b) (take-append-drop i rs));
-          join = λ b k o. absurd (omega arith);
-        })
+        (left-by (part ∷ []) start (here .cell) (omega arith) (m .passed) (λ q o. e q) (λ qs k. (next, rw end k)) (λ qs b k. cell-behind part qs b (omega arith))
+        (λ qs b k z. part-cell l qs b k z (decLt b (here .start))) (λ b k o. absurd (omega arith)))
 
 -- ---- The side behind a range
 

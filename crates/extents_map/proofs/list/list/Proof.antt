@@ -34,17 +34,26 @@ add-turn : tie.Need-add-turn Inv-loop μ-loop
 add-turn c = search needs
 
 turn-requires : tie.Need-turn-requires Inv-loop μ-loop
-turn-requires c κs = look-room (c .before .before .before .before .loop .inv .0) (c .before .before .before .before .loop .inv .1) (c .before .before .before .loop-test .taken) (omega arith) (c .before .before .see .ensures)
+turn-requires c κs =
+    let s = c .before .before in
+    let l = s .before .before in
+    look-room (l .loop .inv) (s .before .loop-test .taken) (omega arith) (s .see .ensures)
 
 least-requires : tie.Need-least-requires Inv-loop μ-loop
 least-requires c κs = search needs
 
 loop-less : tie.Need-loop-less Inv-loop μ-loop
-loop-less c = omega (arith, c .least .ensures, look-further (c .before .before .before .before .before .before .before .before .loop .inv .0) (c .before .before .before .before .before .before .before .before .loop .inv .1) (c .before .before .before .before .before .before .before .loop-test .taken) (omega arith) (c .before .before .before .before .before .before .see .ensures))
+loop-less c =
+    let s = c .before .before .before .before .before .before in
+    let l = s .before .before in
+    omega (arith, c .least .ensures, look-further (l .loop .inv) (s .before .loop-test .taken) (omega arith) (s .see .ensures))
 
 loop-again : tie.Need-loop-again Inv-loop μ-loop
 loop-again c =
-    look-next (c .before .before .before .before .before .before .before .before .loop .inv .0) (c .before .before .before .before .before .before .before .before .loop .inv .1) (c .before .before .before .before .before .before .before .loop-test .taken) (omega arith) (c .before .before .before .before .before .before .see .ensures) (c .before .before .before .turn .ensures) (c .before .before .before .turn .kept .0) (c .least .ensures)
+    let s = c .before .before .before .before .before .before in
+    let l = s .before .before in
+    let t = c .before .before .before .turn in
+    look-next (l .loop .inv) (s .before .loop-test .taken) (omega arith) (s .see .ensures) (t .ensures) (t .kept .0) (c .least .ensures)
 
 turn-requires-2 : tie.Need-turn-requires-2 Inv-loop μ-loop
 turn-requires-2 c κs = list-room (c .before .before .loop .inv .0) (λ h. absurd (omega (arith, c .before .loop-test .left)))
@@ -54,7 +63,9 @@ same-length c = c .before .before .turn2 .kept .0 ∙ c .before .before .before 
 
 returns : tie.Need-returns Inv-loop μ-loop
 unfolding piecesOf
-returns c = list-done (c .before .before .before .before .before .loop .inv .0) (λ h. absurd (omega (arith, c .before .before .before .before .loop-test .left))) (c .before .before .turn2 .ensures) (c .before .before .before .before .loop-test .left) refl
+returns c =
+    let e = c .before .before .before .before in
+    list-done (e .before .loop .inv .0) (λ h. absurd (omega (arith, e .loop-test .left))) (c .before .before .turn2 .ensures) (e .loop-test .left) refl
 
 pub list-spec : {M : Type 1} → statement M
 list-spec =
