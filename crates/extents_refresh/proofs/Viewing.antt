@@ -24,13 +24,13 @@ use Rattle.extents_pair.proofs.Pairing.{two-told, two-apart, lentMap, map-lent,
 use Rattle.extents_pair.proofs.Gathering.{refreshed-none}
 use Rattle.extents_refresh.specs.Clearing.{Cleared}
 use Rattle.extents_refresh.proofs.Clearing.{cleared-all}
+use Rattle.extents_refresh.proofs.Copying.{CopyReady}
 
 module _ (space view below : ℕ) (xs : List ℕ) (two : twoMaps space view below xs ≡ true) where
   -- ---- A view without unpublished runs
 
   -- the published map may be copied
-  pub copy-ready : (((below + 1) * (4 * space) ≤ length xs) × ((view + 1) * (4 * space) ≤ length xs) × (below ≡ view → ⊥))
-      × ((lawful (mapAt space below xs) ≡ true) × (lawful (mapAt space view xs) ≡ true))
+  pub copy-ready : CopyReady space below view xs
   copy-ready =
       let t = two-told space view below xs two in
       ((t .below-in, t .view-in, λ q. two-apart space view below xs two (sym q)), (t .below-law, t .view-law))
