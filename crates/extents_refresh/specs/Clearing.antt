@@ -1,25 +1,18 @@
--- Marks cleared in place: where a run would join a neighbour, and what a map is after some marks are cleared.
-use Prim.Native.Nat.{ℕ, suc, _+_, _-_, _<_}
+-- Marks cleared in place: where a run would join the one before it, and what a map is after some marks are cleared.
+use Prim.Native.Nat.{ℕ}
 use mathlib.Core.Path.{_≡_}
 use mathlib.Core.Bool.{true}
-use mathlib.Core.List.{List}
-use lib.ListN.{length, getD}
+use mathlib.Core.List.{List, _∷_}
+use lib.ListN.{length}
 use Rattle.extents_meaning.specs.Cells.{numberIn, asPublished}
-use Rattle.extents_meaning.specs.Runs.{Run, runOf}
+use Rattle.extents_meaning.specs.Runs.{Run}
 use Rattle.extents_meaning.specs.Maps.{runs, bytesOf, lawful}
+use Rattle.extents_map.specs.Beside.{endOf, runNo}
 use Rattle.extents_pair.specs.Marks.{marked}
 
--- The run behind run i of some follows it at once, with the same row.
-abbrev pub Meet : List Run → ℕ → Type 0
-Meet rs i =
-    (suc i < length rs)
-    × (getD rs i (runOf 0 0 0) .start + getD rs i (runOf 0 0 0) .length ≡ getD rs (suc i) (runOf 0 0 0) .start)
-    × (numberIn (getD rs i (runOf 0 0 0) .cell) ≡ numberIn (getD rs (suc i) (runOf 0 0 0) .cell))
-
--- Run i has no neighbour that it would join.
-pub record Alone (rs : List Run) (i : ℕ) : Type 0 where
-  pub before : 0 < i → Meet rs (i - 1) → ⊥
-  pub behind : Meet rs i → ⊥
+-- Run i of some that follow the run q does not follow the run before it at once with the same row.
+abbrev pub Apart : Run → List Run → ℕ → Type 0
+Apart q rs i = endOf (runNo (q ∷ rs) i) ≡ runNo rs i .start → numberIn (runNo (q ∷ rs) i .cell) ≡ numberIn (runNo rs i .cell) → ⊥
 
 -- Some marks of a map are cleared: it is lawful, `left` of its runs are unpublished, and it has the same bytes once every mark is cleared.
 pub record Cleared (xs : List ℕ) (left : ℕ) (ys : List ℕ) : Type 0 where

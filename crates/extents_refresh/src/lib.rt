@@ -1,15 +1,15 @@
 // Refreshing a view from the published map, both maps in one slice, and marking the runs of a view published.
 ghost use Prim.Native.Nat.{_+_, _*_, _≤_, _<_, max};
 ghost use mathlib.Core.Path.{_≡_};
-ghost use mathlib.Core.Bool.{true, false, _&&_};
+ghost use mathlib.Core.Bool.{true, false};
 ghost use lib.ListN.{length};
-ghost use lib.Dec.{eqb};
 ghost use Rattle.extents_meaning.specs.Cells.{asPublished, refreshed};
-ghost use Rattle.extents_meaning.specs.Runs.{runsOf};
+ghost use Rattle.extents_meaning.specs.Runs.{runOf, runsOf};
 ghost use Rattle.extents_meaning.specs.Maps.{mapFor, runs, lawful, mapAt, withMap};
 ghost use Rattle.extents_pair.specs.Marks.{marked};
 ghost use Rattle.extents_pair.specs.InPairs.{twoMapsIn, viewIn, belowIn, OwnCounted};
-ghost use Rattle.extents_refresh.specs.Clearing.{Meet, Alone, Cleared};
+ghost use Rattle.extents_refresh.specs.Clearing.{Apart, Cleared};
+use extents_map::locate;
 use extents_map::scan::Mix;
 use extents_map::scan::Mode;
 use extents_pair::Pair;
@@ -74,14 +74,16 @@ fn clear_marks(map: &mut [u32], own: usize) -> usize
     requires { ⌜ (lawful (now map) ≡ true) × (own ≡ length (marked (runs (now map)))) ⌝ }
     ensures { λ r. ⌜ Cleared (now (map .entry)) r (now (map .exit)) ⌝ }
 {
+    let all = locate::runs_in(map);
     let mut left = own;
     let mut i = 0;
     while 0 < left {
-        if map[i * 4 + 3] == 1 {
-            if joins(map, i) {
+        let at = i * 4 + 3;
+        if map[at] == 1 {
+            if meets(map, all, i) || meets(map, all, i + 1) {
                 return left;
             }
-            map[i * 4 + 3] = 0;
+            map[at] = 0;
             left -= 1;
         }
         i += 1;
@@ -89,37 +91,22 @@ fn clear_marks(map: &mut [u32], own: usize) -> usize
     left
 }
 
-// May run i join a neighbour when both are published?
-fn joins(map: &[u32], i: usize) -> bool
-    requires { ⌜ (lawful (now map) ≡ true) × (i < length (runs (now map))) ⌝ }
-    ensures { λ r. ⌜ (r ≡ false → Alone (runs (now (map .entry))) i) ⌝ }
+// Does run i of `all` follow the run before it at once, with the same row?
+fn meets(map: &[u32], all: usize, i: usize) -> bool
+    requires { ⌜ (lawful (now map) ≡ true) × (all ≡ length (runs (now map))) ⌝ }
+    ensures { λ r. ⌜ (r ≡ false → i < all → Apart (runOf 0 0 0) (runs (now (map .entry))) i) ⌝ }
 {
-    if 0 < i {
-        if meets(map, i - 1) {
-            return true;
-        }
-    }
-    if i * 4 + 4 == map.len() {
+    if i == 0 {
         return false;
     }
-    meets(map, i)
-}
-
-// Does the run behind run i follow it at once, with the same row? Behind the last run all is 0.
-fn meets(map: &[u32], i: usize) -> bool
-    requires { ⌜ (lawful (now map) ≡ true) × (i < length (runs (now map))) × (i * 4 + 8 ≤ length (now map)) ⌝ }
-    ensures { λ r. ⌜ (r ≡ false → Meet (runs (now (map .entry))) i → ⊥) ⌝ }
-{
-    let at = i * 4;
-    let end = map[at] + map[at + 1];
-    touches(end, map[at + 4], map[at + 2], map[at + 6])
-}
-
-// Does a run that starts at a byte follow an end at once, with the same row?
-fn touches(end: u32, start: u32, last: u32, number: u32) -> bool
-    ensures { λ r. ⌜ r ≡ eqb end start && eqb last number ⌝ }
-{
-    end == start && last == number
+    if all <= i {
+        return false;
+    }
+    let last = i - 1;
+    if locate::end_at(map, last) != locate::start_at(map, i) {
+        return false;
+    }
+    locate::cell_at(map, last) / 2 == locate::cell_at(map, i) / 2
 }
 
 // Copies map j to the place of map k, as far as one of them has runs.
@@ -131,8 +118,8 @@ pub fn copy(maps: &mut [u32], space: usize, j: usize, k: usize)
     let size = 4 * space;
     let from = j * size;
     let to = k * size;
-    let there = extents_map::locate::runs_in(&maps[from..from + size]);
-    let here = extents_map::locate::runs_in(&maps[to..to + size]);
+    let there = locate::runs_in(&maps[from..from + size]);
+    let here = locate::runs_in(&maps[to..to + size]);
     let end = larger(there, here) * 4;
     let mut i = 0;
     while i < end {

@@ -1,88 +1,58 @@
 -- `extents_refresh::meets` meets its contract.
 use borrow.Author.Needs.{needs}
 use native.Mathlib.Omega.{arith}
+use mathlib.Core.Path.{sym, ap, _∙_}
+use borrow.Author.Tests.{eqb-false}
 use denote.Ref.{now}
-use Rattle.extents_refresh.proofs.Clearing.{meet-end, meet-not}
+use Rattle.extents_meaning.specs.Cells.{numberIn}
+use Rattle.extents_meaning.specs.Maps.{runs}
+use Rattle.extents_meaning.proofs.Trips.{lawful-map}
+use Rattle.extents_map.proofs.Parted.{before-last}
+use Rattle.extents_refresh.proofs.Clearing.{first-apart}
 use Rattle.extents_refresh.proofs.meets.Statement.{statement}
 use Rattle.extents_refresh.proofs.meets.Tie as tie
 
-mul-at : tie.Need-mul-at
-mul-at c = search needs
-
-mul-end : tie.Need-mul-end
-mul-end c = search needs
-
-shared-slice-read-end : tie.Need-shared-slice-read-end
-shared-slice-read-end c = search needs
-
-add-end : tie.Need-add-end
-add-end c = search needs
-
-mul-end-2 : tie.Need-mul-end-2
-mul-end-2 c = search needs
-
-shared-slice-read-end-2 : tie.Need-shared-slice-read-end-2
-shared-slice-read-end-2 c = search needs
-
-add-end-2 : tie.Need-add-end-2
-add-end-2 c =
-    let s = c .before .before .before in
-    omega (arith, meet-end (now (s .args .map)) (s .pre .0) (s .args .i) (s .pre .1))
-
-add-touches : tie.Need-add-touches
-add-touches c = search needs
-
-mul-touches : tie.Need-mul-touches
-mul-touches c = search needs
-
-shared-slice-read-touches : tie.Need-shared-slice-read-touches
-shared-slice-read-touches c = search needs
-
-add-touches-2 : tie.Need-add-touches-2
-add-touches-2 c = search needs
-
-mul-touches-2 : tie.Need-mul-touches-2
-mul-touches-2 c = search needs
-
-shared-slice-read-touches-2 : tie.Need-shared-slice-read-touches-2
-shared-slice-read-touches-2 c = search needs
-
-add-touches-3 : tie.Need-add-touches-3
-add-touches-3 c = search needs
-
-mul-touches-3 : tie.Need-mul-touches-3
-mul-touches-3 c = search needs
-
-shared-slice-read-touches-3 : tie.Need-shared-slice-read-touches-3
-shared-slice-read-touches-3 c = search needs
-
-touches-requires : tie.Need-touches-requires
-touches-requires c κs = search needs
-
 returns : tie.Need-returns
-returns c =
-    let s = c .before .before .before .before .before .before .before in
-    meet-not (now (s .args .map)) (s .pre .0) (s .args .i) (s .pre .1) (c .touches .ensures)
+returns c _ h =
+    let xs = now (c .before .before .args .map) in
+    first-apart (runs xs) (lawful-map xs (c .before .before .pre .0) .lawful-runs) (c .if1 .taken) (omega (arith, h, c .before .before .pre .1))
+
+returns-2 : tie.Need-returns-2
+returns-2 c = search needs
+
+sub-last : tie.Need-sub-last
+sub-last c = search needs
+
+end-at-requires : tie.Need-end-at-requires
+end-at-requires c κs = search needs
+
+start-at-requires : tie.Need-start-at-requires
+start-at-requires c κs = (c .before .before .before .before .pre .0, omega (arith, c .before .before .before .before .pre .1, c .before .if2 .left))
+
+returns-3 : tie.Need-returns-3
+returns-3 c _ h = rw (before-last (runs (now (c .before .before .before .before .before .before .args .map))) (c .before .before .before .before .before .before .args .i) (omega (arith, c .before .before .before .before .if1 .left))) (λ e _. c .if3 .taken (c .before .before .end-at .ensures ∙ e ∙ sym (c .before .start-at .ensures)))
+
+cell-at-requires : tie.Need-cell-at-requires
+cell-at-requires c κs = search needs
+
+cell-at-requires-2 : tie.Need-cell-at-requires-2
+cell-at-requires-2 c κs = (c .before .before .before .before .before .before .before .pre .0, omega (arith, c .before .before .before .before .before .before .before .pre .1, c .before .before .before .before .if2 .left))
+
+returns-4 : tie.Need-returns-4
+returns-4 c z h =
+    rw (before-last (runs (now (c .before .before .before .before .before .before .before .before .args .map))) (c .before .before .before .before .before .before .before .before .args .i) (omega (arith, c .before .before .before .before .before .before .if1 .left)))
+    (λ _ e. eqb-false _ _ z (ap numberIn (c .before .cell-at .ensures) ∙ e ∙ sym (ap numberIn (c .cell-at2 .ensures))))
 
 pub meets-spec : {M : Type 1} → statement M
 meets-spec =
     tie.close
     (tie.spec
-    mul-at
-    mul-end
-    shared-slice-read-end
-    add-end
-    mul-end-2
-    shared-slice-read-end-2
-    add-end-2
-    add-touches
-    mul-touches
-    shared-slice-read-touches
-    add-touches-2
-    mul-touches-2
-    shared-slice-read-touches-2
-    add-touches-3
-    mul-touches-3
-    shared-slice-read-touches-3
-    touches-requires
-    returns)
+    returns
+    returns-2
+    sub-last
+    end-at-requires
+    start-at-requires
+    returns-3
+    cell-at-requires
+    cell-at-requires-2
+    returns-4)
