@@ -2,33 +2,33 @@
 use Prim.Native.Nat.{ℕ, _+_, _*_, _-_, _≤_}
 use native.Mathlib.Omega.{arith}
 use mathlib.Core.Path.{_≡_, refl, sym, ap, _∙_}
-use mathlib.Core.Bool.{true, not, _&&_}
+use mathlib.Core.Bool.{true}
 use mathlib.Core.List.{List}
 use lib.ListN.{length}
-use lib.Dec.{leb, eqb}
+use lib.Dec.{leb}
+use borrow.Author.Tests.{le-leb}
 use borrow.Rule.Slice.PartMut.{putMid}
 use Rattle.extents_meaning.specs.Cells.{Bytes, cleared, asPublished, refreshed}
 use Rattle.extents_meaning.specs.Runs.{runsOf}
 use Rattle.extents_meaning.specs.Maps.{mapOf, mapFor, runs, bytesOf, lawful, lawfulPublished, mapAt, withMap}
 use Rattle.extents_meaning.specs.Pairs.{twoMaps, viewOf, belowOf}
-use Rattle.extents_meaning.proofs.Longest.{range-behind, runs-same, runs-back}
+use Rattle.extents_meaning.proofs.Longest.{range-behind, runs-same}
 use Rattle.extents_meaning.proofs.Points.{runs-by}
 use Rattle.extents_meaning.proofs.Trips.{lawful-map, length-map}
 use Rattle.extents_meaning.proofs.Sides.{with-length, at-same, at-other, with-over}
-use Rattle.rows.proofs.Bools.{and-out}
 use Rattle.extents_map.specs.Mixes.{mixed, mix}
 use Rattle.extents_map.specs.declared.scan.Mode.the-variants.{MarkPublished}
 use Rattle.extents_pair.specs.Marks.{marked}
-use Rattle.extents_pair.proofs.Parts.{home, map-same}
-use Rattle.extents_pair.proofs.Pairing.{two-told, two-apart, lentMap, map-lent, map-length, map-space, map-whole, made-home}
+use Rattle.extents_pair.proofs.Parts.{home, bytes-fit}
+use Rattle.extents_pair.proofs.Pairing.{Told, two-told, two-apart, last-law, lentMap, map-lent, map-length, map-space, map-whole, made-home}
 use Rattle.extents_pair.proofs.Gathering.{refreshed-none}
 use Rattle.extents_refresh.specs.Clearing.{Cleared}
 use Rattle.extents_refresh.proofs.Clearing.{cleared-all}
 use Rattle.extents_refresh.proofs.Copying.{CopyReady}
 
-module _ (space view below : ℕ) (xs : List ℕ) (two : twoMaps space view below xs ≡ true) where
-  -- ---- A view without unpublished runs
+-- ---- A view without unpublished runs
 
+module _ (space view below : ℕ) (xs : List ℕ) (two : twoMaps space view below xs ≡ true) where
   -- the published map may be copied
   pub copy-ready : CopyReady space below view xs
   copy-ready =
@@ -46,88 +46,76 @@ module _ (space view below : ℕ) (xs : List ℕ) (two : twoMaps space view belo
       runs-same _ _ (λ b _. refreshed-none (runs (mapAt space view xs)) law (sym e ∙ z) (belowOf space view below xs) b) in
       q ∙ ap (λ (m : List ℕ). withMap space view m xs) (sym (ap (mapOf space) same ∙ map-whole space below xs (u .below-in) (u .below-law)))
 
-  -- ---- A view marked published
+-- ---- A view marked published
 
-  -- The mix that marks a view published has its bytes without marks.
-  marks-are : (v w : Bytes) (b : ℕ) → mix MarkPublished 0 0 0 v w b ≡ asPublished v b
-  unfolding mixed
-  marks-are v w b = rw (range-behind 0 0 b (omega arith))
+-- The mix that marks a view published has the runs of its bytes without marks.
+marks-are : (v w : Bytes) → runsOf (mix MarkPublished 0 0 0 v w) ≡ runsOf (asPublished v)
+unfolding mixed
+marks-are v w = runs-same (mix MarkPublished 0 0 0 v w) (asPublished v) (λ b _. rw (range-behind 0 0 b (omega arith)))
 
-  module _ {left : ℕ} {end : List ℕ} (k : Cleared (lentMap space view xs) left end) where
-    -- the slice with the view whose marks are cleared in part
-    abbrev ys : List ℕ
-    ys = putMid (view * (4 * space)) (view * (4 * space) + 4 * space - view * (4 * space)) xs end
+-- Of two maps in a slice the view was lent, and some of its marks are cleared.
+pub record ViewCleared (space view below : ℕ) (xs : List ℕ) (left : ℕ) (end : List ℕ) : Type 0 where
+  pub two : twoMaps space view below xs ≡ true
+  pub marks : Cleared (lentMap space view xs) left end
 
-    ys-is : ys ≡ withMap space view end xs
-    ys-is = home (view * (4 * space)) (4 * space) xs end
+module _ {space view below : ℕ} {xs : List ℕ} {left : ℕ} {end : List ℕ} (k : ViewCleared space view below xs left end) where
+  told : Told space view below xs
+  told = two-told space view below xs (k .two)
 
-    end-size : length end ≡ 4 * space
-    end-size =
-        let t = two-told space view below xs two in
-        k .same ∙ ap length (map-lent space view xs) ∙ map-length space view xs (t .view-in)
+  -- the slice with that view
+  abbrev ys : List ℕ
+  ys = putMid (view * (4 * space)) (view * (4 * space) + 4 * space - view * (4 * space)) xs end
 
-    -- the slice is as long as it was, and has the cleared view
-    pub cleared-length : length ys ≡ length xs
-    cleared-length = ap length ys-is ∙ with-length space view end xs end-size (two-told space view below xs two .view-in)
+  ys-is : ys ≡ withMap space view end xs
+  ys-is = home (view * (4 * space)) (4 * space) xs end
 
-    view-is : mapAt space view ys ≡ end
-    view-is = ap (mapAt space view) ys-is ∙ at-same space view end xs end-size (two-told space view below xs two .view-in)
+  end-size : length end ≡ 4 * space
+  end-size = k .marks .same ∙ ap length (map-lent space view xs) ∙ map-length space view xs (told .view-in)
 
-    below-is : mapAt space below ys ≡ mapAt space below xs
-    below-is =
-        ap (mapAt space below) ys-is
-        ∙ at-other space view end xs end-size (two-told space view below xs two .view-in) below (λ q. two-apart space view below xs two (sym q))
+  -- the slice is as long as it was, and has the cleared view
+  pub cleared-length : length ys ≡ length xs
+  cleared-length = ap length ys-is ∙ with-length space view end xs end-size (told .view-in)
 
-    -- no mark is left
-    pub cleared-end : left ≡ 0 → ys ≡ withMap space view (mapFor space (asPublished (viewOf space view below xs))) xs
-    cleared-end z = made-home space view xs (two-told space view below xs two .view-in) asPublished (cleared-all k z)
+  view-is : mapAt space view ys ≡ end
+  view-is = ap (mapAt space view) ys-is ∙ at-same space view end xs end-size (told .view-in)
 
-    -- Both maps are lawful still.
-    pub cleared-two : twoMaps space view below ys ≡ true
-    cleared-two =
-        let t = two-told space view below xs two in
-        let e1 = and-out (not (eqb view below)) _ two in
-        let e2 = and-out (leb ((view + 1) * (4 * space)) (length xs)) _ (e1 .1) in
-        let e3 = and-out (leb ((below + 1) * (4 * space)) (length xs)) _ (e2 .1) in
-        let e4 = and-out (lawful (mapAt space view xs)) _ (e3 .1) in
-        (λ i. e1 .0 i && (leb ((view + 1) * (4 * space)) (cleared-length i)
-        && (leb ((below + 1) * (4 * space)) (cleared-length i) && ((ap lawful view-is ∙ k .law) i && lawfulPublished (below-is i)))))
-        ∙ (λ i. e2 .0 i && (e3 .0 i && e4 .1 i))
+  -- no mark is left
+  pub cleared-end : left ≡ 0 → ys ≡ withMap space view (mapFor space (asPublished (viewOf space view below xs))) xs
+  cleared-end z = made-home space view xs (told .view-in) asPublished (cleared-all (k .marks) z)
 
-    -- The marks that are left are counted.
-    pub cleared-own : left ≡ length (marked (runs (mapAt space view ys)))
-    cleared-own = k .all ∙ ap (λ (m : List ℕ). length (marked (runs m))) (sym view-is)
+  -- Both maps are lawful still.
+  pub cleared-two : twoMaps space view below ys ≡ true
+  cleared-two =
+      let apart = two-apart space view below xs (k .two) in
+      let room : (n : ℕ) → n ≤ length xs → leb n (length ys) ≡ true = λ n h. le-leb n (length ys) (omega (arith, cleared-length)) in
+      sym (last-law space view below ys apart (room _ (told .view-in)) (room _ (told .below-in)) (ap lawful view-is ∙ k .marks .law))
+      ∙ ap (λ (l : List ℕ). lawfulPublished (mapAt space below l)) ys-is
+      ∙ ap lawfulPublished (at-other space view end xs end-size (told .view-in) below (λ q. apart (sym q)))
+      ∙ last-law space view below xs apart (le-leb _ _ (told .view-in)) (le-leb _ _ (told .below-in)) (told .view-law)
+      ∙ k .two
 
-    -- The bytes of the cleared view without marks are those of the view.
-    cleared-mean : (b : ℕ) → asPublished (viewOf space view below ys) b ≡ asPublished (viewOf space view below xs) b
-    cleared-mean b =
-        ap (λ (m : List ℕ). asPublished (bytesOf m) b) view-is ∙ k .mean b ∙ ap (λ (m : List ℕ). asPublished (bytesOf m) b) (map-lent space view xs)
+  -- The marks that are left are counted.
+  pub cleared-own : left ≡ length (marked (runs (mapAt space view ys)))
+  cleared-own = k .marks .all ∙ ap (λ (m : List ℕ). length (marked (runs m))) (sym view-is)
 
-    -- The view marked published fits.
-    pub cleared-fits : length (runsOf (mix MarkPublished 0 0 0 (viewOf space view below ys) (belowOf space view below ys))) ≤ space
-    cleared-fits =
-        let t = two-told space view below ys cleared-two in
-        let m = lawful-map (mapAt space view ys) (t .view-law) in
-        let v = viewOf space view below ys in
-        omega (
-          arith,
-          ap length (runs-same (mix MarkPublished 0 0 0 v (belowOf space view below ys)) (asPublished v) (λ b _. marks-are v (belowOf space view below ys) b)),
-          runs-by cleared refl v,
-          ap length (runs-back (runs (mapAt space view ys)) (m .lawful-runs)),
-          m .fit,
-          map-space space view ys (t .view-in),
-        )
+  -- The view marked published fits.
+  pub cleared-fits : length (runsOf (mix MarkPublished 0 0 0 (viewOf space view below ys) (belowOf space view below ys))) ≤ space
+  cleared-fits =
+      let t = two-told space view below ys cleared-two in
+      let v = viewOf space view below ys in
+      let few = bytes-fit (mapAt space view ys) (t .view-law) .few in
+      omega (arith, ap length (marks-are v (belowOf space view below ys)), runs-by cleared refl v, few, map-space space view ys (t .view-in))
 
-    -- Rewritten, it is the view marked published.
-    pub cleared-woven : {zs : List ℕ} →
-        zs ≡ withMap space view (mapFor space (mix MarkPublished 0 0 0 (viewOf space view below ys) (belowOf space view below ys))) ys →
-        zs ≡ withMap space view (mapFor space (asPublished (viewOf space view below xs))) xs
-    cleared-woven {zs} q =
-        let v = viewOf space view below ys in
-        let new = mix MarkPublished 0 0 0 v (belowOf space view below ys) in
-        let s = length-map space (runsOf new) cleared-fits in
-        q
-        ∙ ap (withMap space view (mapFor space new)) ys-is
-        ∙ with-over space view (mapFor space new) end xs s end-size (two-told space view below xs two .view-in)
-        ∙ ap (λ (m : List ℕ). withMap space view m xs)
-        (map-same space new (asPublished (viewOf space view below xs)) (λ b. marks-are v (belowOf space view below ys) b ∙ cleared-mean b))
+  -- Rewritten, it is the view marked published.
+  pub cleared-woven : {zs : List ℕ} →
+      zs ≡ withMap space view (mapFor space (mix MarkPublished 0 0 0 (viewOf space view below ys) (belowOf space view below ys))) ys →
+      zs ≡ withMap space view (mapFor space (asPublished (viewOf space view below xs))) xs
+  cleared-woven q =
+      let v = viewOf space view below ys in
+      let new = mapFor space (mix MarkPublished 0 0 0 v (belowOf space view below ys)) in
+      let same : (b : ℕ) → asPublished v b ≡ asPublished (viewOf space view below xs) b =
+      λ b. ap (λ (m : List ℕ). asPublished (bytesOf m) b) view-is ∙ k .marks .mean b ∙ ap (λ (m : List ℕ). asPublished (bytesOf m) b) (map-lent space view xs) in
+      q
+      ∙ ap (withMap space view new) ys-is
+      ∙ with-over space view new end xs (length-map space _ cleared-fits) end-size (told .view-in)
+      ∙ ap (λ (l : List ℕ). withMap space view l xs) (ap (mapOf space) (marks-are v (belowOf space view below ys) ∙ runs-same _ _ (λ b _. same b)))

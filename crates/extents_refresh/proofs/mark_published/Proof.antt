@@ -7,28 +7,32 @@ use mathlib.Core.List.{List}
 use lib.ListN.{length}
 use denote.Ref.{now}
 use Rattle.extents_meaning.specs.Maps.{runs, lawful}
-use Rattle.extents_map.specs.Mixes.{mixed}
 use Rattle.extents_pair.specs.Marks.{marked}
-use Rattle.extents_pair.proofs.Pairing.{two-told, map-lent}
-use Rattle.extents_refresh.proofs.Viewing.{cleared-length, cleared-end, cleared-two, cleared-own, cleared-fits, cleared-woven}
+use Rattle.extents_pair.proofs.Pairing.{Told, two-told, map-lent}
+use Rattle.extents_refresh.proofs.Viewing.{ViewCleared, cleared-length, cleared-end, cleared-two, cleared-own, cleared-fits, cleared-woven}
 use Rattle.extents_refresh.proofs.mark_published.Statement.{statement}
 use Rattle.extents_refresh.proofs.mark_published.Tie as tie
 
+-- the maps at the start
+told : (s : tie.Start) → let p = s .args .pair in Told (p .space) (p .view) (p .below) (now (s .args .maps))
+told s = let p = s .args .pair in two-told (p .space) (p .view) (p .below) (now (s .args .maps)) (s .pre .0)
+
+-- the maps when the marks are cleared
+part : (c : tie.After-clear-marks) → let a = c .before .before .before .args in let p = a .pair in
+    ViewCleared (p .space) (p .view) (p .below) (now (a .maps)) (c .clear-marks .result) (c .clear-marks .last .0)
+part c = record { two = c .before .before .before .pre .0; marks = c .clear-marks .ensures }
+
 mul-size : tie.Need-mul-size
-mul-size c =
-    let t = two-told (c .before .args .pair .space) (c .before .args .pair .view) (c .before .args .pair .below) (now (c .before .args .maps)) (c .before .pre .0) in omega (arith, t .view-in, c .before .good)
+mul-size c = omega (arith, told (c .before) .view-in, c .before .good)
 
 mul-v : tie.Need-mul-v
-mul-v c =
-    let t = two-told (c .before .args .pair .space) (c .before .args .pair .view) (c .before .args .pair .below) (now (c .before .args .maps)) (c .before .pre .0) in omega (arith, t .view-in, c .before .good)
+mul-v c = omega (arith, told (c .before) .view-in, c .before .good)
 
 add-clear-marks : tie.Need-add-clear-marks
-add-clear-marks c =
-    let t = two-told (c .before .args .pair .space) (c .before .args .pair .view) (c .before .args .pair .below) (now (c .before .args .maps)) (c .before .pre .0) in omega (arith, t .view-in, c .before .good)
+add-clear-marks c = omega (arith, told (c .before) .view-in, c .before .good)
 
 mul-clear-marks : tie.Need-mul-clear-marks
-mul-clear-marks c =
-    let t = two-told (c .before .args .pair .space) (c .before .args .pair .view) (c .before .args .pair .below) (now (c .before .args .maps)) (c .before .pre .0) in omega (arith, t .view-in, c .before .good)
+mul-clear-marks c = omega (arith, told (c .before) .view-in, c .before .good)
 
 sub-clear-marks : tie.Need-sub-clear-marks
 sub-clear-marks c = search needs
@@ -37,35 +41,30 @@ part-clear-marks-start : tie.Need-part-clear-marks-start
 part-clear-marks-start c = search needs
 
 part-clear-marks-end : tie.Need-part-clear-marks-end
-part-clear-marks-end c =
-    let t = two-told (c .before .args .pair .space) (c .before .args .pair .view) (c .before .args .pair .below) (now (c .before .args .maps)) (c .before .pre .0) in omega (arith, t .view-in, c .before .good)
+part-clear-marks-end c = omega (arith, told (c .before) .view-in, c .before .good)
 
 clear-marks-requires : tie.Need-clear-marks-requires
 clear-marks-requires c κs =
-    let e = map-lent (c .before .before .args .pair .space) (c .before .before .args .pair .view) (now (c .before .before .args .maps)) in
-    (ap lawful e ∙ two-told (c .before .before .args .pair .space) (c .before .before .args .pair .view) (c .before .before .args .pair .below) (now (c .before .before .args .maps)) (c .before .before .pre .0) .view-law, c .before .before .pre .1 ∙ ap (λ (m : List ℕ). length (marked (runs m))) (sym e))
+    let s = c .before .before in
+    let e = map-lent (s .args .pair .space) (s .args .pair .view) (now (s .args .maps)) in
+    (ap lawful e ∙ told s .view-law, s .pre .1 ∙ ap (λ (m : List ℕ). length (marked (runs m))) (sym e))
 
 same-length : tie.Need-same-length
-same-length c =
-    cleared-length (c .before .before .before .before .before .before .args .pair .space) (c .before .before .before .before .before .before .args .pair .view) (c .before .before .before .before .before .before .args .pair .below) (now (c .before .before .before .before .before .before .args .maps)) (c .before .before .before .before .before .before .pre .0) (c .before .before .before .clear-marks .ensures)
+same-length c = cleared-length (part (c .before .before .before))
 
 returns : tie.Need-returns
-returns c =
-    cleared-end (c .before .before .before .before .before .before .args .pair .space) (c .before .before .before .before .before .before .args .pair .view) (c .before .before .before .before .before .before .args .pair .below) (now (c .before .before .before .before .before .before .args .maps)) (c .before .before .before .before .before .before .pre .0) (c .before .before .before .clear-marks .ensures) (c .if1 .taken)
+returns c = cleared-end (part (c .before .before .before)) (c .if1 .taken)
 
 weave-requires : tie.Need-weave-requires
-weave-requires c κs = (
-  (cleared-two (c .before .before .before .before .before .before .before .args .pair .space) (c .before .before .before .before .before .before .before .args .pair .view) (c .before .before .before .before .before .before .before .args .pair .below) (now (c .before .before .before .before .before .before .before .args .maps)) (c .before .before .before .before .before .before .before .pre .0) (c .before .before .before .before .clear-marks .ensures), cleared-own (c .before .before .before .before .before .before .before .args .pair .space) (c .before .before .before .before .before .before .before .args .pair .view) (c .before .before .before .before .before .before .before .args .pair .below) (now (c .before .before .before .before .before .before .before .args .maps)) (c .before .before .before .before .before .before .before .pre .0) (c .before .before .before .before .clear-marks .ensures)),
-  ((refl, omega arith), cleared-fits (c .before .before .before .before .before .before .before .args .pair .space) (c .before .before .before .before .before .before .before .args .pair .view) (c .before .before .before .before .before .before .before .args .pair .below) (now (c .before .before .before .before .before .before .before .args .maps)) (c .before .before .before .before .before .before .before .pre .0) (c .before .before .before .before .clear-marks .ensures)),
-)
+weave-requires c κs =
+    let k = part (c .before .before .before .before) in
+    ((cleared-two k, cleared-own k), ((refl, omega arith), cleared-fits k))
 
 same-length-2 : tie.Need-same-length-2
-same-length-2 c =
-    c .before .before .weave .kept .0 ∙ cleared-length (c .before .before .before .before .before .before .before .before .before .before .args .pair .space) (c .before .before .before .before .before .before .before .before .before .before .args .pair .view) (c .before .before .before .before .before .before .before .before .before .before .args .pair .below) (now (c .before .before .before .before .before .before .before .before .before .before .args .maps)) (c .before .before .before .before .before .before .before .before .before .before .pre .0) (c .before .before .before .before .before .before .before .clear-marks .ensures)
+same-length-2 c = c .before .before .weave .kept .0 ∙ cleared-length (part (c .before .before .before .before .before .before .before))
 
 returns-2 : tie.Need-returns-2
-returns-2 c =
-    cleared-woven (c .before .before .before .before .before .before .before .before .before .before .args .pair .space) (c .before .before .before .before .before .before .before .before .before .before .args .pair .view) (c .before .before .before .before .before .before .before .before .before .before .args .pair .below) (now (c .before .before .before .before .before .before .before .before .before .before .args .maps)) (c .before .before .before .before .before .before .before .before .before .before .pre .0) (c .before .before .before .before .before .before .before .clear-marks .ensures) (c .before .before .weave .ensures)
+returns-2 c = cleared-woven (part (c .before .before .before .before .before .before .before)) (c .before .before .weave .ensures)
 
 pub mark-published-spec : {M : Type 1} → statement M
 mark-published-spec =
