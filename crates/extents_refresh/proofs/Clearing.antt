@@ -9,13 +9,13 @@ use lib.ListN.{length, getD, drop, set, replicate, length-set}
 use lib.Seq.{set-append-left, drop-set-lt, map-set-same}
 use Rattle.rows.specs.Limits.{OFFSET-MAX}
 use Rattle.extents_meaning.specs.Cells.{numberIn, markIn, cleared, inRange, asPublished}
-use Rattle.extents_meaning.specs.Runs.{Run, runOf, cellAt, Rising, NumbersLegal, Lawful}
+use Rattle.extents_meaning.specs.Runs.{Run, runOf, cellAt, Next, Rising, NumbersLegal, Lawful}
 use Rattle.extents_meaning.specs.Maps.{fours, mapOf, mapFor, spaceIn, runs, bytesOf, lawful}
-use Rattle.extents_meaning.proofs.Longest.{runs-same, runs-back}
 use Rattle.extents_meaning.proofs.Trips.{length-fours, map-back, map-lawful, lawful-map}
 use Rattle.extents_map.specs.Beside.{endOf, runNo}
 use Rattle.extents_pair.specs.Marks.{marked}
 use Rattle.extents_pair.proofs.Spots.{here-at}
+use Rattle.extents_pair.proofs.Parts.{bytes-map, map-same}
 use Rattle.extents_pair.proofs.Gathering.{as-published-none}
 use Rattle.extents_pair.proofs.Bounds.{marked-first, Tally, tally-none, tally-next, tally-all}
 use Rattle.extents_refresh.specs.Clearing.{Apart, Cleared}
@@ -53,29 +53,21 @@ clear-numbered [] i n = tt
 clear-numbered (r ∷ rs) zero n = (omega (arith, n .0), omega (arith, n .1), n .2)
 clear-numbered (r ∷ rs) (suc i) n = (n .0, n .1, clear-numbered rs i (n .2))
 
--- the runs behind one whose cell is changed rise still, where the first is apart
-rising-cell : (end c d : ℕ) (rs : List Run) → Rising OFFSET-MAX end c rs →
-    (0 < length rs → runNo rs 0 .start ≡ end → runNo rs 0 .cell ≡ d → ⊥) → Rising OFFSET-MAX end d rs
-rising-cell end c d [] g h = tt
-rising-cell end c d (r ∷ rs) g h =
-    let n = g .0 in
-    (record { rising = n .rising; filled = n .filled; inside = n .inside; written = n .written; longest = h (omega arith) }, g .1)
+-- A run keeps `Next` with another cell behind a run with another cell, where it does not follow that run at once with its cell.
+next-as : (d e : ℕ) {end c : ℕ} {r : Run} → Next OFFSET-MAX end c r → 1 ≤ d → (r .start ≡ end → d ≡ e → ⊥) →
+    Next OFFSET-MAX end e (runOf (r .start) (r .length) d)
+next-as d e n w a = record { rising = n .rising; filled = n .filled; inside = n .inside; written = w; longest = a }
 
 -- the list rises still, where the run is apart from both neighbours
 clear-rising : (q : Run) (rs : List Run) (i : ℕ) → i < length rs → Rising OFFSET-MAX (endOf q) (q .cell) rs → NumbersLegal rs → Apart q rs i →
     (suc i < length rs → Apart q rs (suc i)) → Rising OFFSET-MAX (endOf q) (q .cell) (clearAt rs i)
 clear-rising q [] i h g n before behind = absurd (omega arith)
-clear-rising q (r ∷ rs) zero h g n before behind =
-    let o = g .0 in (
-      record {
-        rising = o .rising;
-        filled = o .filled;
-        inside = o .inside;
-        written = omega (arith, n .0);
-        longest = λ e d. before (sym e) (omega (arith, d));
-      },
-      rising-cell (endOf r) (r .cell) (cleared (r .cell)) rs (g .1) (λ k e d. behind (omega arith) (sym e) (omega (arith, d))),
-    )
+clear-rising q (r ∷ []) zero h g n before behind =
+    (next-as (cleared (r .cell)) (q .cell) (g .0) (omega (arith, n .0)) (λ e d. before (sym e) (omega (arith, d))), tt)
+clear-rising q (r ∷ (p ∷ ps)) zero h g n before behind = (
+  next-as (cleared (r .cell)) (q .cell) (g .0) (omega (arith, n .0)) (λ e d. before (sym e) (omega (arith, d))),
+  (next-as (p .cell) (cleared (r .cell)) (g .1 .0) (g .1 .0 .written) (λ e d. behind (omega arith) (sym e) (omega (arith, d))), g .1 .1),
+)
 clear-rising q (r ∷ rs) (suc i) h g n before behind =
     (g .0, clear-rising r rs i (omega arith) (g .1) (n .2) before (λ k. behind (omega arith)))
 
@@ -111,24 +103,18 @@ module _ (xs : List ℕ) (law : lawful xs ≡ true) (i : ℕ) (h : i < length (r
       ∙ (λ j. sym (clear-fours rs i) j ++ replicate (4 * (spaceIn xs - sym (length-set rs i (clearRun (runNo rs i))) j)) 0)
 
   module _ (before : Apart (runOf 0 0 0) (runs xs) i) (behind : suc i < length (runs xs) → Apart (runOf 0 0 0) (runs xs) (suc i)) where
-    list-lawful : Lawful (clearAt (runs xs) i)
-    list-lawful =
-        let l = lawful-map xs law .lawful-runs in
+    -- It is lawful, and its runs are those with that mark cleared.
+    unmarked : (lawful (set xs (i * 4 + 3) 0) ≡ true) × (runs (set xs (i * 4 + 3) 0) ≡ clearAt (runs xs) i)
+    unmarked =
+        let m = lawful-map xs law in
+        let l = m .lawful-runs in
+        let list : Lawful (clearAt (runs xs) i) =
         record {
           in-order = clear-rising (runOf 0 0 0) (runs xs) i h (l .in-order) (l .numbered) before behind;
           numbered = clear-numbered (runs xs) i (l .numbered);
-        }
-
-    list-fit : length (clearAt (runs xs) i) ≤ spaceIn xs
-    list-fit = omega (arith, length-set (runs xs) i (clearRun (runNo (runs xs) i)), lawful-map xs law .fit)
-
-    -- its runs
-    unmarked-runs : runs (set xs (i * 4 + 3) 0) ≡ clearAt (runs xs) i
-    unmarked-runs = ap runs unmarked-map ∙ map-back (spaceIn xs) (clearAt (runs xs) i) list-lawful list-fit
-
-    -- It is lawful.
-    unmarked-lawful : lawful (set xs (i * 4 + 3) 0) ≡ true
-    unmarked-lawful = ap lawful unmarked-map ∙ map-lawful (spaceIn xs) (clearAt (runs xs) i) list-lawful list-fit
+        } in
+        let fit : length (clearAt (runs xs) i) ≤ spaceIn xs = omega (arith, length-set (runs xs) i (clearRun (runNo (runs xs) i)), m .fit) in
+        (ap lawful unmarked-map ∙ map-lawful (spaceIn xs) _ list fit, ap runs unmarked-map ∙ map-back (spaceIn xs) _ list fit)
 
 -- The first run of a lawful list follows none.
 pub first-apart : (rs : List Run) → Lawful rs → {i : ℕ} → i ≡ 0 → i < length rs → Apart (runOf 0 0 0) rs i
@@ -178,7 +164,8 @@ module _ {xs₀ : List ℕ} {all : ℕ} {xs : List ℕ} {left i : ℕ} (k : Clea
       let rs = runs xs in
       let s : i + 1 ≡ suc i = omega arith in
       let after : suc i < length rs → Apart (runOf 0 0 0) rs (suc i) = λ l. rw s at behind (omega (arith, k .count, l)) in
-      let u = unmarked-runs xs law i here (before (clear-room .0)) after in
+      let new = unmarked xs law i here (before (clear-room .0)) after in
+      let u = new .1 in
       let r = clearRun (runNo rs i) in
       let same : clearRun r ≡ r = let e : cleared (r .cell) ≡ r .cell = omega arith in λ j. runOf (r .start) (r .length) (e j) in
       let fewer = clear-marked rs i here in
@@ -188,7 +175,7 @@ module _ {xs₀ : List ℕ} {all : ℕ} {xs : List ℕ} {left i : ℕ} (k : Clea
       rw (y, z) record {
         done =
             record {
-              law = unmarked-lawful xs law i here (before (clear-room .0)) after;
+              law = new .0;
               same = length-set xs (i * 4 + 3) 0 ∙ k .done .same;
               mean =
                   λ b. sym (cleared-mean (runs (set xs (i * 4 + 3) 0)) b)
@@ -209,8 +196,8 @@ module _ {xs₀ : List ℕ} {all : ℕ} {xs : List ℕ} {left i : ℕ} (k : Clea
 -- A map without an unpublished run left is marked published.
 pub cleared-all : {xs ys : List ℕ} {left : ℕ} → Cleared xs left ys → left ≡ 0 → ys ≡ mapFor (spaceIn xs) (asPublished (bytesOf xs))
 cleared-all {xs} {ys} k z =
-    let m = lawful-map ys (k .law) in
-    let l = m .lawful-runs in
+    let l = lawful-map ys (k .law) .lawful-runs in
     let s : spaceIn ys ≡ spaceIn xs = omega (arith, k .same) in
-    let e = runs-same (asPublished (bytesOf ys)) (bytesOf ys) (λ b _. as-published-none (runs ys) l (sym (k .all) ∙ z) b) ∙ runs-back (runs ys) l in
-    m .whole ∙ ap (mapOf (spaceIn ys)) (sym e) ∙ (λ j. mapOf (s j) (runs-same (asPublished (bytesOf ys)) (asPublished (bytesOf xs)) (λ b _. k .mean b) j))
+    sym (bytes-map ys (k .law))
+    ∙ ap (λ (n : ℕ). mapFor n (bytesOf ys)) s
+    ∙ map-same (spaceIn xs) (bytesOf ys) (asPublished (bytesOf xs)) (λ b. sym (as-published-none (runs ys) l (sym (k .all) ∙ z) b) ∙ k .mean b)
