@@ -1,12 +1,11 @@
 -- Clearing the marks of a map one by one, where no neighbour joins: what the loop keeps.
 use Prim.Native.Nat.{ℕ, zero, suc, _+_, _*_, _-_, _≤_, _<_}
 use native.Mathlib.Omega.{arith}
-use native.Mathlib.Decide.{decLt}
 use mathlib.Core.Path.{_≡_, refl, sym, ap, _∙_}
 use mathlib.Core.Bool.{Bool, true, false, cond}
-use mathlib.Core.List.{List, [], _∷_, _++_, map}
-use lib.ListN.{length, getD, drop, set, replicate, length-set}
-use lib.Seq.{set-append-left, drop-set-lt, map-set-same}
+use mathlib.Core.List.{List, [], _∷_, _++_}
+use lib.ListN.{length, getD, drop, set, replicate, length-set, length-drop}
+use lib.Seq.{set-append-left, drop-set-lt}
 use Rattle.rows.specs.Limits.{OFFSET-MAX}
 use Rattle.extents_meaning.specs.Cells.{numberIn, markIn, cleared, inRange, asPublished}
 use Rattle.extents_meaning.specs.Runs.{Run, runOf, cellAt, Next, Rising, NumbersLegal, Lawful}
@@ -16,8 +15,8 @@ use Rattle.extents_map.specs.Beside.{endOf, runNo}
 use Rattle.extents_pair.specs.Marks.{marked}
 use Rattle.extents_pair.proofs.Spots.{here-at}
 use Rattle.extents_pair.proofs.Parts.{bytes-map, map-same}
-use Rattle.extents_pair.proofs.Gathering.{as-published-none}
-use Rattle.extents_pair.proofs.Bounds.{marked-first, Tally, tally-none, tally-next, tally-all}
+use Rattle.extents_pair.proofs.Gathering.{marked-fewer, as-published-none}
+use Rattle.extents_pair.proofs.Bounds.{marked-first, Tally, tally-none, tally-next}
 use Rattle.extents_refresh.specs.Clearing.{Apart, Cleared}
 
 -- ---- One run of a list
@@ -30,22 +29,23 @@ clearRun r = runOf (r .start) (r .length) (cleared (r .cell))
 abbrev clearAt : List Run → ℕ → List Run
 clearAt rs i = set rs i (clearRun (runNo rs i))
 
+-- of two cells each is marked published to the same as another
+either : (x : Bool) (c d e f : ℕ) → cleared c ≡ cleared d → cleared e ≡ cleared f → cleared (cond x c e) ≡ cleared (cond x d f)
+either true c d e f p q = p
+either false c d e f p q = q
+
 -- one unpublished run less
 clear-marked : (rs : List Run) (i : ℕ) → i < length rs → length (marked (clearAt rs i)) + markIn (runNo rs i .cell) ≡ length (marked rs)
 clear-marked [] i h = absurd (omega arith)
 clear-marked (r ∷ rs) zero h = omega (arith, marked-first (clearRun r) rs, marked-first r rs)
 clear-marked (r ∷ rs) (suc i) h = omega (arith, marked-first r (clearAt rs i), marked-first r rs, clear-marked rs i (omega arith))
 
--- Runs that are all marked published mean the bytes marked published.
-cleared-mean : (rs : List Run) (b : ℕ) → cellAt (map clearRun rs) b ≡ cleared (cellAt rs b)
+-- every byte is marked published to the same
+clear-mean : (rs : List Run) (i b : ℕ) → cleared (cellAt (clearAt rs i) b) ≡ cleared (cellAt rs b)
 unfolding cellAt
-cleared-mean [] b = refl
-cleared-mean (r ∷ rs) b = go (inRange (r .start) (r .length) b) (cleared-mean rs b)
-  where
-    go : (x : Bool) → cellAt (map clearRun rs) b ≡ cleared (cellAt rs b) →
-        cond x (cleared (r .cell)) (cellAt (map clearRun rs) b) ≡ cleared (cond x (r .cell) (cellAt rs b))
-    go true e = refl
-    go false e = e
+clear-mean [] i b = refl
+clear-mean (r ∷ rs) zero b = either (inRange (r .start) (r .length) b) (cleared (r .cell)) (r .cell) _ _ (omega arith) refl
+clear-mean (r ∷ rs) (suc i) b = either (inRange (r .start) (r .length) b) (r .cell) _ _ _ refl (clear-mean rs i b)
 
 -- row numbers stay
 clear-numbered : (rs : List Run) (i : ℕ) → NumbersLegal rs → NumbersLegal (clearAt rs i)
@@ -136,30 +136,26 @@ clear-start xs₀ law e n =
     record { done = record { law = law; same = refl; mean = λ b. refl; all = e }; count = n; passed = tally-none xs₀ }
 
 module _ {xs₀ : List ℕ} {all : ℕ} {xs : List ℕ} {left i : ℕ} (k : Clearing xs₀ all xs left i) (h : 0 < left) where
-  -- while one is left there is a run at i, and its four numbers
+  -- while one is left there is a run at i
+  here : i < length (runs xs)
+  here = omega (arith, k .done .all, k .passed .found, marked-fewer (drop i (runs xs)), length-drop i (runs xs))
+
+  -- its four numbers stand in the slice
   pub clear-room : (i < all) × (i * 4 + 4 ≤ length xs) × (length xs ≡ length xs₀)
   clear-room =
       let m = lawful-map xs (k .done .law) in
-      let l = inside (decLt i all) in
-      (l, omega (arith, l, k .count, m .fit, m .fours-in), k .done .same)
-    where
-      inside : Dec (i < all) → i < all
-      inside (yes l) = l
-      inside (no l) = absurd (omega (arith, h, k .done .all, tally-all xs (k .passed) (omega (arith, l, k .count))))
-
-  here : i < length (runs xs)
-  here = omega (arith, clear-room .0, k .count)
+      (omega (arith, k .count, here), omega (arith, here, m .fit, m .fours-in), k .done .same)
 
   -- a published run is passed
-  pub clear-skip : (getD xs (i * 4 + 3) 0 ≡ 1 → ⊥) → {ys : List ℕ} {n : ℕ} → ys ≡ xs → n ≡ left → Clearing xs₀ all ys n (i + 1)
-  clear-skip p {ys} {n} y z =
+  pub clear-skip : (getD xs (i * 4 + 3) 0 ≡ 1 → ⊥) → Clearing xs₀ all xs left (i + 1)
+  clear-skip p =
       let m : 0 + getD xs (i * 4 + 3) 0 ≡ 0 = omega (arith, p, mark-at xs (k .done .law) i here) in
-      rw (y, z) record { done = k .done; count = k .count; passed = rw m at (tally-next xs (k .done .law) (k .passed) here) }
+      record { done = k .done; count = k .count; passed = rw m at (tally-next xs (k .done .law) (k .passed) here) }
 
   -- an unpublished one that is apart from both neighbours is cleared
   pub clear-one : getD xs (i * 4 + 3) 0 ≡ 1 → (i < all → Apart (runOf 0 0 0) (runs xs) i) → (i + 1 < all → Apart (runOf 0 0 0) (runs xs) (i + 1)) →
-      {ys : List ℕ} {n : ℕ} → ys ≡ set xs (i * 4 + 3) 0 → n ≡ left - 1 → Clearing xs₀ all ys n (i + 1)
-  clear-one p before behind {ys} {n} y z =
+      Clearing xs₀ all (set xs (i * 4 + 3) 0) (left - 1) (i + 1)
+  clear-one p before behind =
       let law = k .done .law in
       let rs = runs xs in
       let s : i + 1 ≡ suc i = omega arith in
@@ -167,22 +163,16 @@ module _ {xs₀ : List ℕ} {all : ℕ} {xs : List ℕ} {left i : ℕ} (k : Clea
       let new = unmarked xs law i here (before (clear-room .0)) after in
       let u = new .1 in
       let r = clearRun (runNo rs i) in
-      let same : clearRun r ≡ r = let e : cleared (r .cell) ≡ r .cell = omega arith in λ j. runOf (r .start) (r .length) (e j) in
       let fewer = clear-marked rs i here in
       let rest = ap (λ (l : List Run). length (marked l)) (ap (drop (i + 1)) u ∙ drop-set-lt (i + 1) rs i r (omega arith)) in
       let marks = ap (λ (l : List Run). length (marked l)) u in
       let size : length (runs (set xs (i * 4 + 3) 0)) ≡ length rs = ap (λ (l : List Run). length l) u ∙ length-set rs i r in
-      rw (y, z) record {
+      record {
         done =
             record {
               law = new .0;
               same = length-set xs (i * 4 + 3) 0 ∙ k .done .same;
-              mean =
-                  λ b. sym (cleared-mean (runs (set xs (i * 4 + 3) 0)) b)
-                  ∙ ap (λ (l : List Run). cellAt (map clearRun l) b) u
-                  ∙ ap (λ (l : List Run). cellAt l b) (map-set-same clearRun rs i r (runOf 0 0 0) same)
-                  ∙ cleared-mean rs b
-                  ∙ k .done .mean b;
+              mean = λ b. ap (λ (l : List Run). asPublished (cellAt l) b) u ∙ clear-mean rs i b ∙ k .done .mean b;
               all = omega (arith, k .done .all, fewer, marks, mark-at xs law i here, p);
             };
         count = k .count ∙ sym size;

@@ -60,17 +60,14 @@ module _ {space j k : ℕ} {xs : List ℕ} {end : ℕ} {ys : List ℕ} {i : ℕ}
   abbrev o : List ℕ
   o = mapAt space k xs
 
-  m-length : length m ≡ 4 * space
-  m-length = map-length space j xs (c .ready .0 .0)
-
-  o-length : length o ≡ 4 * space
-  o-length = map-length space k xs (c .ready .0 .1)
+  lengths : (length m ≡ 4 * space) × (length o ≡ 4 * space)
+  lengths = (map-length space j xs (c .ready .0 .0), map-length space k xs (c .ready .0 .1))
 
   take-length : length (take i m) ≡ i
-  take-length = length-take-le i m (omega (arith, m-length, c .low, c .fit))
+  take-length = length-take-le i m (omega (arith, lengths .0, c .low, c .fit))
 
   part-length : length (take i m ++ drop i o) ≡ 4 * space
-  part-length = length-append (take i m) (drop i o) ∙ omega (arith, take-length, length-drop i o, o-length, c .low, c .fit)
+  part-length = length-append (take i m) (drop i o) ∙ omega (arith, take-length, length-drop i o, lengths .1, c .low, c .fit)
 
   -- the slice has its length
   pub copy-length : length ys ≡ length xs
@@ -110,6 +107,6 @@ module _ {space j k : ℕ} {xs : List ℕ} {end : ℕ} {ys : List ℕ} {i : ℕ}
           agree = c .agree;
           so-far =
               (λ t. set (c .so-far t) (at + i) (copy-read t))
-              ∙ rw (s, drop-cons o i 0 (omega (arith, o-length, c .fit)), take-suc m i 0 (omega (arith, m-length, c .fit)))
+              ∙ rw (s, drop-cons o i 0 (omega (arith, lengths .1, c .fit)), take-suc m i 0 (omega (arith, lengths .0, c .fit)))
               (simp append-assoc (simp append-assoc at next));
         }

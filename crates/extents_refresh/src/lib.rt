@@ -79,14 +79,15 @@ fn clear_marks(map: &mut [u32], own: usize) -> usize
     let mut i = 0;
     while 0 < left {
         let at = i * 4 + 3;
+        let next = i + 1;
         if map[at] == 1 {
-            if meets(map, all, i) || meets(map, all, i + 1) {
+            if meets(map, all, i) || meets(map, all, next) {
                 return left;
             }
             map[at] = 0;
             left -= 1;
         }
-        i += 1;
+        i = next;
     }
     left
 }

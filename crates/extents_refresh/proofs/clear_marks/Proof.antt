@@ -1,7 +1,6 @@
 -- `extents_refresh::clear_marks` meets its contract.
 use Prim.Native.Nat.{_-_}
 use native.Mathlib.Omega.{arith}
-use mathlib.Core.Logic.{⊎-elim}
 use denote.Ref.{now}
 use Rattle.extents_refresh.proofs.Clearing.{Clearing, clear-start, clear-room, clear-skip, clear-one}
 use Rattle.extents_refresh.proofs.clear_marks.Statement.{statement}
@@ -26,6 +25,9 @@ mul-at c = omega (arith, clear-room (c .before .loop .inv) (c .loop-test .taken)
 add-at : tie.Need-add-at Inv-loop μ-loop
 add-at c = omega (arith, clear-room (c .before .loop .inv) (c .loop-test .taken), c .before .before .before .before .before .good)
 
+add-next : tie.Need-add-next Inv-loop μ-loop
+add-next c = omega (arith, clear-room (c .before .loop .inv) (c .loop-test .taken), c .before .before .before .before .before .good)
+
 mul-if1 : tie.Need-mul-if1 Inv-loop μ-loop
 mul-if1 c = omega (arith, clear-room (c .before .loop .inv) (c .loop-test .taken), c .before .before .before .before .before .good)
 
@@ -34,9 +36,6 @@ slice-read-if1 c = omega (arith, clear-room (c .before .before .loop .inv) (c .b
 
 meets-requires : tie.Need-meets-requires Inv-loop μ-loop
 meets-requires c κs = (c .before .before .before .before .loop .inv .done .law, c .before .before .before .before .loop .inv .count)
-
-add-meets : tie.Need-add-meets Inv-loop μ-loop
-add-meets c = omega (arith, clear-room (c .before .before .before .before .before .before .before .loop .inv) (c .before .before .before .before .before .before .loop-test .taken), c .before .before .before .before .before .before .before .before .before .before .before .good)
 
 meets-requires-2 : tie.Need-meets-requires-2 Inv-loop μ-loop
 meets-requires-2 c κs = (c .before .before .before .before .before .before .before .loop .inv .done .law, c .before .before .before .before .before .before .before .loop .inv .count)
@@ -56,18 +55,17 @@ slice-write-map c = omega (arith, clear-room (c .before .before .before .before 
 sub-left : tie.Need-sub-left Inv-loop μ-loop
 sub-left c = c .before .before .before .before .before .before .before .before .loop-test .taken
 
-add-i : tie.Need-add-i Inv-loop μ-loop
-add-i c = omega (arith, clear-room (c .before .before .before .loop .inv) (c .before .before .loop-test .taken), c .before .before .before .before .before .before .before .good)
-
 loop-less : tie.Need-loop-less Inv-loop μ-loop
-loop-less c = omega (arith, clear-room (c .before .before .before .loop .inv) (c .before .before .loop-test .taken) .0)
+loop-less c = omega (arith, clear-room (c .before .before .before .before .before .before .before .before .before .loop .inv) (c .before .before .before .before .before .before .before .before .loop-test .taken) .0)
 
 loop-again : tie.Need-loop-again Inv-loop μ-loop
-loop-again c =
-    let k = c .before .before .before .loop .inv in
-    let h = c .before .before .loop-test .taken in
-    ⊎-elim (λ w. clear-one k h (w .0 .taken) (w .2 .ensures (w .3 .left)) (w .5 .ensures (w .6 .left)) (w .7) (w .8))
-    (λ w. clear-skip k h (w .0 .left) (w .1) (w .2)) (c .if1 .came)
+loop-again c = clear-one (c .before .before .before .before .before .before .before .before .before .loop .inv) (c .before .before .before .before .before .before .before .before .loop-test .taken) (c .before .before .before .before .before .before .if1 .taken) (c .before .before .before .before .meets .ensures (c .before .before .before .if2 .left)) (c .before .meets2 .ensures (c .if3 .left))
+
+loop-less-2 : tie.Need-loop-less-2 Inv-loop μ-loop
+loop-less-2 c = omega (arith, clear-room (c .before .before .before .loop .inv) (c .before .before .loop-test .taken) .0)
+
+loop-again-2 : tie.Need-loop-again-2 Inv-loop μ-loop
+loop-again-2 c = clear-skip (c .before .before .before .loop .inv) (c .before .before .loop-test .taken) (c .if1 .left)
 
 same-length-2 : tie.Need-same-length-2 Inv-loop μ-loop
 same-length-2 c = c .before .loop .inv .done .same
@@ -85,18 +83,19 @@ clear-marks-spec =
     loop-holds
     mul-at
     add-at
+    add-next
     mul-if1
     slice-read-if1
     meets-requires
-    add-meets
     meets-requires-2
     same-length
     returns
     mul-map
     slice-write-map
     sub-left
-    add-i
     loop-less
     loop-again
+    loop-less-2
+    loop-again-2
     same-length-2
     returns-2)
