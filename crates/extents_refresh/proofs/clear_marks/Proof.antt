@@ -1,6 +1,8 @@
 -- `extents_refresh::clear_marks` meets its contract.
-use Prim.Native.Nat.{_-_}
+use Prim.Native.Nat.{_+_, _*_, _-_, _≤_, _<_}
 use native.Mathlib.Omega.{arith}
+use mathlib.Core.Path.{_≡_}
+use lib.ListN.{length}
 use denote.Ref.{now}
 use Rattle.extents_refresh.proofs.Clearing.{Clearing, clear-start, clear-room, clear-skip, clear-one}
 use Rattle.extents_refresh.proofs.clear_marks.Statement.{statement}
@@ -13,6 +15,11 @@ Inv-loop map₀ own all left₀ i₀ map left i = Clearing map₀ all map left i
 abbrev μ-loop : tie.MeasureT-loop
 μ-loop map₀ own all left₀ i₀ map left i = all - i
 
+-- a run stands at i, and its four numbers in the slice
+room : (c : tie.In-loop Inv-loop μ-loop) → let l = c .before in let s = l .before .before .before .before in
+    (l .loop .i < l .before .runs-in .result) × (l .loop .i * 4 + 4 ≤ length (l .loop .map)) × (length (l .loop .map) ≡ length (now (s .args .map)))
+room c = clear-room (c .before .loop .inv) (c .loop-test .taken)
+
 runs-in-requires : tie.Need-runs-in-requires Inv-loop μ-loop
 runs-in-requires c κs = c .before .before .pre .0
 
@@ -20,19 +27,19 @@ loop-holds : tie.Need-loop-holds Inv-loop μ-loop
 loop-holds c = clear-start (now (c .before .before .before .args .map)) (c .before .before .before .pre .0) (c .before .before .before .pre .1) (c .runs-in .ensures)
 
 mul-at : tie.Need-mul-at Inv-loop μ-loop
-mul-at c = omega (arith, clear-room (c .before .loop .inv) (c .loop-test .taken), c .before .before .before .before .before .good)
+mul-at c = omega (arith, room c)
 
 add-at : tie.Need-add-at Inv-loop μ-loop
-add-at c = omega (arith, clear-room (c .before .loop .inv) (c .loop-test .taken), c .before .before .before .before .before .good)
+add-at c = omega (arith, room c)
 
 add-next : tie.Need-add-next Inv-loop μ-loop
-add-next c = omega (arith, clear-room (c .before .loop .inv) (c .loop-test .taken), c .before .before .before .before .before .good)
+add-next c = omega (arith, room c)
 
 mul-if1 : tie.Need-mul-if1 Inv-loop μ-loop
-mul-if1 c = omega (arith, clear-room (c .before .loop .inv) (c .loop-test .taken), c .before .before .before .before .before .good)
+mul-if1 c = omega (arith, room c)
 
 slice-read-if1 : tie.Need-slice-read-if1 Inv-loop μ-loop
-slice-read-if1 c = omega (arith, clear-room (c .before .before .loop .inv) (c .before .loop-test .taken) .1)
+slice-read-if1 c = omega (arith, room (c .before) .1)
 
 meets-requires : tie.Need-meets-requires Inv-loop μ-loop
 meets-requires c κs = (c .before .before .before .before .loop .inv .done .law, c .before .before .before .before .loop .inv .count)
@@ -47,22 +54,26 @@ returns : tie.Need-returns Inv-loop μ-loop
 returns c = c .before .before .before .before .before .before .loop .inv .done
 
 mul-map : tie.Need-mul-map Inv-loop μ-loop
-mul-map c = omega (arith, clear-room (c .before .before .before .before .before .before .before .before .before .loop .inv) (c .before .before .before .before .before .before .before .before .loop-test .taken), c .before .before .before .before .before .before .before .before .before .before .before .before .before .good)
+mul-map c = omega (arith, room (c .before .before .before .before .before .before .before .before))
 
 slice-write-map : tie.Need-slice-write-map Inv-loop μ-loop
-slice-write-map c = omega (arith, clear-room (c .before .before .before .before .before .before .before .before .before .loop .inv) (c .before .before .before .before .before .before .before .before .loop-test .taken) .1)
+slice-write-map c = omega (arith, room (c .before .before .before .before .before .before .before .before) .1)
 
 sub-left : tie.Need-sub-left Inv-loop μ-loop
 sub-left c = c .before .before .before .before .before .before .before .before .loop-test .taken
 
 loop-less : tie.Need-loop-less Inv-loop μ-loop
-loop-less c = omega (arith, clear-room (c .before .before .before .before .before .before .before .before .before .loop .inv) (c .before .before .before .before .before .before .before .before .loop-test .taken) .0)
+loop-less c = omega (arith, room (c .before .before .before .before .before .before .before .before) .0)
 
 loop-again : tie.Need-loop-again Inv-loop μ-loop
-loop-again c = clear-one (c .before .before .before .before .before .before .before .before .before .loop .inv) (c .before .before .before .before .before .before .before .before .loop-test .taken) (c .before .before .before .before .before .before .if1 .taken) (c .before .before .before .before .meets .ensures (c .before .before .before .if2 .left)) (c .before .meets2 .ensures (c .if3 .left))
+loop-again c =
+    let m = c .before .before .before .before in
+    let t = m .before .before .before .before in
+    clear-one (t .before .loop .inv) (t .loop-test .taken) (m .before .before .if1 .taken) (m .meets .ensures (c .before .before .before .if2 .left))
+    (c .before .meets2 .ensures (c .if3 .left))
 
 loop-less-2 : tie.Need-loop-less-2 Inv-loop μ-loop
-loop-less-2 c = omega (arith, clear-room (c .before .before .before .loop .inv) (c .before .before .loop-test .taken) .0)
+loop-less-2 c = omega (arith, room (c .before .before) .0)
 
 loop-again-2 : tie.Need-loop-again-2 Inv-loop μ-loop
 loop-again-2 c = clear-skip (c .before .before .before .loop .inv) (c .before .before .loop-test .taken) (c .if1 .left)

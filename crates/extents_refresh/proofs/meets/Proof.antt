@@ -30,17 +30,25 @@ start-at-requires : tie.Need-start-at-requires
 start-at-requires c κs = (c .before .before .before .before .pre .0, omega (arith, c .before .before .before .before .pre .1, c .before .if2 .left))
 
 returns-3 : tie.Need-returns-3
-returns-3 c _ h = rw (before-last (runs (now (c .before .before .before .before .before .before .args .map))) (c .before .before .before .before .before .before .args .i) (omega (arith, c .before .before .before .before .if1 .left))) (λ e _. c .if3 .taken (c .before .before .end-at .ensures ∙ e ∙ sym (c .before .start-at .ensures)))
+returns-3 c _ h =
+    let t = c .before .before .before .before in
+    let s = t .before .before in
+    rw (before-last (runs (now (s .args .map))) (s .args .i) (omega (arith, t .if1 .left)))
+    (λ e _. c .if3 .taken (c .before .before .end-at .ensures ∙ e ∙ sym (c .before .start-at .ensures)))
 
 cell-at-requires : tie.Need-cell-at-requires
 cell-at-requires c κs = search needs
 
 cell-at-requires-2 : tie.Need-cell-at-requires-2
-cell-at-requires-2 c κs = (c .before .before .before .before .before .before .before .pre .0, omega (arith, c .before .before .before .before .before .before .before .pre .1, c .before .before .before .before .if2 .left))
+cell-at-requires-2 c κs =
+    let s = c .before .before .before .before .before .before .before in
+    (s .pre .0, omega (arith, s .pre .1, c .before .before .before .before .if2 .left))
 
 returns-4 : tie.Need-returns-4
 returns-4 c z h =
-    rw (before-last (runs (now (c .before .before .before .before .before .before .before .before .args .map))) (c .before .before .before .before .before .before .before .before .args .i) (omega (arith, c .before .before .before .before .before .before .if1 .left)))
+    let t = c .before .before .before .before .before .before in
+    let s = t .before .before in
+    rw (before-last (runs (now (s .args .map))) (s .args .i) (omega (arith, t .if1 .left)))
     (λ _ e. eqb-false _ _ z (ap numberIn (c .before .cell-at .ensures) ∙ e ∙ sym (ap numberIn (c .cell-at2 .ensures))))
 
 pub meets-spec : {M : Type 1} → statement M

@@ -9,14 +9,20 @@ use Rattle.extents_refresh.proofs.refresh.Statement.{statement}
 use Rattle.extents_refresh.proofs.refresh.Tie as tie
 
 copy-requires : tie.Need-copy-requires
-copy-requires c κs = copy-ready (c .before .before .before .args .pair .space) (c .before .before .before .args .pair .view) (c .before .before .before .args .pair .below) (now (c .before .before .before .args .maps)) (c .before .before .before .pre .0 .0)
+copy-requires c κs =
+    let s = c .before .before .before in
+    let p = s .args .pair in
+    copy-ready (p .space) (p .view) (p .below) (now (s .args .maps)) (s .pre .0 .0)
 
 same-length : tie.Need-same-length
 same-length c = search needs
 
 returns : tie.Need-returns
 returns c =
-    view-copied (c .before .before .before .before .before .before .args .pair .space) (c .before .before .before .before .before .before .args .pair .view) (c .before .before .before .before .before .before .args .pair .below) (now (c .before .before .before .before .before .before .args .maps)) (c .before .before .before .before .before .before .pre .0 .0) (c .before .before .before .before .before .before .pre .0 .1) (c .before .before .before .before .if1 .taken) (c .before .before .copy .ensures)
+    let t = c .before .before .before .before in
+    let s = t .before .before in
+    let p = s .args .pair in
+    view-copied (p .space) (p .view) (p .below) (now (s .args .maps)) (s .pre .0 .0) (s .pre .0 .1) (t .if1 .taken) (c .before .before .copy .ensures)
 
 weave-requires : tie.Need-weave-requires
 unfolding mixed
