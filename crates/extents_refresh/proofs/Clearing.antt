@@ -71,6 +71,15 @@ clear-rising q (r ∷ (p ∷ ps)) zero h g n before behind = (
 clear-rising q (r ∷ rs) (suc i) h g n before behind =
     (g .0, clear-rising r rs i (omega arith) (g .1) (n .2) before (λ k. behind (omega arith)))
 
+-- Clearing the mark of a run that is apart from both neighbours keeps the list lawful.
+clear-lawful : (rs : List Run) (i : ℕ) → i < length rs → Lawful rs → Apart (runOf 0 0 0) rs i → (suc i < length rs → Apart (runOf 0 0 0) rs (suc i)) →
+    Lawful (clearAt rs i)
+clear-lawful rs i h l before behind =
+    record {
+      in-order = clear-rising (runOf 0 0 0) rs i h (l .in-order) (l .numbered) before behind;
+      numbered = clear-numbered rs i (l .numbered);
+    }
+
 -- ---- Its mark in a slice
 
 -- the numbers of the list
@@ -107,12 +116,7 @@ module _ (xs : List ℕ) (law : lawful xs ≡ true) (i : ℕ) (h : i < length (r
     unmarked : (lawful (set xs (i * 4 + 3) 0) ≡ true) × (runs (set xs (i * 4 + 3) 0) ≡ clearAt (runs xs) i)
     unmarked =
         let m = lawful-map xs law in
-        let l = m .lawful-runs in
-        let list : Lawful (clearAt (runs xs) i) =
-        record {
-          in-order = clear-rising (runOf 0 0 0) (runs xs) i h (l .in-order) (l .numbered) before behind;
-          numbered = clear-numbered (runs xs) i (l .numbered);
-        } in
+        let list = clear-lawful (runs xs) i h (m .lawful-runs) before behind in
         let fit : length (clearAt (runs xs) i) ≤ spaceIn xs = omega (arith, length-set (runs xs) i (clearRun (runNo (runs xs) i)), m .fit) in
         (ap lawful unmarked-map ∙ map-lawful (spaceIn xs) _ list fit, ap runs unmarked-map ∙ map-back (spaceIn xs) _ list fit)
 
@@ -123,44 +127,40 @@ first-apart (r ∷ rs) l z h = rw z (λ p q. absurd (omega (arith, l .numbered .
 
 -- ---- The loop
 
--- Marks are cleared in place, all of the first i runs are published, and there are as many runs as at the start.
-pub record Clearing (xs₀ : List ℕ) (all : ℕ) (xs : List ℕ) (left i : ℕ) : Type 0 where
+-- Some marks are cleared in place, and all of the first i runs are published.
+pub record Clearing (xs₀ xs : List ℕ) (left i : ℕ) : Type 0 where
   pub done : Cleared xs₀ left xs
-  pub count : all ≡ length (runs xs)
   pub passed : Tally xs 0 i
 
 -- At first no mark is cleared.
-pub clear-start : (xs₀ : List ℕ) {own all : ℕ} → lawful xs₀ ≡ true → own ≡ length (marked (runs xs₀)) → all ≡ length (runs xs₀) →
-    Clearing xs₀ all xs₀ own 0
-clear-start xs₀ law e n =
-    record { done = record { law = law; same = refl; mean = λ b. refl; all = e }; count = n; passed = tally-none xs₀ }
+pub clear-start : (xs₀ : List ℕ) {own : ℕ} → lawful xs₀ ≡ true → own ≡ length (marked (runs xs₀)) → Clearing xs₀ xs₀ own 0
+clear-start xs₀ law e = record { done = record { law = law; same = refl; mean = λ b. refl; all = e }; passed = tally-none xs₀ }
 
-module _ {xs₀ : List ℕ} {all : ℕ} {xs : List ℕ} {left i : ℕ} (k : Clearing xs₀ all xs left i) (h : 0 < left) where
+module _ {xs₀ xs : List ℕ} {left i : ℕ} (k : Clearing xs₀ xs left i) (h : 0 < left) where
   -- while one is left there is a run at i
   here : i < length (runs xs)
   here = omega (arith, k .done .all, k .passed .found, marked-fewer (drop i (runs xs)), length-drop i (runs xs))
 
   -- its four numbers stand in the slice
-  pub clear-room : (i < all) × (i * 4 + 4 ≤ length xs) × (length xs ≡ length xs₀)
-  clear-room =
-      let m = lawful-map xs (k .done .law) in
-      (omega (arith, k .count, here), omega (arith, here, m .fit, m .fours-in), k .done .same)
+  pub clear-room : (i * 4 + 4 ≤ length xs) × (length xs ≡ length xs₀)
+  clear-room = let m = lawful-map xs (k .done .law) in (omega (arith, here, m .fit, m .fours-in), k .done .same)
 
   -- a published run is passed
-  pub clear-skip : (getD xs (i * 4 + 3) 0 ≡ 1 → ⊥) → Clearing xs₀ all xs left (i + 1)
+  pub clear-skip : (getD xs (i * 4 + 3) 0 ≡ 1 → ⊥) → Clearing xs₀ xs left (i + 1)
   clear-skip p =
       let m : 0 + getD xs (i * 4 + 3) 0 ≡ 0 = omega (arith, p, mark-at xs (k .done .law) i here) in
-      record { done = k .done; count = k .count; passed = rw m at (tally-next xs (k .done .law) (k .passed) here) }
+      record { done = k .done; passed = rw m at (tally-next xs (k .done .law) (k .passed) here) }
 
   -- an unpublished one that is apart from both neighbours is cleared
-  pub clear-one : getD xs (i * 4 + 3) 0 ≡ 1 → (i < all → Apart (runOf 0 0 0) (runs xs) i) → (i + 1 < all → Apart (runOf 0 0 0) (runs xs) (i + 1)) →
-      Clearing xs₀ all (set xs (i * 4 + 3) 0) (left - 1) (i + 1)
+  pub clear-one : getD xs (i * 4 + 3) 0 ≡ 1 → (i < length (runs xs) → Apart (runOf 0 0 0) (runs xs) i) →
+      (i + 1 < length (runs xs) → Apart (runOf 0 0 0) (runs xs) (i + 1)) →
+      Clearing xs₀ (set xs (i * 4 + 3) 0) (left - 1) (i + 1)
   clear-one p before behind =
       let law = k .done .law in
       let rs = runs xs in
       let s : i + 1 ≡ suc i = omega arith in
-      let after : suc i < length rs → Apart (runOf 0 0 0) rs (suc i) = λ l. rw s at behind (omega (arith, k .count, l)) in
-      let new = unmarked xs law i here (before (clear-room .0)) after in
+      let after : suc i < length rs → Apart (runOf 0 0 0) rs (suc i) = rw s at behind in
+      let new = unmarked xs law i here (before here) after in
       let u = new .1 in
       let r = clearRun (runNo rs i) in
       let fewer = clear-marked rs i here in
@@ -175,7 +175,6 @@ module _ {xs₀ : List ℕ} {all : ℕ} {xs : List ℕ} {left i : ℕ} (k : Clea
               mean = λ b. ap (λ (l : List Run). asPublished (cellAt l) b) u ∙ clear-mean rs i b ∙ k .done .mean b;
               all = omega (arith, k .done .all, fewer, marks, mark-at xs law i here, p);
             };
-        count = k .count ∙ sym size;
         passed =
             record {
               passed = omega (arith, here, size);

@@ -74,14 +74,13 @@ fn clear_marks(map: &mut [u32], own: usize) -> usize
     requires { ⌜ (lawful (now map) ≡ true) × (own ≡ length (marked (runs (now map)))) ⌝ }
     ensures { λ r. ⌜ Cleared (now (map .entry)) r (now (map .exit)) ⌝ }
 {
-    let all = locate::runs_in(map);
     let mut left = own;
     let mut i = 0;
     while 0 < left {
         let at = i * 4 + 3;
         let next = i + 1;
         if map[at] == 1 {
-            if meets(map, all, i) || meets(map, all, next) {
+            if meets(map, i) || meets(map, next) {
                 return left;
             }
             map[at] = 0;
@@ -92,15 +91,18 @@ fn clear_marks(map: &mut [u32], own: usize) -> usize
     left
 }
 
-// Does run i of `all` follow the run before it at once, with the same row?
-fn meets(map: &[u32], all: usize, i: usize) -> bool
-    requires { ⌜ (lawful (now map) ≡ true) × (all ≡ length (runs (now map))) ⌝ }
-    ensures { λ r. ⌜ (r ≡ false → i < all → Apart (runOf 0 0 0) (runs (now (map .entry))) i) ⌝ }
+// Does run i, if there is one, follow the run before it at once, with the same row?
+fn meets(map: &[u32], i: usize) -> bool
+    requires { ⌜ lawful (now map) ≡ true ⌝ }
+    ensures { λ r. ⌜ (r ≡ false → i < length (runs (now (map .entry))) → Apart (runOf 0 0 0) (runs (now (map .entry))) i) ⌝ }
 {
     if i == 0 {
         return false;
     }
-    if all <= i {
+    if map.len() / 4 <= i {
+        return false;
+    }
+    if map[i * 4 + 1] == 0 {
         return false;
     }
     let last = i - 1;

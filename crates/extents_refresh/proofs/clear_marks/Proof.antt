@@ -10,21 +10,18 @@ use Rattle.extents_refresh.proofs.clear_marks.Tie as tie
 
 -- None of the first i runs is unpublished, `left` others are, and every byte marked published is as it was at the start.
 abbrev Inv-loop : tie.InvT-loop
-Inv-loop map₀ own all left₀ i₀ map left i = Clearing map₀ all map left i
+Inv-loop map₀ own left₀ i₀ map left i = Clearing map₀ map left i
 
 abbrev μ-loop : tie.MeasureT-loop
-μ-loop map₀ own all left₀ i₀ map left i = all - i
+μ-loop map₀ own left₀ i₀ map left i = length map₀ - i
 
--- a run stands at i, and its four numbers in the slice
-room : (c : tie.In-loop Inv-loop μ-loop) → let l = c .before in let s = l .before .before .before .before in
-    (l .loop .i < l .before .runs-in .result) × (l .loop .i * 4 + 4 ≤ length (l .loop .map)) × (length (l .loop .map) ≡ length (now (s .args .map)))
+-- the four numbers of run i stand in the slice, which has its length
+room : (c : tie.In-loop Inv-loop μ-loop) → let l = c .before in
+    (l .loop .i * 4 + 4 ≤ length (l .loop .map)) × (length (l .loop .map) ≡ length (now (l .before .before .args .map)))
 room c = clear-room (c .before .loop .inv) (c .loop-test .taken)
 
-runs-in-requires : tie.Need-runs-in-requires Inv-loop μ-loop
-runs-in-requires c κs = c .before .before .pre .0
-
 loop-holds : tie.Need-loop-holds Inv-loop μ-loop
-loop-holds c = clear-start (now (c .before .before .before .args .map)) (c .before .before .before .pre .0) (c .before .before .before .pre .1) (c .runs-in .ensures)
+loop-holds c = clear-start (now (c .before .args .map)) (c .before .pre .0) (c .before .pre .1)
 
 mul-at : tie.Need-mul-at Inv-loop μ-loop
 mul-at c = omega (arith, room c)
@@ -39,13 +36,13 @@ mul-if1 : tie.Need-mul-if1 Inv-loop μ-loop
 mul-if1 c = omega (arith, room c)
 
 slice-read-if1 : tie.Need-slice-read-if1 Inv-loop μ-loop
-slice-read-if1 c = omega (arith, room (c .before) .1)
+slice-read-if1 c = omega (arith, room (c .before))
 
 meets-requires : tie.Need-meets-requires Inv-loop μ-loop
-meets-requires c κs = (c .before .before .before .before .loop .inv .done .law, c .before .before .before .before .loop .inv .count)
+meets-requires c κs = c .before .before .before .before .loop .inv .done .law
 
 meets-requires-2 : tie.Need-meets-requires-2 Inv-loop μ-loop
-meets-requires-2 c κs = (c .before .before .before .before .before .before .before .loop .inv .done .law, c .before .before .before .before .before .before .before .loop .inv .count)
+meets-requires-2 c κs = c .before .before .before .before .before .before .before .loop .inv .done .law
 
 same-length : tie.Need-same-length Inv-loop μ-loop
 same-length c = c .before .before .before .before .before .before .loop .inv .done .same
@@ -57,13 +54,13 @@ mul-map : tie.Need-mul-map Inv-loop μ-loop
 mul-map c = omega (arith, room (c .before .before .before .before .before .before .before .before))
 
 slice-write-map : tie.Need-slice-write-map Inv-loop μ-loop
-slice-write-map c = omega (arith, room (c .before .before .before .before .before .before .before .before) .1)
+slice-write-map c = omega (arith, room (c .before .before .before .before .before .before .before .before))
 
 sub-left : tie.Need-sub-left Inv-loop μ-loop
 sub-left c = c .before .before .before .before .before .before .before .before .loop-test .taken
 
 loop-less : tie.Need-loop-less Inv-loop μ-loop
-loop-less c = omega (arith, room (c .before .before .before .before .before .before .before .before) .0)
+loop-less c = omega (arith, room (c .before .before .before .before .before .before .before .before))
 
 loop-again : tie.Need-loop-again Inv-loop μ-loop
 loop-again c =
@@ -73,7 +70,7 @@ loop-again c =
     (c .before .meets2 .ensures (c .if3 .left))
 
 loop-less-2 : tie.Need-loop-less-2 Inv-loop μ-loop
-loop-less-2 c = omega (arith, room (c .before .before) .0)
+loop-less-2 c = omega (arith, room (c .before .before))
 
 loop-again-2 : tie.Need-loop-again-2 Inv-loop μ-loop
 loop-again-2 c = clear-skip (c .before .before .before .loop .inv) (c .before .before .loop-test .taken) (c .if1 .left)
@@ -90,7 +87,6 @@ clear-marks-spec =
     (tie.spec
     Inv-loop
     μ-loop
-    runs-in-requires
     loop-holds
     mul-at
     add-at
