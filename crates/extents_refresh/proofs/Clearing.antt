@@ -29,25 +29,25 @@ clearRun r = runOf (r .start) (r .length) (cleared (r .cell))
 abbrev clearAt : List Run → ℕ → List Run
 clearAt rs i = set rs i (clearRun (runNo rs i))
 
--- of two cells each is marked published to the same as another
+-- Marked published, a choice between two cells is the same as the choice between two others with their row numbers.
 either : (x : Bool) (c d e f : ℕ) → cleared c ≡ cleared d → cleared e ≡ cleared f → cleared (cond x c e) ≡ cleared (cond x d f)
 either true c d e f p q = p
 either false c d e f p q = q
 
--- one unpublished run less
+-- Clearing the mark of run i leaves as many unpublished runs less as its mark counts.
 clear-marked : (rs : List Run) (i : ℕ) → i < length rs → length (marked (clearAt rs i)) + markIn (runNo rs i .cell) ≡ length (marked rs)
 clear-marked [] i h = absurd (omega arith)
 clear-marked (r ∷ rs) zero h = omega (arith, marked-first (clearRun r) rs, marked-first r rs)
 clear-marked (r ∷ rs) (suc i) h = omega (arith, marked-first r (clearAt rs i), marked-first r rs, clear-marked rs i (omega arith))
 
--- every byte is marked published to the same
+-- Clearing one mark changes no byte but for its mark.
 clear-mean : (rs : List Run) (i b : ℕ) → cleared (cellAt (clearAt rs i) b) ≡ cleared (cellAt rs b)
 unfolding cellAt
 clear-mean [] i b = refl
 clear-mean (r ∷ rs) zero b = either (inRange (r .start) (r .length) b) (cleared (r .cell)) (r .cell) _ _ (omega arith) refl
 clear-mean (r ∷ rs) (suc i) b = either (inRange (r .start) (r .length) b) (r .cell) _ _ _ refl (clear-mean rs i b)
 
--- row numbers stay
+-- Clearing one mark keeps legal row numbers.
 clear-numbered : (rs : List Run) (i : ℕ) → NumbersLegal rs → NumbersLegal (clearAt rs i)
 clear-numbered [] i n = tt
 clear-numbered (r ∷ rs) zero n = (omega (arith, n .0), omega (arith, n .1), n .2)
@@ -58,7 +58,7 @@ next-as : (d e : ℕ) {end c : ℕ} {r : Run} → Next OFFSET-MAX end c r → 1 
     Next OFFSET-MAX end e (runOf (r .start) (r .length) d)
 next-as d e n w a = record { rising = n .rising; filled = n .filled; inside = n .inside; written = w; longest = a }
 
--- the list rises still, where the run is apart from both neighbours
+-- Clearing the mark of a run that is apart from both neighbours keeps the list rising.
 clear-rising : (q : Run) (rs : List Run) (i : ℕ) → i < length rs → Rising OFFSET-MAX (endOf q) (q .cell) rs → NumbersLegal rs → Apart q rs i →
     (suc i < length rs → Apart q rs (suc i)) → Rising OFFSET-MAX (endOf q) (q .cell) (clearAt rs i)
 clear-rising q [] i h g n before behind = absurd (omega arith)
@@ -82,7 +82,7 @@ clear-lawful rs i h l before behind =
 
 -- ---- Its mark in a slice
 
--- the numbers of the list
+-- The numbers of a list with one mark cleared are those of the list with 0 for that mark.
 clear-fours : (rs : List Run) (i : ℕ) → fours (clearAt rs i) ≡ set (fours rs) (i * 4 + 3) 0
 unfolding fours
 clear-fours [] i = refl
@@ -97,7 +97,7 @@ clear-fours (r ∷ rs) (suc i) =
 
 -- a lawful map with the mark of run i put to 0, where the run is apart from both neighbours
 module _ (xs : List ℕ) (law : lawful xs ≡ true) (i : ℕ) (h : i < length (runs xs)) where
-  -- the mark, as the code reads it
+  -- The fourth number of run i is its mark.
   mark-at : getD xs (i * 4 + 3) 0 ≡ markIn (runNo (runs xs) i .cell)
   mark-at = let e : i * 4 + 3 ≡ 4 * i + 3 = omega arith in ap (λ (p : ℕ). getD xs p 0) e ∙ here-at xs law i h .mark
 
@@ -137,21 +137,21 @@ pub clear-start : (xs₀ : List ℕ) {own : ℕ} → lawful xs₀ ≡ true → o
 clear-start xs₀ law e = record { done = record { law = law; same = refl; mean = λ b. refl; all = e }; passed = tally-none xs₀ }
 
 module _ {xs₀ xs : List ℕ} {left i : ℕ} (k : Clearing xs₀ xs left i) (h : 0 < left) where
-  -- while one is left there is a run at i
+  -- While an unpublished run is left there is a run i.
   here : i < length (runs xs)
   here = omega (arith, k .done .all, k .passed .found, marked-fewer (drop i (runs xs)), length-drop i (runs xs))
 
-  -- its four numbers stand in the slice
+  -- The four numbers of run i stand in the slice, which has its length.
   pub clear-room : (i * 4 + 4 ≤ length xs) × (length xs ≡ length xs₀)
   clear-room = let m = lawful-map xs (k .done .law) in (omega (arith, here, m .fit, m .fours-in), k .done .same)
 
-  -- a published run is passed
+  -- A published run is passed.
   pub clear-skip : (getD xs (i * 4 + 3) 0 ≡ 1 → ⊥) → Clearing xs₀ xs left (i + 1)
   clear-skip p =
       let m : 0 + getD xs (i * 4 + 3) 0 ≡ 0 = omega (arith, p, mark-at xs (k .done .law) i here) in
       record { done = k .done; passed = rw m at (tally-next xs (k .done .law) (k .passed) here) }
 
-  -- an unpublished one that is apart from both neighbours is cleared
+  -- The mark of an unpublished run that is apart from both neighbours is cleared.
   pub clear-one : getD xs (i * 4 + 3) 0 ≡ 1 → (i < length (runs xs) → Apart (runOf 0 0 0) (runs xs) i) →
       (i + 1 < length (runs xs) → Apart (runOf 0 0 0) (runs xs) (i + 1)) →
       Clearing xs₀ (set xs (i * 4 + 3) 0) (left - 1) (i + 1)

@@ -54,9 +54,11 @@ copy-start space j k xs {a} {b} {n} ready ea eb en =
     }
 
 module _ {space j k : ℕ} {xs : List ℕ} {end : ℕ} {ys : List ℕ} {i : ℕ} (c : Copying space j k xs end ys i) where
+  -- the map that is copied
   abbrev m : List ℕ
   m = mapAt space j xs
 
+  -- the map that stood at the place of the copy
   abbrev o : List ℕ
   o = mapAt space k xs
 

@@ -1,6 +1,6 @@
 -- `extents_refresh::copy` meets its contract.
 use borrow.Author.Needs.{needs}
-use Prim.Native.Nat.{_*_, _-_}
+use Prim.Native.Nat.{_-_}
 use native.Mathlib.Omega.{arith}
 use mathlib.Core.Path.{ap, _∙_}
 use denote.Ref.{now}
