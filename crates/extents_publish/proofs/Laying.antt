@@ -1,187 +1,217 @@
--- The unpublished runs of a view laid on the published map one by one, where there is room for two runs more for each.
-use Prim.Native.Nat.{ℕ, zero, suc, _+_, _*_, _-_, _/_, _≤_, _<_}
+-- The unpublished runs of a view laid on the published map, from the first run on.
+use Prim.Native.Nat.{ℕ, suc, _+_, _-_, _≤_, _<_}
 use native.Mathlib.Omega.{arith}
 use mathlib.Core.Path.{_≡_, refl, sym, ap, subst, _∙_}
-use mathlib.Core.Bool.{Bool, true, false}
-use mathlib.Core.List.{List, [], _∷_}
-use lib.ListN.{length, take, drop, drop-of-length-le}
+use mathlib.Core.Logic.{_⊎_, inl, inr}
+use mathlib.Core.Bool.{Bool, true, false, cond, false≢true}
+use mathlib.Core.List.{List, _∷_}
+use lib.ListN.{length, take, drop, length-drop}
 use lib.Seq.{drop-cons}
-use borrow.Rule.Slice.PartMut.{putMid}
+use lib.Dec.{leb}
+use borrow.Author.Tests.{ltb-true, eq-eqb, ne-eqb}
 use Rattle.rows.specs.Limits.{OFFSET-MAX}
-use Rattle.extents_meaning.specs.Cells.{Bytes, unpublished, cleared, overwrite, published}
-use Rattle.extents_meaning.specs.Runs.{Run, runOf, cellAt, runsOf, Lawful}
-use Rattle.extents_meaning.specs.Maps.{mapFor, spaceIn, runs, bytesOf, partAt}
-use Rattle.extents_meaning.proofs.Longest.{Fine, runs-same, runs-back}
+use Rattle.rows.proofs.Bools.{and-out}
+use Rattle.extents_meaning.specs.Cells.{Bytes, markIn, unpublished, cleared, inRange, overwrite, published}
+use Rattle.extents_meaning.specs.Runs.{Run, runOf, cellAt, Lawful}
+use Rattle.extents_meaning.specs.Maps.{runs, bytesOf, lawful, partAt}
+use Rattle.extents_meaning.proofs.Longest.{Fine, range-behind, rising-earlier, mean-before}
 use Rattle.extents_meaning.proofs.Trips.{lawful-map}
-use Rattle.extents_pair.specs.declared.RangeWrite.{RangeWrite}
-use Rattle.extents_pair.specs.RangeWrites.{withBytes, MapsApart}
-use Rattle.extents_publish.specs.Ranges.{rangeOf}
+use Rattle.extents_map.specs.Beside.{endOf, runNo}
 use Rattle.extents_pair.specs.Marks.{marked}
-use Rattle.extents_pair.proofs.Sweeps.{Good, Fits, good-over, over-same}
-use Rattle.extents_pair.proofs.Parts.{Holds, holds-start, holds-same, lent-view, lent-space, lent-bytes, lent-next}
-use Rattle.extents_publish.proofs.Taking.{runAmong, inside-at, fine-at, clear-fine}
-use Rattle.extents_pair.proofs.Gathering.{marked-in, marked-out}
-use Rattle.extents_pair.proofs.Bounds.{laid, laid-more, laid-over, marked-first}
+use Rattle.extents_pair.proofs.Parts.{lent, part-length}
+use Rattle.extents_pair.proofs.Gathering.{marked-in, marked-out, marked-fewer, marked-none}
+use Rattle.extents_weave.proofs.Homes.{only-length, only-apart}
+use Rattle.extents_publish.specs.Publishing.{Below, ownOf, Layable}
+use Rattle.extents_publish.specs.declared.Own.{Own}
+use Rattle.extents_publish.proofs.Below.{below-start, below-then}
 
--- later runs have no more unpublished ones
-fewer-later : (i : ℕ) (rs : List Run) → length (marked (drop i rs)) ≤ length (marked rs)
-fewer-later zero rs = omega arith
-fewer-later (suc i) [] = omega arith
-fewer-later (suc i) (r ∷ rs) = omega (arith, fewer-later i rs, marked-first r rs)
+-- A fine cell is fine without its mark.
+pub clear-fine : (c : ℕ) → Fine c → Fine (cleared c)
+clear-fine c (inl e) = inl (omega arith)
+clear-fine c (inr h) = inr (omega arith)
 
-module _ (size v w : ℕ) (xs : List ℕ) (t : MapsApart size v w xs) where
+-- ---- One run
+
+-- A published run is not laid.
+pub own-none : (r : Run) → markIn (r .cell) ≡ 0 → record { from = 0; to = 0; cell = 0; mark = 0 } ≡ ownOf r
+own-none r h = rw (ne-eqb (markIn (r .cell)) 1 (omega arith))
+
+-- An unpublished run is laid without its mark.
+pub own-some : (r : Run) {from to cell : ℕ} → from ≡ r .start → to ≡ endOf r → cell ≡ r .cell → (markIn cell ≡ 0 → ⊥) →
+    record { from = from; to = to; cell = cell - 1; mark = 1 } ≡ ownOf r
+own-some r {from} {to} {cell} p q e h =
+    let c : cell - 1 ≡ cleared (r .cell) = omega arith in
+    rw (eq-eqb (markIn (r .cell)) 1 (omega arith)) (λ i. record { from = p i; to = q i; cell = c i; mark = 1 })
+
+-- ---- One byte
+
+module _ (view old : Bytes) where
+  -- Byte b has cell c in the published map, and cell d by the runs of the view that are still to come: it is published where no such run has it,
+  -- else it is as it was.
+  abbrev pub Half : ℕ → ℕ → ℕ → Type 0
+  Half b d c = ((c ≡ published view old b) × (d ≡ 0)) ⊎ ((c ≡ old b) × (d ≡ view b))
+
+  -- What a run r before the runs us does as it is laid: its cell is fine, it counts where it is unpublished, and its bytes are published.
+  record Turn (r : Run) (us : List Run) (s : Own) : Type 0 where
+    fine : Fine (s .cell)
+    count : length (marked (r ∷ us)) ≡ s .mark + length (marked us)
+    cell : (b c : ℕ) → Half b (cellAt (r ∷ us) b) c → Half b (cellAt us b) (cond (inRange (s .from) (s .to - s .from) b) (s .cell) c)
+
+  module _ (r : Run) (us : List Run) (law : Lawful (r ∷ us)) where
+    -- No later run has a byte of run r.
+    alone : (b : ℕ) → inRange (r .start) (r .length) b ≡ true → cellAt us b ≡ 0
+    alone b e =
+        mean-before OFFSET-MAX (endOf r) (r .cell) us (law .in-order .1) b
+        (ltb-true b (endOf r) (and-out (leb (r .start) b) _ e .1))
+
+    -- Run r as it is laid.
+    turned : Turn r us (ownOf r)
+    unfolding cellAt
+    turned = go (unpublished (r .cell)) refl
+      where
+        given : (b : ℕ) {x : Bool} → unpublished (r .cell) ≡ x → r .cell ≡ view b → published view old b ≡ cond x (cleared (r .cell)) (old b)
+        given b e p = λ i. cond ((ap unpublished (sym p) ∙ e) i) (cleared (sym p i)) (old b)
+
+        own : unpublished (r .cell) ≡ true → (b c : ℕ) (x : Bool) → (x ≡ true → cellAt us b ≡ 0) → Half b (cond x (r .cell) (cellAt us b)) c →
+            Half b (cellAt us b) (cond x (cleared (r .cell)) c)
+        own e b c true z (inl p) = absurd (false≢true (ap unpublished (sym (p .1)) ∙ e))
+        own e b c true z (inr p) = inl (sym (given b e (p .1)), z refl)
+        own e b c false z p = p
+
+        other : unpublished (r .cell) ≡ false → (b c : ℕ) (x : Bool) → (x ≡ true → cellAt us b ≡ 0) → Half b (cond x (r .cell) (cellAt us b)) c →
+            Half b (cellAt us b) c
+        other e b c true z (inl p) = inl (p .0, z refl)
+        other e b c true z (inr p) = inl (p .0 ∙ sym (given b e (p .1)), z refl)
+        other e b c false z p = p
+
+        go : (u : Bool) → unpublished (r .cell) ≡ u →
+            Turn r us
+            (cond u (record { from = r .start; to = endOf r; cell = cleared (r .cell); mark = 1 }) (record { from = 0; to = 0; cell = 0; mark = 0 }))
+        go true e =
+            record {
+              fine = clear-fine (r .cell) (inr (law .numbered .0, law .numbered .1));
+              count = omega (arith, ap length (marked-in r us e));
+              cell = λ b c p.
+                  let n : r .length ≡ endOf r - r .start = omega arith in
+                  subst (λ (k : ℕ). Half b (cellAt us b) (cond (inRange (r .start) k b) (cleared (r .cell)) c)) n
+                  (own e b c (inRange (r .start) (r .length) b) (alone b) p);
+            }
+        go false e =
+            record {
+              fine = inl refl;
+              count = omega (arith, ap length (marked-out r us e));
+              cell = λ b c p. rw (range-behind 0 0 b (omega arith)) (other e b c (inRange (r .start) (r .length) b) (alone b) p);
+            }
+
+-- ---- The loop
+
+-- The slice xs has become ys, with the unpublished runs of the view at v laid on the map at w but for the runs us, of which `left` are unpublished.
+pub record Laying (size v w : ℕ) (xs : List ℕ) (us : List Run) (left : ℕ) (ys : List ℕ) : Type 0 where
+  pub rest : Lawful us
+  pub counted : left ≡ length (marked us)
+  pub below : Below size w (λ b. Half (bytesOf (partAt v size xs)) (bytesOf (partAt w size xs)) b (cellAt us b)) xs ys
+
+module _ {size v w own cell : ℕ} {xs : List ℕ} (t : Layable size v w own cell xs) where
   -- the view's runs
   abbrev rs : List Run
   rs = runs (partAt v size xs)
 
-  -- The view's runs are lawful.
-  law : Lawful rs
-  law = lawful-map (partAt v size xs) (t .view) .lawful-runs
+  -- the bytes of the view and of the published map
+  abbrev view : Bytes
+  view = bytesOf (partAt v size xs)
 
-  -- the published map's bytes
   abbrev old : Bytes
   old = bytesOf (partAt w size xs)
 
-  -- The published map's bytes with the unpublished runs from run i on laid over them.
-  abbrev pub after : ℕ → Bytes
-  after i = laid cleared (marked (drop i rs)) old
+  -- At first all runs are to come.
+  pub lay-start : Laying size v w xs rs own xs
+  lay-start =
+      record {
+        rest = lawful-map (partAt v size xs) (t .two .other-law) .lawful-runs;
+        counted = t .counted;
+        below = below-start (t .two .target-in) (t .law) (λ b. inr (refl, refl));
+      }
 
-  -- run i and those behind it
-  from-run : (i : ℕ) → i < length rs → drop i rs ≡ runAmong rs i ∷ drop (suc i) rs
-  from-run i h = drop-cons rs i (runOf 0 0 0) h
+  module _ {us : List Run} {left : ℕ} {ys : List ℕ} (k : Laying size v w xs us left ys) where
+    -- The slice is as long as it was.
+    pub lay-length : length ys ≡ length xs
+    lay-length = only-length (t .two .target-in) (k .below .only)
 
-  -- behind the last run there is none
-  after-end : (i : ℕ) → length rs ≤ i → after i ≡ old
-  unfolding laid marked
-  after-end i h = ap (λ (qs : List Run). laid cleared (marked qs) old) (drop-of-length-le rs h)
+    -- The map at w stands in the slice.
+    pub lay-in : w + size ≤ length ys
+    lay-in = omega (arith, t .two .target-in, lay-length)
 
-  -- an unpublished run is written
-  after-step : (i : ℕ) → i < length rs → unpublished (runAmong rs i .cell) ≡ true →
-      after i ≡ overwrite (runAmong rs i .start) (runAmong rs i .length) (cleared (runAmong rs i .cell)) (after (suc i))
-  unfolding laid
-  after-step i h u =
-      ap (λ (qs : List Run). laid cleared qs old) (ap marked (from-run i h) ∙ marked-in (runAmong rs i) (drop (suc i) rs) u)
+    -- The lent view is as it was.
+    lay-view : take (v + size - v) (drop v ys) ≡ partAt v size xs
+    lay-view = lent v size ys ∙ only-apart (t .two .target-in) (k .below .only) v (t .two .apart)
 
-  -- a published one is not
-  after-skip : (i : ℕ) → i < length rs → unpublished (runAmong rs i .cell) ≡ false → after i ≡ after (suc i)
-  after-skip i h u = ap (λ (qs : List Run). laid cleared qs old) (ap marked (from-run i h) ∙ marked-out (runAmong rs i) (drop (suc i) rs) u)
+    -- Where something does not fit, each byte is published or as it was.
+    pub lay-stop : {zs : List ℕ} → zs ≡ ys → Below size w (λ b c. (c ≡ published view old b) ⊎ (c ≡ old b)) xs zs
+    lay-stop q = rw q (record { only = k .below .only; law = k .below .law; bytes = λ b. go b (k .below .bytes b) })
+      where
+        go : (b : ℕ) {d c : ℕ} → Half view old b d c → (c ≡ published view old b) ⊎ (c ≡ old b)
+        go b (inl p) = inl (p .0)
+        go b (inr p) = inr (p .0)
 
-  -- Run i ends within all bytes.
-  inside : (i : ℕ) → runAmong rs i .start + runAmong rs i .length ≤ OFFSET-MAX
-  inside i = inside-at rs i 0 0 (law .in-order)
+    -- With no unpublished run left, the range is laid on the published bytes.
+    pub lay-end : left ≡ 0 → (s n e : ℕ) {zs : List ℕ} → Below size w (λ b c. c ≡ overwrite s n e (bytesOf (partAt w size ys)) b) ys zs →
+        Below size w (λ b c. c ≡ overwrite s n e (published view old) b) xs zs
+    lay-end z s n e d = below-then (t .two .target-in) (k .below) d (λ b p. ap (λ (c : ℕ). cond (inRange s n b) e c) (go b p))
+      where
+        go : (b : ℕ) {c : ℕ} → Half view old b (cellAt us b) c → c ≡ published view old b
+        go b (inl p) = p .0
+        go b (inr p) = p .0 ∙ sym (rw (← p .1, marked-none us (k .rest) (sym (k .counted) ∙ z) b))
 
-  -- A run's cell is fine without its mark.
-  fine : (i : ℕ) → Fine (cleared (runAmong rs i .cell))
-  fine i = clear-fine (runAmong rs i .cell) (fine-at rs i (law .numbered))
+  -- Run i is laid.
+  module _ (i : ℕ) {left : ℕ} {ys : List ℕ} (k : Laying size v w xs (drop i rs) left ys) (l : 0 < left) where
+    -- run i, and the runs behind it
+    abbrev r : Run
+    r = runNo rs i
 
-  -- the bytes are good
-  after-good : (n i : ℕ) → i + n ≡ length rs → Good (after i)
-  after-good zero i e = subst Good (sym (after-end i (omega arith))) (holds-start t .fits .good)
-  after-good (suc n) i e = go (unpublished (runAmong rs i .cell)) refl (after-good n (suc i) (omega arith))
-    where
-      h : i < length rs
-      h = omega arith
+    abbrev us : List Run
+    us = drop (i + 1) rs
 
-      go : (x : Bool) → unpublished (runAmong rs i .cell) ≡ x → Good (after (suc i)) → Good (after i)
-      go true u g =
-          let r = runAmong rs i in
-          let q : r .start + r .length - r .start ≡ r .length = omega arith in
-          subst Good ((λ j. overwrite (r .start) (q j) (cleared (r .cell)) (after (suc i))) ∙ sym (after-step i h u))
-          (good-over (r .start) (r .start + r .length) (cleared (r .cell)) (after (suc i)) (inside i) (fine i) g)
-      go false u g = subst Good (sym (after-skip i h u)) g
+    -- There is a run i.
+    pub lay-some : i < length rs
+    lay-some = omega (arith, k .counted, marked-fewer (drop i rs), length-drop i rs)
 
-  module _ (room : length (runs (partAt w size xs)) + 2 * length (marked rs) ≤ size / 4) where
-    -- The bytes with the runs from run i on fit.
-    after-fits : (i : ℕ) → i ≤ length rs → Fits (size / 4) (after i)
-    after-fits i h =
-        record {
-          good = after-good (length rs - i) i (omega arith);
-          few = omega (
-            arith,
-            room,
-            laid-more cleared (marked (drop i rs)) old,
-            fewer-later i rs,
-            ap length (runs-back (runs (partAt w size xs)) (lawful-map (partAt w size xs) (t .below) .lawful-runs)),
-          );
-        }
+    -- The slice is longer than i.
+    pub lay-far : i < length xs
+    lay-far =
+        let part = partAt v size xs in
+        omega (arith, lay-some, lawful-map part (t .two .other-law) .fit, part-length v size xs (t .two .other-in), t .two .other-in)
 
-    -- at first nothing is written
-    pub lay-start : (n : ℕ) → length rs ≤ n → Holds size w xs (after n) xs
-    lay-start n h = subst (λ (f : Bytes). Holds size w xs f xs) (sym (after-end n h)) (holds-start t)
+    -- It is read from the lent view.
+    pub lay-here : (lawful (take (v + size - v) (drop v ys)) ≡ true) × (i < length (runs (take (v + size - v) (drop v ys))))
+    lay-here = rw (lay-view k) (t .two .other-law, lay-some)
 
-    -- a published run is passed over
-    pub lay-skip : (i : ℕ) {ys : List ℕ} → Holds size w xs (after i) ys → 0 < i → i ≤ length rs → {r : Bool} →
-        r ≡ unpublished (runAmong (runs (take (v + size - v) (drop v ys))) (i - 1) .cell) → r ≡ false → Holds size w xs (after (i - 1)) ys
-    lay-skip i {ys} k h m q z =
-        let j = i - 1 in
-        let e : i ≡ suc j = omega arith in
-        let u = ap (λ (l : List ℕ). unpublished (runAmong (runs l) j .cell)) (sym (lent-view t k)) ∙ sym q ∙ z in
-        subst (λ (f : Bytes). Holds size w xs f ys) (ap after e ∙ sym (after-skip j (omega arith) u)) k
+    -- It comes next.
+    next : drop i rs ≡ r ∷ us
+    next = let e : suc i ≡ i + 1 = omega arith in drop-cons rs i (runOf 0 0 0) lay-some ∙ ap (λ (n : ℕ). r ∷ drop n rs) e
 
-    module _ (i : ℕ) {ys : List ℕ} (k : Holds size w xs (after i) ys) (h : 0 < i) (m : i ≤ length rs)
-        (own : unpublished (runAmong (runs (take (v + size - v) (drop v ys))) (i - 1) .cell) ≡ true) {s : RangeWrite}
-        (p : s ≡ rangeOf (runAmong (runs (take (v + size - v) (drop v ys))) (i - 1))) where
-      -- the run before
-      abbrev r : Run
-      r = runAmong rs (i - 1)
+    -- The runs from it on are lawful.
+    law : Lawful (r ∷ us)
+    law = subst Lawful next (k .rest)
 
-      -- The run is unpublished.
-      shown : unpublished (r .cell) ≡ true
-      shown = ap (λ (l : List ℕ). unpublished (runAmong (runs l) (i - 1) .cell)) (sym (lent-view t k)) ∙ own
+    module _ {s : Own} (q : s ≡ ownOf (runNo (runs (take (v + size - v) (drop v ys))) i)) where
+      -- What it does as it is laid.
+      turn : Turn view old r us s
+      turn = subst (Turn view old r us) (sym (q ∙ ap (λ (m : List ℕ). ownOf (runNo (runs m) i)) (lay-view k))) (turned view old r us law)
 
-      -- The range write of the run is the whole run.
-      whole : s ≡ rangeOf r
-      whole = p ∙ ap (λ (l : List ℕ). rangeOf (runAmong (runs l) (i - 1))) (lent-view t k)
-
-      -- the bytes with it
-      abbrev written : Bytes
-      written = overwrite (s .from) (s .to - s .from) (s .cell) (bytesOf (take (w + size - w) (drop w ys)))
-
-      written-after : (x : ℕ) → written x ≡ after (i - 1) x
-      written-after x =
-          let q : r .start + r .length - r .start ≡ r .length = omega arith in
-          let e : i ≡ suc (i - 1) = omega arith in
-          over-same (s .from) (s .to) (s .cell) (bytesOf (take (w + size - w) (drop w ys))) (after i) (lent-bytes t k) x
-          ∙ (λ o. overwrite (whole o .from) (whole o .to - whole o .from) (whole o .cell) (after (e o)) x)
-          ∙ (λ o. overwrite (r .start) (q o) (cleared (r .cell)) (after (suc (i - 1))) x)
-          ∙ (λ o. sym (after-step (i - 1) (omega arith) shown) o x)
-
-      -- The cell to be laid is fine.
+      -- Its cell is fine.
       pub lay-fine : Fine (s .cell)
-      lay-fine = subst (λ (o : RangeWrite). Fine (o .cell)) (sym whole) (fine (i - 1))
+      lay-fine = turn .fine
 
-      -- The bytes with the range laid fit.
-      pub lay-fit : length (runsOf written) ≤ spaceIn (take (w + size - w) (drop w ys))
-      lay-fit =
-          omega (
-            arith,
-            after-fits (i - 1) (omega arith) .few,
-            lent-space t k,
-            ap length (runs-same written (after (i - 1)) (λ x _. written-after x)),
-          )
+      -- It counts where it is unpublished.
+      pub lay-count : left ≡ s .mark + length (marked us)
+      lay-count = k .counted ∙ ap (λ (ps : List Run). length (marked ps)) next ∙ turn .count
 
-      -- After the turn the slice holds the bytes with the runs from run i - 1 on.
-      pub lay-next : {last : List ℕ} → last ≡ mapFor (spaceIn (take (w + size - w) (drop w ys))) written →
-          Holds size w xs (after (i - 1)) (putMid w (w + size - w) ys last)
-      lay-next q = lent-next t k (after (i - 1)) written (after-fits (i - 1) (omega arith)) written-after q
-
-    -- With all unpublished runs laid the bytes are the published ones.
-    after-all : (b : ℕ) → after 0 b ≡ published (cellAt rs) old b
-    after-all b = sym (laid-over rs law old cleared b)
-
-    -- which fit
-    pub all-fits : Fits (size / 4) (published (cellAt rs) old)
-    all-fits =
-        let a = after-fits 0 (omega arith) in
-        record {
-          good = record {
-            fine = λ b. subst Fine (after-all b) (a .good .fine b);
-            ends = λ b l. sym (after-all b) ∙ a .good .ends b l;
-          };
-          few = omega (arith, a .few, ap length (runs-same (after 0) (published (cellAt rs) old) (λ b _. after-all b)));
-        }
-
-    -- In the end the slice holds the published bytes.
-    pub lay-end : {i : ℕ} {ys : List ℕ} → Holds size w xs (after i) ys → i ≡ 0 → ys ≡ withBytes size w (published (cellAt rs) old) xs
-    lay-end {i} {ys} k z =
-        holds-same (published (cellAt rs) old) all-fits (λ b. (λ o. after (z o) b) ∙ after-all b) k .same
+      -- The runs behind it are left.
+      pub lay-next : {zs : List ℕ} → Below size w (λ b c. c ≡ overwrite (s .from) (s .to - s .from) (s .cell) (bytesOf (partAt w size ys)) b) ys zs →
+          Laying size v w xs us (left - s .mark) zs
+      lay-next d =
+          record {
+            rest = record { in-order = rising-earlier OFFSET-MAX (endOf r) (r .cell) 0 us (omega arith) (law .in-order .1); numbered = law .numbered .2 };
+            counted = omega (arith, lay-count);
+            below = below-then (t .two .target-in) (k .below) d (λ b p. turn .cell b _ (subst (λ (ps : List Run). Half view old b (cellAt ps b) (bytesOf (partAt w size ys) b)) next p));
+          }

@@ -1,3 +1,3 @@
-pub mod Taking
+pub mod Below
 pub mod Laying
 pub mod Sharing

@@ -1,89 +1,35 @@
--- A view and a range published: what each of three ways relies on and leaves, and that both maps are lawful afterwards.
+-- A view and a range published: what a call relies on, and what the runs laid one by one or a rewrite leave.
 use Prim.Native.Nat.{ℕ, _+_, _*_, _-_, _/_, _≤_, _<_}
-use native.Mathlib.Nat.{add-mul, one-mul}
 use native.Mathlib.Decide.{decLt}
 use native.Mathlib.Omega.{arith}
-use mathlib.Core.Path.{_≡_, sym, ap, subst, _∙_}
-use mathlib.Core.Logic.{inl, inr}
-use mathlib.Core.Bool.{Bool, true, false, cond, not, _&&_}
+use mathlib.Core.Path.{_≡_, refl, sym, ap, subst, _∙_}
+use mathlib.Core.Logic.{_⊎_, inl, inr}
+use mathlib.Core.Bool.{Bool, true, false, cond, _&&_}
 use mathlib.Core.List.{List}
-use lib.ListN.{length, take, drop}
-use lib.Dec.{leb, eqb}
+use lib.ListN.{length}
 use borrow.Author.Tests.{le-leb, ne-eqb}
-use borrow.Rule.Slice.PartMut.{putMid}
 use Rattle.rows.specs.Limits.{ROWS, OFFSET-MAX}
 use Rattle.rows.proofs.Bools.{and-out}
 use Rattle.extents_meaning.specs.Cells.{Bytes, cellOf, markIn, unpublished, cleared, inRange, overwrite, published}
 use Rattle.extents_meaning.specs.Runs.{runsOf}
-use Rattle.extents_meaning.specs.Maps.{mapFor, spaceIn, runs, bytesOf, lawful, lawfulPublished, mapAt, withMap, partAt, withPart}
-use Rattle.extents_meaning.proofs.Longest.{Fine, runs-same}
-use Rattle.extents_meaning.proofs.Trips.{length-map, lawful-map, no-marks-in, no-marks-out}
-use Rattle.extents_meaning.proofs.Sides.{with-length, at-same, at-other}
-use Rattle.extents_map.specs.Mixes.{mixed, mix}
+use Rattle.extents_meaning.specs.Maps.{mapFor, spaceIn, runs, bytesOf, lawful, lawfulPublished, mapAt, withMap}
+use Rattle.extents_meaning.proofs.Longest.{Fine}
+use Rattle.extents_meaning.proofs.Trips.{lawful-map, no-marks-in, no-marks-out}
+use Rattle.extents_map.specs.Mixes.{mixed, mix, mixIn}
+use Rattle.extents_map.specs.declared.scan.Mix.{Mix}
 use Rattle.extents_map.specs.declared.scan.Mode.the-variants.{Publish}
 use Rattle.extents_pair.specs.declared.Pair.{Pair}
 use Rattle.extents_pair.specs.InPairs.{twoMapsIn, viewIn, belowIn, OwnCounted}
 use Rattle.extents_pair.specs.Marks.{marked}
-use Rattle.extents_pair.specs.RangeWrites.{MapsApart, withBytes}
-use Rattle.extents_pair.proofs.Pairing.{rows-apart, two-told, two-apart, last-law}
-use Rattle.extents_pair.proofs.Gathering.{published-none}
-use Rattle.extents_pair.proofs.Bounds.{marked-room}
-use Rattle.extents_pair.proofs.Sweeps.{over-same, Good, good-over, Fits}
-use Rattle.extents_pair.proofs.Parts.{bytes-fit, fits-lawful, fits-back, lent, lent-below, Holds, holds-start, holds-same, lent-space, lent-bytes, lent-next}
-use Rattle.extents_publish.proofs.Taking.{clear-fine}
-use Rattle.extents_publish.proofs.Laying.{all-fits}
-
--- ---- Bytes that a published map can hold
-
--- Bytes fit a space, and each of them is published.
-record Plain (space : ℕ) (f : Bytes) : Type 0 where
-  fits : Fits space f
-  out : (b : ℕ) → unpublished (f b) ≡ false
-
--- The map of published bytes that fit is a lawful published map.
-plain-map : (space : ℕ) (f : Bytes) → Plain space f → lawfulPublished (mapFor space f) ≡ true
-plain-map space f k =
-    let law = fits-lawful space f (k .fits) in
-    λ i. law i && no-marks-in (runs (mapFor space f)) (lawful-map (mapFor space f) law .lawful-runs) (λ b. ap unpublished (fits-back space f (k .fits) b) ∙ k .out b) i
-
--- Without a mark a cell is published.
-plain-cell : (n : ℕ) → unpublished (cellOf n 0) ≡ false
-plain-cell n = ne-eqb (markIn (cellOf n 0)) 1 (omega arith)
-
--- ---- A pair whose published map is written anew
-
-module _ (pair : Pair) (f : Bytes) (xs : List ℕ) {ys : List ℕ} (two : twoMapsIn pair xs ≡ true) (plain : Plain (pair .space) f)
-    (q : ys ≡ withMap (pair .space) (pair .below) (mapFor (pair .space) f) xs) where
-  -- the new published map
-  abbrev map : List ℕ
-  map = mapFor (pair .space) f
-
-  -- The new map fills its space.
-  map-size : length map ≡ 4 * pair .space
-  map-size = length-map (pair .space) (runsOf f) (plain .fits .few)
-
-  -- The view is as it was.
-  view-kept : mapAt (pair .space) (pair .view) ys ≡ mapAt (pair .space) (pair .view) xs
-  view-kept =
-      ap (mapAt (pair .space) (pair .view)) q
-      ∙ at-other (pair .space) (pair .below) map xs map-size (two-told (pair .space) (pair .view) (pair .below) xs two .below-in) (pair .view)
-      (two-apart (pair .space) (pair .view) (pair .below) xs two)
-
-  -- Both maps are lawful, and the count of unpublished runs holds.
-  after : OwnCounted pair xs → (twoMapsIn pair ys ≡ true) × OwnCounted pair ys
-  after own =
-      let space = pair .space in
-      let t = two-told space (pair .view) (pair .below) xs two in
-      let n = ap length q ∙ with-length space (pair .below) map xs map-size (t .below-in) in
-      let new = ap (mapAt space (pair .below)) q ∙ at-same space (pair .below) map xs map-size (t .below-in) in (
-        sym (last-law space (pair .view) (pair .below) ys (two-apart space (pair .view) (pair .below) xs two)
-            (le-leb ((pair .view + 1) * (4 * space)) (length ys) (omega (arith, t .view-in, n)))
-            (le-leb ((pair .below + 1) * (4 * space)) (length ys) (omega (arith, t .below-in, n))) (ap lawful view-kept ∙ t .view-law))
-            ∙ ap lawfulPublished new ∙ plain-map space f plain,
-        own ∙ ap (λ (m : List ℕ). length (marked (runs m))) (sym view-kept),
-      )
-
--- ---- Publishing a view and a range
+use Rattle.extents_pair.proofs.Pairing.{two-told, two-apart, last-law}
+use Rattle.extents_pair.proofs.Parts.{bytes-fit, bytes-map}
+use Rattle.extents_pair.proofs.Sweeps.{Good, Fits, good-over}
+use Rattle.extents_weave.specs.Rewrites.{Weavable}
+use Rattle.extents_weave.proofs.Homes.{only-length, only-apart, only-with}
+use Rattle.extents_weave.proofs.Pairs.{below-weavable}
+use Rattle.extents_publish.specs.Publishing.{Below, Layable}
+use Rattle.extents_publish.proofs.Below.{below-made, below-then}
+use Rattle.extents_publish.proofs.Laying.{clear-fine}
 
 -- What a call of `share` relies on.
 pub record Shared (pair : Pair) (start end number : ℕ) (xs : List ℕ) : Type 0 where
@@ -120,143 +66,152 @@ module _ {pair : Pair} {start end number : ℕ} {xs : List ℕ} (s : Shared pair
   abbrev old : Bytes
   old = belowIn pair xs
 
-  -- The published map with the view's unpublished bytes.
-  abbrev out : Bytes
-  out = published view old
-
-  -- The published map at the end.
+  -- the cells of the published map at the end
   abbrev new : Bytes
   new = mix Publish start (end - start) (cellOf number 0) view old
 
-  -- Two lawful maps stand apart in the slice.
-  pub apart : MapsApart size v w xs
-  apart =
-      let t = two-told (pair .space) (pair .view) (pair .below) xs (s .two) in
-      record {
-        view-in = omega (arith, t .view-in, next (pair .view));
-        below-in = omega (arith, t .below-in, next (pair .below));
-        apart = rows-apart (pair .view) (pair .below) size (two-apart (pair .space) (pair .view) (pair .below) xs (s .two));
-        view = t .view-law;
-        below = t .below-law;
-      }
-    where
-      next : (k : ℕ) → (k + 1) * size ≡ k * size + size
-      next k = add-mul k 1 size ∙ ap (λ (n : ℕ). k * size + n) (one-mul size)
+  -- the mix that publishes the view and the range
+  abbrev pub all : Mix
+  all = record { mode = Publish; start = start; end = end; cell = number * 2 }
+
+  -- The mix gives the cells at the end.
+  all-new : mixIn all view old ≡ new
+  all-new = let c : number * 2 ≡ cellOf number 0 = omega arith in λ i. mix Publish start (end - start) (c i) view old
+
+  -- A rewrite by the mix is possible.
+  pub weavable : Weavable size w v all (pair .space) xs
+  weavable = below-weavable pair all xs (s .two) (s .order) (omega (arith, s .few, ap (λ (f : Bytes). length (runsOf f)) all-new)) (omega arith) refl
+
+  -- The map stands in the slice.
+  inner : w + size ≤ length xs
+  inner = weavable .two .target-in
 
   -- The range's cell is fine.
-  pub cell-fine : Fine (number * 2)
+  cell-fine : Fine (number * 2)
   cell-fine = go (decLt 0 number)
     where
       go : Dec (0 < number) → Fine (number * 2)
       go (yes l) = inr (omega (arith, s .low))
       go (no l) = inl (omega arith)
 
-  -- The cell that the code makes of the row number is the range's cell.
-  new-is : mix Publish start (end - start) (number * 2) view old ≡ new
-  new-is = let c : number * 2 ≡ cellOf number 0 = omega arith in λ i. mix Publish start (end - start) (c i) view old
+  -- The unpublished runs and the range can be laid.
+  pub layable : Layable size v w (pair .own) (number * 2) xs
+  layable = record { two = weavable .two; law = weavable .law; counted = s .own; fine = cell-fine }
 
-  -- The published bytes are good.
-  out-good : Good out
-  out-good = record { fine = λ b. fine b (unpublished (view b)); ends = λ b l. (λ i. cond (unpublished (a .ends b l i)) (cleared (a .ends b l i)) (o .ends b l i)) }
+  -- ---- Both maps are lawful afterwards
+
+  -- Where the view is as it was, the published map decides.
+  decides : (ys : List ℕ) → length ys ≡ length xs → mapAt (pair .space) (pair .view) ys ≡ mapAt (pair .space) (pair .view) xs →
+      lawfulPublished (mapAt (pair .space) (pair .below) ys) ≡ twoMapsIn pair ys
+  decides ys n e =
+      let t = two-told (pair .space) (pair .view) (pair .below) xs (s .two) in
+      last-law (pair .space) (pair .view) (pair .below) ys (two-apart (pair .space) (pair .view) (pair .below) xs (s .two))
+      (le-leb ((pair .view + 1) * size) (length ys) (omega (arith, t .view-in, n)))
+      (le-leb ((pair .below + 1) * size) (length ys) (omega (arith, t .below-in, n))) (ap lawful e ∙ t .view-law)
+
+  -- The view is as it was.
+  view-kept : {P : ℕ → ℕ → Type 0} {ys : List ℕ} → Below size w P xs ys → mapAt (pair .space) (pair .view) ys ≡ mapAt (pair .space) (pair .view) xs
+  view-kept d = only-apart inner (d .only) v (weavable .two .apart)
+
+  -- A lawful map without unpublished bytes in the place of the published one leaves both maps lawful, and the count of unpublished runs.
+  after : {P : ℕ → ℕ → Type 0} {ys : List ℕ} → Below size w P xs ys → ((b c : ℕ) → P b c → unpublished c ≡ false) →
+      (twoMapsIn pair ys ≡ true) × OwnCounted pair ys
+  after {P} {ys} d u =
+      let m = mapAt (pair .space) (pair .below) ys in
+      let none = no-marks-in (runs m) (lawful-map m (d .law) .lawful-runs) (λ b. u b (bytesOf m b) (d .bytes b)) in (
+        sym (decides ys (only-length inner (d .only)) (view-kept d)) ∙ (λ i. d .law i && none i),
+        s .own ∙ ap (λ (l : List ℕ). length (marked (runs l))) (sym (view-kept d)),
+      )
+
+  -- The published map has no unpublished byte.
+  old-plain : (b : ℕ) → unpublished (old b) ≡ false
+  old-plain = no-marks-out _ (and-out (lawful (mapAt (pair .space) (pair .below) xs)) _ (decides xs refl refl ∙ s .two) .1)
+
+  -- Nor has it one with the view's unpublished bytes.
+  out-plain : (b : ℕ) → unpublished (published view old b) ≡ false
+  out-plain b = go (unpublished (view b))
+    where
+      go : (x : Bool) → unpublished (cond x (cleared (view b)) (old b)) ≡ false
+      go true = ne-eqb (markIn (cleared (view b))) 1 (omega arith)
+      go false = old-plain b
+
+  -- Nor with the range.
+  new-plain : (b : ℕ) → unpublished (new b) ≡ false
+  unfolding mixed
+  new-plain b = go (inRange start (end - start) b)
+    where
+      go : (x : Bool) → unpublished (cond x (cellOf number 0) (published view old b)) ≡ false
+      go true = ne-eqb (markIn (cellOf number 0)) 1 (omega arith)
+      go false = out-plain b
+
+  -- The cells at the end fit.
+  new-fits : Fits (pair .space) new
+  unfolding mixed
+  new-fits = record { good = subst Good all-new (good-over start end (number * 2) (published view old) (s .inside) cell-fine out-good); few = s .few }
     where
       a : Good view
-      a = bytes-fit (mapAt (pair .space) (pair .view) xs) (apart .view) .good
+      a = bytes-fit (mapAt (pair .space) (pair .view) xs) (weavable .two .other-law) .good
 
       o : Good old
-      o = bytes-fit (mapAt (pair .space) (pair .below) xs) (apart .below) .good
+      o = bytes-fit (mapAt (pair .space) (pair .below) xs) (weavable .law) .good
 
       fine : (b : ℕ) (x : Bool) → Fine (cond x (cleared (view b)) (old b))
       fine b true = clear-fine (view b) (a .fine b)
       fine b false = o .fine b
 
-  -- The bytes at the end fit, and each is published.
-  plain : Plain (pair .space) new
-  unfolding mixed
-  plain =
-      record {
-        fits = record { good = subst Good new-is (good-over start end (number * 2) out (s .inside) cell-fine out-good); few = s .few };
-        out = λ b. go b (inRange start (end - start) b) (unpublished (view b));
-      }
-    where
-      below-out : (b : ℕ) → unpublished (old b) ≡ false
-      below-out =
-          let e1 = and-out (not (eqb (pair .view) (pair .below))) _ (s .two) in
-          let e2 = and-out (leb ((pair .view + 1) * size) (length xs)) _ (e1 .1) in
-          let e3 = and-out (leb ((pair .below + 1) * size) (length xs)) _ (e2 .1) in
-          let e4 = and-out (lawful (mapAt (pair .space) (pair .view) xs)) _ (e3 .1) in
-          no-marks-out _ (and-out (lawful (mapAt (pair .space) (pair .below) xs)) _ (e4 .1) .1)
+      out-good : Good (published view old)
+      out-good = record { fine = λ b. fine b (unpublished (view b)); ends = λ b l. (λ i. published (λ _. a .ends b l i) (λ _. o .ends b l i) b) }
 
-      go : (b : ℕ) (x y : Bool) → unpublished (cond x (cellOf number 0) (cond y (cleared (view b)) (old b))) ≡ false
-      go b true y = plain-cell number
-      go b false true = plain-cell (view b / 2)
-      go b false false = below-out b
+  -- ---- The end
 
-  -- Each way leaves what the contract says.
-  pub shared : {ys : List ℕ} → ys ≡ withMap (pair .space) (pair .below) (mapFor (pair .space) new) xs →
+  -- A slice whose published map has the cells at the end is the slice of the contract.
+  shared : {ys : List ℕ} → Below size w (λ b c. c ≡ new b) xs ys →
       (ys ≡ withMap (pair .space) (pair .below) (mapFor (pair .space) new) xs) × ((twoMapsIn pair ys ≡ true) × OwnCounted pair ys)
-  shared q = (q, after pair new xs (s .two) plain q (s .own))
+  shared {ys} d =
+      let m = mapAt (pair .space) (pair .below) ys in
+      let n : spaceIn m ≡ pair .space = omega (arith, d .only .filled) in (
+        only-with inner (d .only) (sym (bytes-map m (d .law)) ∙ (λ i. mapFor (n i) (λ b. d .bytes b i))),
+        after d (λ b c e. ap unpublished e ∙ new-plain b),
+      )
 
-  -- A quarter of a map's numbers is its space.
-  quarter : size / 4 ≡ pair .space
-  quarter = omega arith
+  -- All runs and the range laid one by one leave the slice of the contract.
+  pub laid-end : {ys : List ℕ} → Below size w (λ b c. c ≡ overwrite start (end - start) (number * 2) (published view old) b) xs ys →
+      (ys ≡ withMap (pair .space) (pair .below) (mapFor (pair .space) new) xs) × ((twoMapsIn pair ys ≡ true) × OwnCounted pair ys)
+  unfolding mixed
+  laid-end {ys} d = shared (subst (λ (f : Bytes). Below size w (λ b c. c ≡ f b) xs ys) all-new d)
 
-  -- Without unpublished runs nothing is to be published but the range.
-  pub out-none : pair .own ≡ 0 → Holds size w xs out xs
-  out-none z =
-      let begin = holds-start apart in
-      let law = lawful-map (mapAt (pair .space) (pair .view) xs) (apart .view) .lawful-runs in
-      let same : (b : ℕ) → old b ≡ out b = λ b. sym (published-none (runs (mapAt (pair .space) (pair .view) xs)) law (sym (s .own) ∙ z) old b) in
-      holds-same out (record { good = out-good; few = omega (arith, begin .fits .few, ap length (runs-same old out (λ b _. same b))) }) same begin
+  -- A published map of which each byte is published or as it was.
+  module _ {ys : List ℕ} (d : Below size w (λ b c. (c ≡ published view old b) ⊎ (c ≡ old b)) xs ys) where
+    -- Both maps are lawful.
+    pub kept-two : (twoMapsIn pair ys ≡ true) × OwnCounted pair ys
+    kept-two = after d go
+      where
+        go : (b c : ℕ) → (c ≡ published view old b) ⊎ (c ≡ old b) → unpublished c ≡ false
+        go b c (inl e) = ap unpublished e ∙ out-plain b
+        go b c (inr e) = ap unpublished e ∙ old-plain b
 
-  -- The published map has no more runs than its space.
-  pub below-few : {n : ℕ} → n ≡ length (runs (take (w + size - w) (drop w xs))) → n ≤ pair .space
-  below-few q = let k = holds-start apart in omega (arith, q, lawful-map _ (lent-below apart k) .fit, lent-space apart k)
-
-  -- The view has no more unpublished runs than its space.
-  pub own-few : pair .own ≤ pair .space
-  own-few = marked-room (pair .space) (pair .view) (pair .below) xs (s .two) (s .own)
-
-  -- There is room for two runs more for each unpublished run.
-  pub own-room : {n : ℕ} → n ≡ length (runs (take (w + size - w) (drop w xs))) → n + 2 * pair .own + 2 ≤ pair .space →
-      length (runs (partAt w size xs)) + 2 * length (marked (runs (partAt v size xs))) ≤ size / 4
-  own-room {n} q h =
-      let a = q ∙ ap (λ (l : List ℕ). length (runs l)) (lent w size xs) in
-      omega (arith, s .own, a, h)
-
-  -- Laid one by one, the unpublished runs are in the published map.
-  pub out-laid : length (runs (partAt w size xs)) + 2 * length (marked (runs (partAt v size xs))) ≤ size / 4 → {ys : List ℕ} →
-      ys ≡ withBytes size w out xs → Holds size w xs out ys
-  out-laid room q = record { fits = all-fits size v w xs apart room; same = q }
-
-  -- With the unpublished runs published, the range is all that is left to write.
-  module _ {ys : List ℕ} (k : Holds size w xs out ys) where
-    -- the bytes with the range written
-    abbrev alone : Bytes
-    alone = overwrite start (end - start) (number * 2) (bytesOf (take (w + size - w) (drop w ys)))
-
-    -- The bytes with the range written are those at the end.
-    alone-bytes : (b : ℕ) → alone b ≡ new b
+    -- The mix gives the cells at the end.
+    kept-new : mixIn all (viewIn pair ys) (belowIn pair ys) ≡ new
     unfolding mixed
-    alone-bytes b =
-        over-same start end (number * 2) (bytesOf (take (w + size - w) (drop w ys))) out (lent-bytes apart k) b ∙ (λ i. new-is i b)
+    kept-new = (λ i b. cond (inRange start (end - start) b) (number * 2) (same b (d .bytes b) i)) ∙ all-new
+      where
+        twice : (x : Bool) (a o : ℕ) → cond x a (cond x a o) ≡ cond x a o
+        twice true a o = refl
+        twice false a o = refl
 
-    -- The bytes with the range written fit the lent map.
-    pub alone-fit : length (runsOf alone) ≤ spaceIn (take (w + size - w) (drop w ys))
-    alone-fit = omega (arith, s .few, lent-space apart k, ap length (runs-same alone new (λ b _. alone-bytes b)))
+        same : (b : ℕ) {c : ℕ} → (c ≡ published view old b) ⊎ (c ≡ old b) → published (viewIn pair ys) (λ _. c) b ≡ published view old b
+        same b (inl q) =
+            (λ i. published (bytesOf (view-kept d i)) (λ _. q i) b) ∙ twice (unpublished (view b)) (cleared (view b)) (old b)
+        same b (inr q) = λ i. published (bytesOf (view-kept d i)) (λ _. q i) b
 
-    -- The range written leaves the slice of the contract.
-    pub alone-end : {last : List ℕ} → last ≡ mapFor (spaceIn (take (w + size - w) (drop w ys))) alone →
-        putMid w (w + size - w) ys last ≡ withMap (pair .space) (pair .below) (mapFor (pair .space) new) xs
-    alone-end q =
-        lent-next apart k new alone (subst (λ (n : ℕ). Fits n new) (sym quarter) (plain .fits)) alone-bytes q .same
-        ∙ (λ i. withPart w size (mapFor (quarter i) new) xs)
+    -- A rewrite by the mix finds room.
+    pub kept-few : length (runsOf (mixIn all (viewIn pair ys) (belowIn pair ys))) ≤ pair .space
+    kept-few = omega (arith, s .few, ap (λ (f : Bytes). length (runsOf f)) kept-new)
 
-  -- A rewrite by the mix finds room.
-  pub woven-few : length (runsOf (mix Publish start (end - start) (number * 2) view old)) ≤ pair .space
-  woven-few = omega (arith, s .few, ap (λ (f : Bytes). length (runsOf f)) new-is)
-
-  -- A rewrite by the mix leaves the slice of the contract.
-  pub woven-end : {ys : List ℕ} →
-      ys ≡ withMap (pair .space) (pair .below) (mapFor (pair .space) (mix Publish start (end - start) (number * 2) view old)) xs →
-      ys ≡ withMap (pair .space) (pair .below) (mapFor (pair .space) new) xs
-  woven-end q = q ∙ (λ i. withMap (pair .space) (pair .below) (mapFor (pair .space) (new-is i)) xs)
+    -- A rewrite by the mix leaves the slice of the contract.
+    pub woven-end : {zs : List ℕ} → zs ≡ withMap (pair .space) (pair .below) (mapFor (pair .space) (mixIn all (viewIn pair ys) (belowIn pair ys))) ys →
+        (zs ≡ withMap (pair .space) (pair .below) (mapFor (pair .space) new) xs) × ((twoMapsIn pair zs ≡ true) × OwnCounted pair zs)
+    woven-end q =
+        let h : w + size ≤ length ys = omega (arith, inner, only-length inner (d .only)) in
+        let k = below-made h (pair .space) refl new new-fits (q ∙ (λ i. withMap (pair .space) (pair .below) (mapFor (pair .space) (kept-new i)) ys)) in
+        shared (below-then inner d k (λ b _. refl))

@@ -1,27 +1,34 @@
-// Publishing the unpublished runs of a view, and a range with a cell of its own, on the published map in the same slice, in place: run by run where
-// there is room for two runs more for each, else by rewriting the published map.
-ghost use Prim.Native.Nat.{_+_, _*_, _-_, _/_, _≤_, _<_};
+// Publishing the unpublished runs of a view, and a range with a cell of its own, on the published map in the same slice, in place: run by run as long
+// as the map fits, and from there on by rewriting the published map.
+ghost use Prim.Native.Nat.{_+_, _*_, _-_, _≤_, _<_};
 ghost use mathlib.Core.Path.{_≡_};
-ghost use mathlib.Core.Bool.{true};
+ghost use mathlib.Core.Bool.{true, false};
 ghost use mathlib.Core.Logic.{_⊎_};
-ghost use lib.ListN.{length, getD};
+ghost use lib.ListN.{length};
 ghost use Rattle.rows.specs.Limits.{ROWS};
-ghost use Rattle.extents_meaning.specs.Cells.{numberIn, cellOf, unpublished, overwrite, published};
-ghost use Rattle.extents_meaning.specs.Runs.{runOf, runsOf};
-ghost use Rattle.extents_meaning.specs.Maps.{mapFor, spaceIn, runs, bytesOf, lawful, withMap, partAt};
+ghost use Rattle.extents_meaning.specs.Cells.{numberIn, cellOf, overwrite};
+ghost use Rattle.extents_meaning.specs.Runs.{runsOf};
+ghost use Rattle.extents_meaning.specs.Maps.{mapFor, runs, bytesOf, lawful, withMap, partAt};
+ghost use Rattle.extents_map.specs.Beside.{runNo};
 ghost use Rattle.extents_map.specs.Mixes.{mix};
 ghost use Rattle.extents_map.specs.declared.scan.Mode.the-variants.{Publish};
-ghost use Rattle.extents_pair.specs.Marks.{marked};
 ghost use Rattle.extents_pair.specs.InPairs.{twoMapsIn, viewIn, belowIn, OwnCounted};
-ghost use Rattle.extents_pair.specs.RangeWrites.{withBytes, MapsApart};
-ghost use Rattle.extents_publish.specs.Ranges.{rangeOf};
+ghost use Rattle.extents_publish.specs.Publishing.{Below, publishedIn, ownOf, Layable};
+use extents_map::locate;
 use extents_map::scan::Mix;
 use extents_map::scan::Mode;
 use extents_pair::Pair;
-use extents_pair::RangeWrite;
 
-// Publishes a view and a range of a row number, 0 where the range is empty, on a published map that fits then. Without an unpublished run the range
-// is laid alone; where there is room for two runs more for each unpublished run, these are laid one by one; else the map is rewritten.
+// A run of a view as it is laid: its range, empty where the run is published, its cell without the mark, and the mark.
+struct Own {
+    from: u32,
+    to: u32,
+    cell: u32,
+    mark: usize,
+}
+
+// Publishes a view and a range of a row number, 0 where the range is empty, on a published map that fits then. Where a run does not fit between the
+// others that are laid, the map is rewritten from what it is by then.
 pub fn share(maps: &mut [u32], pair: Pair, start: u32, end: u32, number: u32)
     requires { ⌜ twoMapsIn pair (now maps) ≡ true ⌝ }
     requires { ⌜ (start ≤ end) × (start < end → 1 ≤ number) × (number ≤ ROWS) × OwnCounted pair (now maps) ⌝ }
@@ -37,72 +44,72 @@ pub fn share(maps: &mut [u32], pair: Pair, start: u32, end: u32, number: u32)
     let size = 4 * space;
     let v = view * size;
     let w = below * size;
-    let cell = number * 2;
-    if own == 0 {
-        put(&mut maps[w..w + size], start, end, cell);
-        return;
-    }
-    if extents_map::locate::runs_in(&maps[w..w + size]) + 2 * own + 2 <= space {
-        lay_own(maps, size, v, w);
-        put(&mut maps[w..w + size], start, end, cell);
-        return;
-    }
     let all = Mix {
         mode: Mode::Publish,
         start: start,
         end: end,
-        cell: cell,
+        cell: number * 2,
     };
+    if lay_all(maps, size, v, w, own, all) {
+        return;
+    }
     extents_weave::weave(maps, pair, all);
 }
 
-// Lays the unpublished runs of a view on the published map one by one, where there is room for two runs more for each.
-fn lay_own(maps: &mut [u32], size: usize, v: usize, w: usize)
-    requires { ⌜ MapsApart size v w (now maps)
-        × (length (runs (partAt w size (now maps))) + 2 * length (marked (runs (partAt v size (now maps)))) ≤ size / 4) ⌝ }
-    ensures { λ _. ⌜ now (maps .exit) ≡ withBytes size w
-        (published (bytesOf (partAt v size (now (maps .entry)))) (bytesOf (partAt w size (now (maps .entry))))) (now (maps .entry)) ⌝ }
+// Lays the unpublished runs of a view and then a range on the published map, as long as the map fits. Answers whether all are laid; else each byte
+// is as it was or has the view's cell. The loop has laid the unpublished runs before run i, and `left` are left.
+fn lay_all(maps: &mut [u32], size: usize, v: usize, w: usize, own: usize, range: Mix) -> bool
+    requires { ⌜ Layable size v w own (range .cell) (now maps) ⌝ }
+    ensures { λ r. ⌜ (r ≡ true → Below size w (λ b c. c ≡ overwrite (range .start) (range .end - range .start) (range .cell)
+        (publishedIn size v w (now (maps .entry))) b) (now (maps .entry)) (now (maps .exit))) ⌝ }
+    ensures { λ r. ⌜ (r ≡ false → Below size w (λ b c. (c ≡ publishedIn size v w (now (maps .entry)) b) ⊎ (c ≡ bytesOf (partAt w size (now (maps .entry))) b))
+        (now (maps .entry)) (now (maps .exit))) ⌝ }
 {
-    let mut i = extents_map::locate::runs_in(&maps[v..v + size]);
-    while 0 < i {
-        i -= 1;
-        if is_own(&maps[v..v + size], i) {
-            let s = range_write_at(&maps[v..v + size], i);
-            put(&mut maps[w..w + size], s.from, s.to, s.cell);
+    let mut left = own;
+    let mut i = 0;
+    while 0 < left {
+        let s = own_at(&maps[v..v + size], i);
+        if !put(maps, size, w, s.from, s.to, s.cell) {
+            return false;
         }
+        left -= s.mark;
+        i += 1;
+    }
+    put(maps, size, w, range.start, range.end, range.cell)
+}
+
+// Run i as it is laid: nothing where it is published.
+fn own_at(map: &[u32], i: usize) -> Own
+    requires { ⌜ (lawful (now map) ≡ true) × (i < length (runs (now map))) ⌝ }
+    ensures { λ r. ⌜ r ≡ ownOf (runNo (runs (now (map .entry))) i) ⌝ }
+{
+    let cell = locate::cell_at(map, i);
+    if cell % 2 == 0 {
+        return Own {
+            from: 0,
+            to: 0,
+            cell: 0,
+            mark: 0,
+        };
+    }
+    Own {
+        from: locate::start_at(map, i),
+        to: locate::end_at(map, i),
+        cell: cell - 1,
+        mark: 1,
     }
 }
 
-// Is run i unpublished?
-fn is_own(map: &[u32], i: usize) -> bool
-    requires { ⌜ (lawful (now map) ≡ true) × (i < length (runs (now map))) × (i * 4 + 4 ≤ length (now map)) ⌝ }
-    ensures { λ r. ⌜ r ≡ unpublished (getD (runs (now (map .entry))) i (runOf 0 0 0) .cell) ⌝ }
+// Gives a range of the map at w a cell, where the map fits then. Answers whether it did; a range without bytes fits.
+fn put(maps: &mut [u32], size: usize, w: usize, start: u32, end: u32, cell: u32) -> bool
+    requires { ⌜ (w + size ≤ length (now maps)) × (lawful (partAt w size (now maps)) ≡ true) ⌝ }
+    requires { ⌜ (cell ≡ 0) ⊎ ((1 ≤ numberIn cell) × (numberIn cell ≤ ROWS)) ⌝ }
+    ensures { λ r. ⌜ (r ≡ true → Below size w (λ b c. c ≡ overwrite start (end - start) cell (bytesOf (partAt w size (now (maps .entry)))) b)
+        (now (maps .entry)) (now (maps .exit))) ⌝ }
+    ensures { λ r. ⌜ (r ≡ false → now (maps .exit) ≡ now (maps .entry)) ⌝ }
 {
-    map[i * 4 + 3] == 1
-}
-
-// The range of run i, with the run's cell as it is published.
-fn range_write_at(map: &[u32], i: usize) -> RangeWrite
-    requires { ⌜ (lawful (now map) ≡ true) × (i < length (runs (now map))) × (i * 4 + 4 ≤ length (now map)) ⌝ }
-    ensures { λ r. ⌜ r ≡ rangeOf (getD (runs (now (map .entry))) i (runOf 0 0 0)) ⌝ }
-{
-    let at = i * 4;
-    let start = map[at];
-    let end = start + map[at + 1];
-    RangeWrite {
-        from: start,
-        to: end,
-        cell: map[at + 2] * 2,
+    if end <= start {
+        return true;
     }
-}
-
-// Gives a range a cell, where the map fits then.
-fn put(map: &mut [u32], start: u32, end: u32, cell: u32)
-    requires { ⌜ (lawful (now map) ≡ true) × ((cell ≡ 0) ⊎ ((1 ≤ numberIn cell) × (numberIn cell ≤ ROWS))) ⌝ }
-    requires { ⌜ length (runsOf (overwrite start (end - start) cell (bytesOf (now map)))) ≤ spaceIn (now map) ⌝ }
-    ensures { λ _. ⌜ now (map .exit) ≡ mapFor (spaceIn (now (map .entry))) (overwrite start (end - start) cell (bytesOf (now (map .entry)))) ⌝ }
-{
-    if start < end {
-        extents_lay::lay(map, start, end, cell);
-    }
+    extents_lay::lay(&mut maps[w..w + size], start, end, cell)
 }
