@@ -3,7 +3,7 @@ use Prim.Native.Nat.{ℕ, suc, _+_, _-_, _≤_, _<_}
 use native.Mathlib.Omega.{arith}
 use mathlib.Core.Path.{_≡_, refl, sym, ap, subst, _∙_}
 use mathlib.Core.Logic.{_⊎_, inl, inr}
-use mathlib.Core.Bool.{Bool, true, false, cond, false≢true}
+use mathlib.Core.Bool.{Bool, true, false, cond, _&&_, false≢true}
 use mathlib.Core.List.{List, _∷_}
 use lib.ListN.{length, take, drop, length-drop}
 use lib.Seq.{drop-cons}
@@ -52,10 +52,10 @@ module _ (view old : Bytes) where
   Half b d c = ((c ≡ published view old b) × (d ≡ 0)) ⊎ ((c ≡ old b) × (d ≡ view b))
 
   -- What a run r before the runs us does as it is laid: its cell is fine, it counts where it is unpublished, and its bytes are published.
-  record Turn (r : Run) (us : List Run) (s : Own) : Type 0 where
-    fine : Fine (s .cell)
-    count : length (marked (r ∷ us)) ≡ s .mark + length (marked us)
-    cell : (b c : ℕ) → Half b (cellAt (r ∷ us) b) c → Half b (cellAt us b) (cond (inRange (s .from) (s .to - s .from) b) (s .cell) c)
+  pub record Turn (r : Run) (us : List Run) (s : Own) : Type 0 where
+    pub fine : Fine (s .cell)
+    pub count : length (marked (r ∷ us)) ≡ s .mark + length (marked us)
+    pub cell : (b c : ℕ) → Half b (cellAt (r ∷ us) b) c → Half b (cellAt us b) (cond (inRange (s .from) (s .to - s .from) b) (s .cell) c)
 
   module _ (r : Run) (us : List Run) (law : Lawful (r ∷ us)) where
     -- No later run has a byte of run r.
@@ -72,17 +72,14 @@ module _ (view old : Bytes) where
         given : (b : ℕ) {x : Bool} → unpublished (r .cell) ≡ x → r .cell ≡ view b → published view old b ≡ cond x (cleared (r .cell)) (old b)
         given b e p = λ i. cond ((ap unpublished (sym p) ∙ e) i) (cleared (sym p i)) (old b)
 
-        own : unpublished (r .cell) ≡ true → (b c : ℕ) (x : Bool) → (x ≡ true → cellAt us b ≡ 0) → Half b (cond x (r .cell) (cellAt us b)) c →
-            Half b (cellAt us b) (cond x (cleared (r .cell)) c)
-        own e b c true z (inl p) = absurd (false≢true (ap unpublished (sym (p .1)) ∙ e))
-        own e b c true z (inr p) = inl (sym (given b e (p .1)), z refl)
-        own e b c false z p = p
-
-        other : unpublished (r .cell) ≡ false → (b c : ℕ) (x : Bool) → (x ≡ true → cellAt us b ≡ 0) → Half b (cond x (r .cell) (cellAt us b)) c →
-            Half b (cellAt us b) c
-        other e b c true z (inl p) = inl (p .0, z refl)
-        other e b c true z (inr p) = inl (p .0 ∙ sym (given b e (p .1)), z refl)
-        other e b c false z p = p
+        byte : (u x : Bool) → unpublished (r .cell) ≡ u → (b c : ℕ) → (x ≡ true → cellAt us b ≡ 0) → Half b (cond x (r .cell) (cellAt us b)) c →
+            Half b (cellAt us b) (cond (u && x) (cleared (r .cell)) c)
+        byte true true e b c z (inl p) = absurd (false≢true (ap unpublished (sym (p .1)) ∙ e))
+        byte true true e b c z (inr p) = inl (sym (given b e (p .1)), z refl)
+        byte false true e b c z (inl p) = inl (p .0, z refl)
+        byte false true e b c z (inr p) = inl (p .0 ∙ sym (given b e (p .1)), z refl)
+        byte true false e b c z p = p
+        byte false false e b c z p = p
 
         go : (u : Bool) → unpublished (r .cell) ≡ u →
             Turn r us
@@ -94,13 +91,13 @@ module _ (view old : Bytes) where
               cell = λ b c p.
                   let n : r .length ≡ endOf r - r .start = omega arith in
                   subst (λ (k : ℕ). Half b (cellAt us b) (cond (inRange (r .start) k b) (cleared (r .cell)) c)) n
-                  (own e b c (inRange (r .start) (r .length) b) (alone b) p);
+                  (byte true (inRange (r .start) (r .length) b) e b c (alone b) p);
             }
         go false e =
             record {
               fine = inl refl;
               count = omega (arith, ap length (marked-out r us e));
-              cell = λ b c p. rw (range-behind 0 0 b (omega arith)) (other e b c (inRange (r .start) (r .length) b) (alone b) p);
+              cell = λ b c p. rw (range-behind 0 0 b (omega arith)) (byte false (inRange (r .start) (r .length) b) e b c (alone b) p);
             }
 
 -- ---- The loop
@@ -137,9 +134,9 @@ module _ {size v w own cell : ℕ} {xs : List ℕ} (t : Layable size v w own cel
     pub lay-length : length ys ≡ length xs
     lay-length = only-length (t .two .target-in) (k .below .only)
 
-    -- The map at w stands in the slice.
-    pub lay-in : w + size ≤ length ys
-    lay-in = omega (arith, t .two .target-in, lay-length)
+    -- The lawful map at w stands in the slice.
+    pub lay-in : (w + size ≤ length ys) × (lawful (partAt w size ys) ≡ true)
+    lay-in = (omega (arith, t .two .target-in, lay-length), k .below .law)
 
     -- The lent view is as it was.
     lay-view : take (v + size - v) (drop v ys) ≡ partAt v size xs
@@ -172,22 +169,20 @@ module _ {size v w own cell : ℕ} {xs : List ℕ} (t : Layable size v w own cel
     us = drop (i + 1) rs
 
     -- There is a run i.
-    pub lay-some : i < length rs
-    lay-some = omega (arith, k .counted, marked-fewer (drop i rs), length-drop i rs)
+    some : i < length rs
+    some = omega (arith, k .counted, marked-fewer (drop i rs), length-drop i rs)
 
-    -- The slice is longer than i.
-    pub lay-far : i < length xs
-    lay-far =
-        let part = partAt v size xs in
-        omega (arith, lay-some, lawful-map part (t .two .other-law) .fit, part-length v size xs (t .two .other-in), t .two .other-in)
+    -- The map has more than i numbers.
+    pub lay-far : i < size
+    lay-far = omega (arith, some, lawful-map (partAt v size xs) (t .two .other-law) .fit, part-length v size xs (t .two .other-in))
 
     -- It is read from the lent view.
     pub lay-here : (lawful (take (v + size - v) (drop v ys)) ≡ true) × (i < length (runs (take (v + size - v) (drop v ys))))
-    lay-here = rw (lay-view k) (t .two .other-law, lay-some)
+    lay-here = rw (lay-view k) (t .two .other-law, some)
 
     -- It comes next.
     next : drop i rs ≡ r ∷ us
-    next = let e : suc i ≡ i + 1 = omega arith in drop-cons rs i (runOf 0 0 0) lay-some ∙ ap (λ (n : ℕ). r ∷ drop n rs) e
+    next = let e : suc i ≡ i + 1 = omega arith in drop-cons rs i (runOf 0 0 0) some ∙ ap (λ (n : ℕ). r ∷ drop n rs) e
 
     -- The runs from it on are lawful.
     law : Lawful (r ∷ us)
@@ -195,16 +190,12 @@ module _ {size v w own cell : ℕ} {xs : List ℕ} (t : Layable size v w own cel
 
     module _ {s : Own} (q : s ≡ ownOf (runNo (runs (take (v + size - v) (drop v ys))) i)) where
       -- What it does as it is laid.
-      turn : Turn view old r us s
-      turn = subst (Turn view old r us) (sym (q ∙ ap (λ (m : List ℕ). ownOf (runNo (runs m) i)) (lay-view k))) (turned view old r us law)
-
-      -- Its cell is fine.
-      pub lay-fine : Fine (s .cell)
-      lay-fine = turn .fine
+      pub lay-turn : Turn view old r us s
+      lay-turn = subst (Turn view old r us) (sym (q ∙ ap (λ (m : List ℕ). ownOf (runNo (runs m) i)) (lay-view k))) (turned view old r us law)
 
       -- It counts where it is unpublished.
       pub lay-count : left ≡ s .mark + length (marked us)
-      lay-count = k .counted ∙ ap (λ (ps : List Run). length (marked ps)) next ∙ turn .count
+      lay-count = k .counted ∙ ap (λ (ps : List Run). length (marked ps)) next ∙ lay-turn .count
 
       -- The runs behind it are left.
       pub lay-next : {zs : List ℕ} → Below size w (λ b c. c ≡ overwrite (s .from) (s .to - s .from) (s .cell) (bytesOf (partAt w size ys)) b) ys zs →
@@ -213,5 +204,5 @@ module _ {size v w own cell : ℕ} {xs : List ℕ} (t : Layable size v w own cel
           record {
             rest = record { in-order = rising-earlier OFFSET-MAX (endOf r) (r .cell) 0 us (omega arith) (law .in-order .1); numbered = law .numbered .2 };
             counted = omega (arith, lay-count);
-            below = below-then (t .two .target-in) (k .below) d (λ b p. turn .cell b _ (subst (λ (ps : List Run). Half view old b (cellAt ps b) (bytesOf (partAt w size ys) b)) next p));
+            below = below-then (t .two .target-in) (k .below) d (λ b p. lay-turn .cell b _ (subst (λ (ps : List Run). Half view old b (cellAt ps b) (bytesOf (partAt w size ys) b)) next p));
           }

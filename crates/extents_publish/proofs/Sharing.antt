@@ -31,6 +31,19 @@ use Rattle.extents_publish.specs.Publishing.{Below, Layable}
 use Rattle.extents_publish.proofs.Below.{below-made, below-then}
 use Rattle.extents_publish.proofs.Laying.{clear-fine}
 
+-- What holds of two cells holds of the one that is picked.
+either : (P : ℕ → Type 0) (x : Bool) {c d : ℕ} → P c → P d → P (cond x c d)
+either P true p q = p
+either P false p q = q
+
+-- A cell is published.
+abbrev Plain : ℕ → Type 0
+Plain c = unpublished c ≡ false
+
+-- Without a mark a cell is published.
+plain-cell : (n : ℕ) → Plain (cellOf n 0)
+plain-cell n = ne-eqb (markIn (cellOf n 0)) 1 (omega arith)
+
 -- What a call of `share` relies on.
 pub record Shared (pair : Pair) (start end number : ℕ) (xs : List ℕ) : Type 0 where
   pub two : twoMapsIn pair xs ≡ true
@@ -129,20 +142,12 @@ module _ {pair : Pair} {start end number : ℕ} {xs : List ℕ} (s : Shared pair
 
   -- Nor has it one with the view's unpublished bytes.
   out-plain : (b : ℕ) → unpublished (published view old b) ≡ false
-  out-plain b = go (unpublished (view b))
-    where
-      go : (x : Bool) → unpublished (cond x (cleared (view b)) (old b)) ≡ false
-      go true = ne-eqb (markIn (cleared (view b))) 1 (omega arith)
-      go false = old-plain b
+  out-plain b = either Plain (unpublished (view b)) (plain-cell (view b / 2)) (old-plain b)
 
   -- Nor with the range.
   new-plain : (b : ℕ) → unpublished (new b) ≡ false
   unfolding mixed
-  new-plain b = go (inRange start (end - start) b)
-    where
-      go : (x : Bool) → unpublished (cond x (cellOf number 0) (published view old b)) ≡ false
-      go true = ne-eqb (markIn (cellOf number 0)) 1 (omega arith)
-      go false = out-plain b
+  new-plain b = either Plain (inRange start (end - start) b) (plain-cell number) (out-plain b)
 
   -- The cells at the end fit.
   new-fits : Fits (pair .space) new
@@ -155,12 +160,8 @@ module _ {pair : Pair} {start end number : ℕ} {xs : List ℕ} (s : Shared pair
       o : Good old
       o = bytes-fit (mapAt (pair .space) (pair .below) xs) (weavable .law) .good
 
-      fine : (b : ℕ) (x : Bool) → Fine (cond x (cleared (view b)) (old b))
-      fine b true = clear-fine (view b) (a .fine b)
-      fine b false = o .fine b
-
       out-good : Good (published view old)
-      out-good = record { fine = λ b. fine b (unpublished (view b)); ends = λ b l. (λ i. published (λ _. a .ends b l i) (λ _. o .ends b l i) b) }
+      out-good = record { fine = λ b. either Fine (unpublished (view b)) (clear-fine (view b) (a .fine b)) (o .fine b); ends = λ b l. (λ i. published (λ _. a .ends b l i) (λ _. o .ends b l i) b) }
 
   -- ---- The end
 

@@ -4,11 +4,11 @@ use Prim.Native.Nat.{_-_, _≤_}
 use native.Mathlib.Omega.{arith}
 use mathlib.Core.Path.{_≡_, _∙_}
 use mathlib.Core.Bool.{false≢true}
-use lib.ListN.{length, drop}
+use lib.ListN.{drop}
 use denote.Ref.{now}
 use borrow.Author.Tests.{not-true, not-false}
 use Rattle.extents_meaning.specs.Maps.{runs, partAt}
-use Rattle.extents_publish.proofs.Laying.{Laying, lay-start, lay-length, lay-in, lay-stop, lay-end, lay-some, lay-far, lay-here, lay-fine, lay-count, lay-next}
+use Rattle.extents_publish.proofs.Laying.{Laying, lay-start, lay-length, lay-in, lay-stop, lay-end, lay-far, lay-here, lay-turn, lay-count, lay-next}
 use Rattle.extents_publish.proofs.lay_all.Statement.{statement}
 use Rattle.extents_publish.proofs.lay_all.Tie as tie
 
@@ -17,7 +17,7 @@ abbrev Inv-loop : tie.InvT-loop
 Inv-loop maps₀ size v w own range left₀ i₀ maps left i = Laying size v w maps₀ (drop i (runs (partAt v size maps₀))) left maps
 
 abbrev μ-loop : tie.MeasureT-loop
-μ-loop maps₀ size v w own range left₀ i₀ maps left i = length (runs (partAt v size maps₀)) - i
+μ-loop maps₀ size v w own range left₀ i₀ maps left i = size - i
 
 loop-holds : tie.Need-loop-holds Inv-loop μ-loop
 loop-holds c = lay-start (c .before .pre)
@@ -42,8 +42,7 @@ own-at-requires c κs = lay-here (c .before .before .before .before .before .pre
 
 put-requires : tie.Need-put-requires Inv-loop μ-loop
 put-requires c κs =
-    let k = c .before .before .before .before .before .loop .inv in
-    ((lay-in (c .before .before .before .before .before .before .before .pre) k, k .below .law), lay-fine (c .before .before .before .before .before .before .before .pre) (c .before .before .before .before .before .loop .i) k (c .before .before .before .before .loop-test .taken) (c .before .own-at .ensures))
+    (lay-in (c .before .before .before .before .before .before .before .pre) (c .before .before .before .before .before .loop .inv), lay-turn (c .before .before .before .before .before .before .before .pre) (c .before .before .before .before .before .loop .i) (c .before .before .before .before .before .loop .inv) (c .before .before .before .before .loop-test .taken) (c .before .own-at .ensures) .fine)
 
 same-length : tie.Need-same-length Inv-loop μ-loop
 same-length c = c .before .before .before .put .kept .0 ∙ lay-length (c .before .before .before .before .before .before .before .before .before .before .before .pre) (c .before .before .before .before .before .before .before .before .before .loop .inv)
@@ -55,17 +54,17 @@ sub-left : tie.Need-sub-left Inv-loop μ-loop
 sub-left c = omega (arith, lay-count (c .before .before .before .before .before .before .before .before .before .before .before .before .pre) (c .before .before .before .before .before .before .before .before .before .before .loop .i) (c .before .before .before .before .before .before .before .before .before .before .loop .inv) (c .before .before .before .before .before .before .before .before .before .loop-test .taken) (c .before .before .before .before .before .before .own-at .ensures))
 
 add-i : tie.Need-add-i Inv-loop μ-loop
-add-i c = omega (arith, lay-far (c .before .before .before .before .before .before .before .before .before .before .before .before .pre) (c .before .before .before .before .before .before .before .before .before .before .loop .i) (c .before .before .before .before .before .before .before .before .before .before .loop .inv) (c .before .before .before .before .before .before .before .before .before .loop-test .taken), c .before .before .before .before .before .before .before .before .before .before .before .before .good)
+add-i c = omega (arith, lay-far (c .before .before .before .before .before .before .before .before .before .before .before .before .pre) (c .before .before .before .before .before .before .before .before .before .before .loop .i) (c .before .before .before .before .before .before .before .before .before .before .loop .inv) (c .before .before .before .before .before .before .before .before .before .loop-test .taken))
 
 loop-less : tie.Need-loop-less Inv-loop μ-loop
-loop-less c = omega (arith, lay-some (c .before .before .before .before .before .before .before .before .before .before .before .before .pre) (c .before .before .before .before .before .before .before .before .before .before .loop .i) (c .before .before .before .before .before .before .before .before .before .before .loop .inv) (c .before .before .before .before .before .before .before .before .before .loop-test .taken))
+loop-less c = omega (arith, lay-far (c .before .before .before .before .before .before .before .before .before .before .before .before .pre) (c .before .before .before .before .before .before .before .before .before .before .loop .i) (c .before .before .before .before .before .before .before .before .before .before .loop .inv) (c .before .before .before .before .before .before .before .before .before .loop-test .taken))
 
 loop-again : tie.Need-loop-again Inv-loop μ-loop
 loop-again c =
     lay-next (c .before .before .before .before .before .before .before .before .before .before .before .before .pre) (c .before .before .before .before .before .before .before .before .before .before .loop .i) (c .before .before .before .before .before .before .before .before .before .before .loop .inv) (c .before .before .before .before .before .before .before .before .before .loop-test .taken) (c .before .before .before .before .before .before .own-at .ensures) (c .before .before .before .before .put .ensures .0 (not-false (c .before .before .before .before .put .result) (c .before .if1 .left)))
 
 put-requires-2 : tie.Need-put-requires-2 Inv-loop μ-loop
-put-requires-2 c κs = ((lay-in (c .before .before .before .before .pre) (c .before .before .loop .inv), c .before .before .loop .inv .below .law), c .before .before .before .before .pre .fine)
+put-requires-2 c κs = (lay-in (c .before .before .before .before .pre) (c .before .before .loop .inv), c .before .before .before .before .pre .fine)
 
 same-length-2 : tie.Need-same-length-2 Inv-loop μ-loop
 same-length-2 c = c .before .before .put2 .kept .0 ∙ lay-length (c .before .before .before .before .before .before .before .pre) (c .before .before .before .before .before .loop .inv)
