@@ -19,9 +19,10 @@ use Rattle.extents_meaning.proofs.Trips.{lawful-map}
 use Rattle.extents_map.specs.Beside.{endOf, runNo}
 use Rattle.extents_pair.specs.Marks.{marked}
 use Rattle.extents_pair.proofs.Parts.{lent, part-length}
-use Rattle.extents_pair.proofs.Gathering.{marked-in, marked-out, marked-fewer, marked-none}
+use Rattle.extents_pair.proofs.Gathering.{marked-fewer, marked-none}
+use Rattle.extents_pair.proofs.Bounds.{marked-first}
 use Rattle.extents_weave.proofs.Homes.{only-length, only-apart}
-use Rattle.extents_publish.specs.Publishing.{Below, ownOf, Layable}
+use Rattle.extents_publish.specs.Publishing.{Below, Taken, Layable}
 use Rattle.extents_publish.specs.declared.Own.{Own}
 use Rattle.extents_publish.proofs.Below.{below-start, below-then}
 
@@ -32,16 +33,19 @@ clear-fine c (inr h) = inr (omega arith)
 
 -- ---- One run
 
--- A published run is not laid.
-pub own-none : (r : Run) → markIn (r .cell) ≡ 0 → record { from = 0; to = 0; cell = 0; mark = 0 } ≡ ownOf r
-own-none r h = rw (ne-eqb (markIn (r .cell)) 1 (omega arith))
+-- Nothing is laid of a published run.
+pub take-none : (r : Run) {cell : ℕ} → cell ≡ r .cell → markIn cell ≡ 0 → Taken r (record { from = 0; to = 0; cell = cell; mark = 0 })
+take-none r e h =
+    let none = ne-eqb (markIn (r .cell)) 1 (omega arith) in
+    record { range = λ b. range-behind 0 0 b (omega arith) ∙ (λ i. sym none i && inRange (r .start) (r .length) b); cell = omega arith; mark = omega arith }
 
 -- An unpublished run is laid without its mark.
-pub own-some : (r : Run) {from to cell : ℕ} → from ≡ r .start → to ≡ endOf r → cell ≡ r .cell → (markIn cell ≡ 0 → ⊥) →
-    record { from = from; to = to; cell = cell - 1; mark = 1 } ≡ ownOf r
-own-some r {from} {to} {cell} p q e h =
-    let c : cell - 1 ≡ cleared (r .cell) = omega arith in
-    rw (eq-eqb (markIn (r .cell)) 1 (omega arith)) (λ i. record { from = p i; to = q i; cell = c i; mark = 1 })
+pub take-all : (r : Run) {from to cell : ℕ} → from ≡ r .start → to ≡ endOf r → cell ≡ r .cell → (markIn cell ≡ 0 → ⊥) →
+    Taken r (record { from = from; to = to; cell = cell - 1; mark = 1 })
+take-all r {from} {to} p q e h =
+    let own = eq-eqb (markIn (r .cell)) 1 (omega arith) in
+    let n : to - from ≡ r .length = omega arith in
+    record { range = λ b. (λ i. sym own i && inRange (p i) (n i) b); cell = omega arith; mark = omega arith }
 
 -- ---- One byte
 
@@ -51,54 +55,28 @@ module _ (view old : Bytes) where
   abbrev pub Half : ℕ → ℕ → ℕ → Type 0
   Half b d c = ((c ≡ published view old b) × (d ≡ 0)) ⊎ ((c ≡ old b) × (d ≡ view b))
 
-  -- What a run r before the runs us does as it is laid: its cell is fine, it counts where it is unpublished, and its bytes are published.
-  pub record Turn (r : Run) (us : List Run) (s : Own) : Type 0 where
-    pub fine : Fine (s .cell)
-    pub count : length (marked (r ∷ us)) ≡ s .mark + length (marked us)
-    pub cell : (b c : ℕ) → Half b (cellAt (r ∷ us) b) c → Half b (cellAt us b) (cond (inRange (s .from) (s .to - s .from) b) (s .cell) c)
+  -- A run r before the runs us is laid.
+  half-next : (r : Run) (us : List Run) → Lawful (r ∷ us) → (b c : ℕ) → Half b (cellAt (r ∷ us) b) c →
+      Half b (cellAt us b) (cond (unpublished (r .cell) && inRange (r .start) (r .length) b) (cleared (r .cell)) c)
+  unfolding cellAt
+  half-next r us law b c = go (unpublished (r .cell)) (inRange (r .start) (r .length) b) refl alone
+    where
+      -- no later run has a byte of run r
+      alone : inRange (r .start) (r .length) b ≡ true → cellAt us b ≡ 0
+      alone e =
+          mean-before OFFSET-MAX (endOf r) (r .cell) us (law .in-order .1) b (ltb-true b (endOf r) (and-out (leb (r .start) b) _ e .1))
 
-  module _ (r : Run) (us : List Run) (law : Lawful (r ∷ us)) where
-    -- No later run has a byte of run r.
-    alone : (b : ℕ) → inRange (r .start) (r .length) b ≡ true → cellAt us b ≡ 0
-    alone b e =
-        mean-before OFFSET-MAX (endOf r) (r .cell) us (law .in-order .1) b
-        (ltb-true b (endOf r) (and-out (leb (r .start) b) _ e .1))
+      given : {x : Bool} → unpublished (r .cell) ≡ x → r .cell ≡ view b → published view old b ≡ cond x (cleared (r .cell)) (old b)
+      given e p = λ i. cond ((ap unpublished (sym p) ∙ e) i) (cleared (sym p i)) (old b)
 
-    -- Run r as it is laid.
-    turned : Turn r us (ownOf r)
-    unfolding cellAt
-    turned = go (unpublished (r .cell)) refl
-      where
-        given : (b : ℕ) {x : Bool} → unpublished (r .cell) ≡ x → r .cell ≡ view b → published view old b ≡ cond x (cleared (r .cell)) (old b)
-        given b e p = λ i. cond ((ap unpublished (sym p) ∙ e) i) (cleared (sym p i)) (old b)
-
-        byte : (u x : Bool) → unpublished (r .cell) ≡ u → (b c : ℕ) → (x ≡ true → cellAt us b ≡ 0) → Half b (cond x (r .cell) (cellAt us b)) c →
-            Half b (cellAt us b) (cond (u && x) (cleared (r .cell)) c)
-        byte true true e b c z (inl p) = absurd (false≢true (ap unpublished (sym (p .1)) ∙ e))
-        byte true true e b c z (inr p) = inl (sym (given b e (p .1)), z refl)
-        byte false true e b c z (inl p) = inl (p .0, z refl)
-        byte false true e b c z (inr p) = inl (p .0 ∙ sym (given b e (p .1)), z refl)
-        byte true false e b c z p = p
-        byte false false e b c z p = p
-
-        go : (u : Bool) → unpublished (r .cell) ≡ u →
-            Turn r us
-            (cond u (record { from = r .start; to = endOf r; cell = cleared (r .cell); mark = 1 }) (record { from = 0; to = 0; cell = 0; mark = 0 }))
-        go true e =
-            record {
-              fine = clear-fine (r .cell) (inr (law .numbered .0, law .numbered .1));
-              count = omega (arith, ap length (marked-in r us e));
-              cell = λ b c p.
-                  let n : r .length ≡ endOf r - r .start = omega arith in
-                  subst (λ (k : ℕ). Half b (cellAt us b) (cond (inRange (r .start) k b) (cleared (r .cell)) c)) n
-                  (byte true (inRange (r .start) (r .length) b) e b c (alone b) p);
-            }
-        go false e =
-            record {
-              fine = inl refl;
-              count = omega (arith, ap length (marked-out r us e));
-              cell = λ b c p. rw (range-behind 0 0 b (omega arith)) (byte false (inRange (r .start) (r .length) b) e b c (alone b) p);
-            }
+      go : (u x : Bool) → unpublished (r .cell) ≡ u → (x ≡ true → cellAt us b ≡ 0) → Half b (cond x (r .cell) (cellAt us b)) c →
+          Half b (cellAt us b) (cond (u && x) (cleared (r .cell)) c)
+      go true true e z (inl p) = absurd (false≢true (ap unpublished (sym (p .1)) ∙ e))
+      go true true e z (inr p) = inl (sym (given e (p .1)), z refl)
+      go false true e z (inl p) = inl (p .0, z refl)
+      go false true e z (inr p) = inl (p .0 ∙ sym (given e (p .1)), z refl)
+      go true false e z p = p
+      go false false e z p = p
 
 -- ---- The loop
 
@@ -188,14 +166,18 @@ module _ {size v w own cell : ℕ} {xs : List ℕ} (t : Layable size v w own cel
     law : Lawful (r ∷ us)
     law = subst Lawful next (k .rest)
 
-    module _ {s : Own} (q : s ≡ ownOf (runNo (runs (take (v + size - v) (drop v ys))) i)) where
-      -- What it does as it is laid.
-      pub lay-turn : Turn view old r us s
-      lay-turn = subst (Turn view old r us) (sym (q ∙ ap (λ (m : List ℕ). ownOf (runNo (runs m) i)) (lay-view k))) (turned view old r us law)
+    module _ {s : Own} (q : Taken (runNo (runs (take (v + size - v) (drop v ys))) i) s) where
+      -- What is laid of it.
+      taken : Taken r s
+      taken = subst (λ (m : List ℕ). Taken (runNo (runs m) i) s) (lay-view k) q
+
+      -- Its cell is fine.
+      pub lay-fine : Fine (s .cell)
+      lay-fine = subst Fine (sym (taken .cell)) (clear-fine (r .cell) (inr (law .numbered .0, law .numbered .1)))
 
       -- It counts where it is unpublished.
       pub lay-count : left ≡ s .mark + length (marked us)
-      lay-count = k .counted ∙ ap (λ (ps : List Run). length (marked ps)) next ∙ lay-turn .count
+      lay-count = omega (arith, k .counted, ap (λ (ps : List Run). length (marked ps)) next, marked-first r us, taken .mark)
 
       -- The runs behind it are left.
       pub lay-next : {zs : List ℕ} → Below size w (λ b c. c ≡ overwrite (s .from) (s .to - s .from) (s .cell) (bytesOf (partAt w size ys)) b) ys zs →
@@ -204,5 +186,9 @@ module _ {size v w own cell : ℕ} {xs : List ℕ} (t : Layable size v w own cel
           record {
             rest = record { in-order = rising-earlier OFFSET-MAX (endOf r) (r .cell) 0 us (omega arith) (law .in-order .1); numbered = law .numbered .2 };
             counted = omega (arith, lay-count);
-            below = below-then (t .two .target-in) (k .below) d (λ b p. lay-turn .cell b _ (subst (λ (ps : List Run). Half view old b (cellAt ps b) (bytesOf (partAt w size ys) b)) next p));
+            below = below-then (t .two .target-in) (k .below) d byte;
           }
+        where
+          byte : (b : ℕ) → Half view old b (cellAt (drop i rs) b) (bytesOf (partAt w size ys) b) →
+              Half view old b (cellAt us b) (overwrite (s .from) (s .to - s .from) (s .cell) (bytesOf (partAt w size ys)) b)
+          byte b p = rw (taken .range b, taken .cell) (half-next view old r us law b (bytesOf (partAt w size ys) b) (rw next at p))

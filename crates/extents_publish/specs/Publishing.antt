@@ -1,15 +1,14 @@
 -- A published map that changes in its slice while a view is published on it.
-use Prim.Native.Nat.{ℕ, _≤_}
+use Prim.Native.Nat.{ℕ, _-_, _≤_}
 use mathlib.Core.Path.{_≡_}
 use mathlib.Core.Logic.{_⊎_}
-use mathlib.Core.Bool.{true, cond}
+use mathlib.Core.Bool.{true, _&&_}
 use mathlib.Core.List.{List}
 use lib.ListN.{length}
 use Rattle.rows.specs.Limits.{ROWS}
-use Rattle.extents_meaning.specs.Cells.{Bytes, numberIn, unpublished, cleared, published}
+use Rattle.extents_meaning.specs.Cells.{Bytes, numberIn, markIn, unpublished, cleared, inRange, published}
 use Rattle.extents_meaning.specs.Runs.{Run}
 use Rattle.extents_meaning.specs.Maps.{runs, bytesOf, lawful, partAt}
-use Rattle.extents_map.specs.Beside.{endOf}
 use Rattle.extents_pair.specs.Marks.{marked}
 use Rattle.extents_weave.specs.Rewrites.{OnlyPart, Apart}
 use Rattle.extents_publish.specs.declared.Own.{Own}
@@ -24,11 +23,11 @@ pub record Below (size w : ℕ) (P : ℕ → ℕ → Type 0) (xs ys : List ℕ) 
 abbrev pub publishedIn : ℕ → ℕ → ℕ → List ℕ → Bytes
 publishedIn size v w xs = published (bytesOf (partAt v size xs)) (bytesOf (partAt w size xs))
 
--- A run as it is laid: its range, empty where the run is published, its cell without the mark, and the mark.
-abbrev pub ownOf : Run → Own
-ownOf r =
-    cond (unpublished (r .cell)) (record { from = r .start; to = endOf r; cell = cleared (r .cell); mark = 1 })
-    (record { from = 0; to = 0; cell = 0; mark = 0 })
+-- What is laid of a run: its bytes where the run is unpublished, else none; its cell without the mark; and its mark.
+pub record Taken (r : Run) (s : Own) : Type 0 where
+  pub range : (b : ℕ) → inRange (s .from) (s .to - s .from) b ≡ unpublished (r .cell) && inRange (r .start) (r .length) b
+  pub cell : s .cell ≡ cleared (r .cell)
+  pub mark : s .mark ≡ markIn (r .cell)
 
 -- A view at v with `own` unpublished runs and a range with a cell can be laid on the map at w.
 pub record Layable (size v w own cell : ℕ) (xs : List ℕ) : Type 0 where

@@ -13,13 +13,13 @@ ghost use Rattle.extents_map.specs.Beside.{runNo};
 ghost use Rattle.extents_map.specs.Mixes.{mix};
 ghost use Rattle.extents_map.specs.declared.scan.Mode.the-variants.{Publish};
 ghost use Rattle.extents_pair.specs.InPairs.{twoMapsIn, viewIn, belowIn, OwnCounted};
-ghost use Rattle.extents_publish.specs.Publishing.{Below, publishedIn, ownOf, Layable};
+ghost use Rattle.extents_publish.specs.Publishing.{Below, publishedIn, Taken, Layable};
 use extents_map::locate;
 use extents_map::scan::Mix;
 use extents_map::scan::Mode;
 use extents_pair::Pair;
 
-// A run of a view as it is laid: its range, empty where the run is published, its cell without the mark, and the mark.
+// What is laid of a run of a view: its range, empty where the run is published, its cell without the mark, and its mark.
 struct Own {
     from: u32,
     to: u32,
@@ -78,17 +78,17 @@ fn lay_all(maps: &mut [u32], size: usize, v: usize, w: usize, own: usize, range:
     put(maps, size, w, range.start, range.end, range.cell)
 }
 
-// Run i as it is laid: nothing where it is published.
+// What is laid of run i: nothing where it is published.
 fn own_at(map: &[u32], i: usize) -> Own
     requires { ⌜ (lawful (now map) ≡ true) × (i < length (runs (now map))) ⌝ }
-    ensures { λ r. ⌜ r ≡ ownOf (runNo (runs (now (map .entry))) i) ⌝ }
+    ensures { λ r. ⌜ Taken (runNo (runs (now (map .entry))) i) r ⌝ }
 {
     let cell = locate::cell_at(map, i);
     if cell % 2 == 0 {
         return Own {
             from: 0,
             to: 0,
-            cell: 0,
+            cell: cell,
             mark: 0,
         };
     }

@@ -8,7 +8,7 @@ use lib.ListN.{drop}
 use denote.Ref.{now}
 use borrow.Author.Tests.{not-true, not-false}
 use Rattle.extents_meaning.specs.Maps.{runs, partAt}
-use Rattle.extents_publish.proofs.Laying.{Laying, lay-start, lay-length, lay-in, lay-stop, lay-end, lay-far, lay-here, lay-turn, lay-count, lay-next}
+use Rattle.extents_publish.proofs.Laying.{Laying, lay-start, lay-length, lay-in, lay-stop, lay-end, lay-far, lay-here, lay-fine, lay-count, lay-next}
 use Rattle.extents_publish.proofs.lay_all.Statement.{statement}
 use Rattle.extents_publish.proofs.lay_all.Tie as tie
 
@@ -42,7 +42,7 @@ own-at-requires c κs = lay-here (c .before .before .before .before .before .pre
 
 put-requires : tie.Need-put-requires Inv-loop μ-loop
 put-requires c κs =
-    (lay-in (c .before .before .before .before .before .before .before .pre) (c .before .before .before .before .before .loop .inv), lay-turn (c .before .before .before .before .before .before .before .pre) (c .before .before .before .before .before .loop .i) (c .before .before .before .before .before .loop .inv) (c .before .before .before .before .loop-test .taken) (c .before .own-at .ensures) .fine)
+    (lay-in (c .before .before .before .before .before .before .before .pre) (c .before .before .before .before .before .loop .inv), lay-fine (c .before .before .before .before .before .before .before .pre) (c .before .before .before .before .before .loop .i) (c .before .before .before .before .before .loop .inv) (c .before .before .before .before .loop-test .taken) (c .before .own-at .ensures))
 
 same-length : tie.Need-same-length Inv-loop μ-loop
 same-length c = c .before .before .before .put .kept .0 ∙ lay-length (c .before .before .before .before .before .before .before .before .before .before .before .pre) (c .before .before .before .before .before .before .before .before .before .loop .inv)
