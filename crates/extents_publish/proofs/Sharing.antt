@@ -53,14 +53,6 @@ pub record Shared (pair : Pair) (start end number : ℕ) (xs : List ℕ) : Type 
   pub own : OwnCounted pair xs
   pub few : length (runsOf (mix Publish start (end - start) (cellOf number 0) (viewIn pair xs) (belowIn pair xs))) ≤ pair .space
 
--- What the contract of `share` asks gives what a call relies on.
-pub ready : (pair : Pair) (start end number : ℕ) (xs : List ℕ) →
-    (twoMapsIn pair xs ≡ true)
-    × (((start ≤ end) × (start < end → 1 ≤ number) × (number ≤ ROWS) × OwnCounted pair xs)
-    × (length (runsOf (mix Publish start (end - start) (cellOf number 0) (viewIn pair xs) (belowIn pair xs))) ≤ pair .space)) →
-    end ≤ OFFSET-MAX → Shared pair start end number xs
-ready pair start end number xs p h = record { two = p .0; order = p .1 .0 .0; inside = h; low = p .1 .0 .2; own = p .1 .0 .3; few = p .1 .1 }
-
 module _ {pair : Pair} {start end number : ℕ} {xs : List ℕ} (s : Shared pair start end number xs) where
   -- the numbers of a map, and where both maps start
   abbrev size : ℕ

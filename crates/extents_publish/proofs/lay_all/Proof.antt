@@ -1,11 +1,10 @@
 -- `extents_publish::lay_all` meets its contract.
 use borrow.Author.Needs.{needs}
-use Prim.Native.Nat.{_-_, _≤_}
+use Prim.Native.Nat.{_-_}
 use native.Mathlib.Omega.{arith}
 use mathlib.Core.Path.{_≡_, _∙_}
 use mathlib.Core.Bool.{false≢true}
 use lib.ListN.{drop}
-use denote.Ref.{now}
 use borrow.Author.Tests.{not-true, not-false}
 use Rattle.extents_meaning.specs.Maps.{runs, partAt}
 use Rattle.extents_publish.proofs.Laying.{Laying, lay-start, lay-length, lay-in, lay-stop, lay-end, lay-far, lay-here, lay-fine, lay-count, lay-next}

@@ -1,6 +1,5 @@
 -- `extents_publish::own_at` meets its contract.
 use borrow.Author.Needs.{needs}
-use native.Mathlib.Omega.{arith}
 use denote.Ref.{now}
 use Rattle.extents_meaning.specs.Maps.{runs}
 use Rattle.extents_map.specs.Beside.{runNo}
