@@ -21,6 +21,7 @@ use Rattle.extents_pair.specs.Marks.{marked}
 use Rattle.extents_pair.proofs.Parts.{lent, part-length}
 use Rattle.extents_pair.proofs.Gathering.{marked-fewer, marked-none}
 use Rattle.extents_pair.proofs.Bounds.{marked-first}
+use Rattle.extents_weave.specs.Rewrites.{Apart}
 use Rattle.extents_weave.proofs.Homes.{only-length, only-apart}
 use Rattle.extents_publish.specs.Publishing.{Below, Taken, Layable}
 use Rattle.extents_publish.specs.declared.Own.{Own}
@@ -82,15 +83,30 @@ module _ (view old : Bytes) where
 
 -- The slice xs has become ys, with the unpublished runs of the view at v laid on the map at w but for the runs us, of which `left` are unpublished.
 pub record Laying (size v w : ℕ) (xs : List ℕ) (us : List Run) (left : ℕ) (ys : List ℕ) : Type 0 where
+  pub two : Apart size w v xs
   pub rest : Lawful us
   pub counted : left ≡ length (marked us)
   pub below : Below size w (λ b. Half (bytesOf (partAt v size xs)) (bytesOf (partAt w size xs)) b (cellAt us b)) xs ys
 
-module _ {size v w own cell : ℕ} {xs : List ℕ} (t : Layable size v w own cell xs) where
-  -- the view's runs
-  abbrev rs : List Run
-  rs = runs (partAt v size xs)
+-- A turn of the loop: run i is laid as s, where the map fits then.
+pub record Turn (size v w : ℕ) (xs : List ℕ) (i left : ℕ) (ys : List ℕ) (s : Own) : Type 0 where
+  pub far : i < size
+  pub fine : Fine (s .cell)
+  pub counted : s .mark ≤ left
+  pub next : {zs : List ℕ} → Below size w (λ b c. c ≡ overwrite (s .from) (s .to - s .from) (s .cell) (bytesOf (partAt w size ys)) b) ys zs →
+      Laying size v w xs (drop (i + 1) (runs (partAt v size xs))) (left - s .mark) zs
 
+-- At first all runs are to come.
+pub lay-start : {size v w own cell : ℕ} {xs : List ℕ} → Layable size v w own cell xs → Laying size v w xs (runs (partAt v size xs)) own xs
+lay-start {size} {v} {w} {own} {cell} {xs} t =
+    record {
+      two = t .two;
+      rest = lawful-map (partAt v size xs) (t .two .other-law) .lawful-runs;
+      counted = t .counted;
+      below = below-start (t .two .target-in) (t .law) (λ b. inr (refl, refl));
+    }
+
+module _ {size v w left : ℕ} {xs ys : List ℕ} {us : List Run} (k : Laying size v w xs us left ys) where
   -- the bytes of the view and of the published map
   abbrev view : Bytes
   view = bytesOf (partAt v size xs)
@@ -98,97 +114,84 @@ module _ {size v w own cell : ℕ} {xs : List ℕ} (t : Layable size v w own cel
   abbrev old : Bytes
   old = bytesOf (partAt w size xs)
 
-  -- At first all runs are to come.
-  pub lay-start : Laying size v w xs rs own xs
-  lay-start =
+  -- The slice is as long as it was.
+  pub lay-length : length ys ≡ length xs
+  lay-length = only-length (k .two .target-in) (k .below .only)
+
+  -- The lawful map at w stands in the slice.
+  pub lay-in : (w + size ≤ length ys) × (lawful (partAt w size ys) ≡ true)
+  lay-in = (omega (arith, k .two .target-in, lay-length), k .below .law)
+
+  -- The lent view is as it was.
+  lay-view : take (v + size - v) (drop v ys) ≡ partAt v size xs
+  lay-view = lent v size ys ∙ only-apart (k .two .target-in) (k .below .only) v (k .two .apart)
+
+  -- Where something does not fit, each byte is published or as it was.
+  pub lay-stop : {zs : List ℕ} → zs ≡ ys → Below size w (λ b c. (c ≡ published view old b) ⊎ (c ≡ old b)) xs zs
+  lay-stop q = rw q (record { only = k .below .only; law = k .below .law; bytes = λ b. go b (k .below .bytes b) })
+    where
+      go : (b : ℕ) {d c : ℕ} → Half view old b d c → (c ≡ published view old b) ⊎ (c ≡ old b)
+      go b (inl p) = inl (p .0)
+      go b (inr p) = inr (p .0)
+
+  -- With no unpublished run left, the range is laid on the published bytes.
+  pub lay-end : left ≡ 0 → (s n e : ℕ) {zs : List ℕ} → Below size w (λ b c. c ≡ overwrite s n e (bytesOf (partAt w size ys)) b) ys zs →
+      Below size w (λ b c. c ≡ overwrite s n e (published view old) b) xs zs
+  lay-end z s n e d = below-then (k .two .target-in) (k .below) d (λ b p. ap (λ (c : ℕ). cond (inRange s n b) e c) (go b p))
+    where
+      go : (b : ℕ) {c : ℕ} → Half view old b (cellAt us b) c → c ≡ published view old b
+      go b (inl p) = p .0
+      go b (inr p) = p .0 ∙ sym (rw (← p .1, marked-none us (k .rest) (sym (k .counted) ∙ z) b))
+
+-- Run i is laid.
+module _ {size v w left : ℕ} {xs ys : List ℕ} (i : ℕ) (k : Laying size v w xs (drop i (runs (partAt v size xs))) left ys) (l : 0 < left) where
+  -- the view's runs
+  abbrev rs : List Run
+  rs = runs (partAt v size xs)
+
+  -- run i, and the runs behind it
+  abbrev r : Run
+  r = runNo rs i
+
+  abbrev us : List Run
+  us = drop (i + 1) rs
+
+  -- There is a run i.
+  some : i < length rs
+  some = omega (arith, k .counted, marked-fewer (drop i rs), length-drop i rs)
+
+  -- It is read from the lent view.
+  pub lay-here : (lawful (take (v + size - v) (drop v ys)) ≡ true) × (i < length (runs (take (v + size - v) (drop v ys))))
+  lay-here = rw (lay-view k) (k .two .other-law, some)
+
+  -- It is laid.
+  pub lay-turn : {s : Own} → Taken (runNo (runs (take (v + size - v) (drop v ys))) i) s → Turn size v w xs i left ys s
+  lay-turn {s} q =
       record {
-        rest = lawful-map (partAt v size xs) (t .two .other-law) .lawful-runs;
-        counted = t .counted;
-        below = below-start (t .two .target-in) (t .law) (λ b. inr (refl, refl));
+        far = omega (arith, some, lawful-map (partAt v size xs) (k .two .other-law) .fit, part-length v size xs (k .two .other-in));
+        fine = subst Fine (sym (taken .cell)) (clear-fine (r .cell) (inr (law .numbered .0, law .numbered .1)));
+        counted = omega (arith, count);
+        next = λ d.
+            record {
+              two = k .two;
+              rest = record { in-order = rising-earlier OFFSET-MAX (endOf r) (r .cell) 0 us (omega arith) (law .in-order .1); numbered = law .numbered .2 };
+              counted = omega (arith, count);
+              below = below-then (k .two .target-in) (k .below) d byte;
+            };
       }
+    where
+      next : drop i rs ≡ r ∷ us
+      next = let e : suc i ≡ i + 1 = omega arith in drop-cons rs i (runOf 0 0 0) some ∙ ap (λ (n : ℕ). r ∷ drop n rs) e
 
-  module _ {us : List Run} {left : ℕ} {ys : List ℕ} (k : Laying size v w xs us left ys) where
-    -- The slice is as long as it was.
-    pub lay-length : length ys ≡ length xs
-    lay-length = only-length (t .two .target-in) (k .below .only)
+      law : Lawful (r ∷ us)
+      law = subst Lawful next (k .rest)
 
-    -- The lawful map at w stands in the slice.
-    pub lay-in : (w + size ≤ length ys) × (lawful (partAt w size ys) ≡ true)
-    lay-in = (omega (arith, t .two .target-in, lay-length), k .below .law)
-
-    -- The lent view is as it was.
-    lay-view : take (v + size - v) (drop v ys) ≡ partAt v size xs
-    lay-view = lent v size ys ∙ only-apart (t .two .target-in) (k .below .only) v (t .two .apart)
-
-    -- Where something does not fit, each byte is published or as it was.
-    pub lay-stop : {zs : List ℕ} → zs ≡ ys → Below size w (λ b c. (c ≡ published view old b) ⊎ (c ≡ old b)) xs zs
-    lay-stop q = rw q (record { only = k .below .only; law = k .below .law; bytes = λ b. go b (k .below .bytes b) })
-      where
-        go : (b : ℕ) {d c : ℕ} → Half view old b d c → (c ≡ published view old b) ⊎ (c ≡ old b)
-        go b (inl p) = inl (p .0)
-        go b (inr p) = inr (p .0)
-
-    -- With no unpublished run left, the range is laid on the published bytes.
-    pub lay-end : left ≡ 0 → (s n e : ℕ) {zs : List ℕ} → Below size w (λ b c. c ≡ overwrite s n e (bytesOf (partAt w size ys)) b) ys zs →
-        Below size w (λ b c. c ≡ overwrite s n e (published view old) b) xs zs
-    lay-end z s n e d = below-then (t .two .target-in) (k .below) d (λ b p. ap (λ (c : ℕ). cond (inRange s n b) e c) (go b p))
-      where
-        go : (b : ℕ) {c : ℕ} → Half view old b (cellAt us b) c → c ≡ published view old b
-        go b (inl p) = p .0
-        go b (inr p) = p .0 ∙ sym (rw (← p .1, marked-none us (k .rest) (sym (k .counted) ∙ z) b))
-
-  -- Run i is laid.
-  module _ (i : ℕ) {left : ℕ} {ys : List ℕ} (k : Laying size v w xs (drop i rs) left ys) (l : 0 < left) where
-    -- run i, and the runs behind it
-    abbrev r : Run
-    r = runNo rs i
-
-    abbrev us : List Run
-    us = drop (i + 1) rs
-
-    -- There is a run i.
-    some : i < length rs
-    some = omega (arith, k .counted, marked-fewer (drop i rs), length-drop i rs)
-
-    -- The map has more than i numbers.
-    pub lay-far : i < size
-    lay-far = omega (arith, some, lawful-map (partAt v size xs) (t .two .other-law) .fit, part-length v size xs (t .two .other-in))
-
-    -- It is read from the lent view.
-    pub lay-here : (lawful (take (v + size - v) (drop v ys)) ≡ true) × (i < length (runs (take (v + size - v) (drop v ys))))
-    lay-here = rw (lay-view k) (t .two .other-law, some)
-
-    -- It comes next.
-    next : drop i rs ≡ r ∷ us
-    next = let e : suc i ≡ i + 1 = omega arith in drop-cons rs i (runOf 0 0 0) some ∙ ap (λ (n : ℕ). r ∷ drop n rs) e
-
-    -- The runs from it on are lawful.
-    law : Lawful (r ∷ us)
-    law = subst Lawful next (k .rest)
-
-    module _ {s : Own} (q : Taken (runNo (runs (take (v + size - v) (drop v ys))) i) s) where
-      -- What is laid of it.
       taken : Taken r s
       taken = subst (λ (m : List ℕ). Taken (runNo (runs m) i) s) (lay-view k) q
 
-      -- Its cell is fine.
-      pub lay-fine : Fine (s .cell)
-      lay-fine = subst Fine (sym (taken .cell)) (clear-fine (r .cell) (inr (law .numbered .0, law .numbered .1)))
+      count : left ≡ s .mark + length (marked us)
+      count = omega (arith, k .counted, ap (λ (ps : List Run). length (marked ps)) next, marked-first r us, taken .mark)
 
-      -- It counts where it is unpublished.
-      pub lay-count : left ≡ s .mark + length (marked us)
-      lay-count = omega (arith, k .counted, ap (λ (ps : List Run). length (marked ps)) next, marked-first r us, taken .mark)
-
-      -- The runs behind it are left.
-      pub lay-next : {zs : List ℕ} → Below size w (λ b c. c ≡ overwrite (s .from) (s .to - s .from) (s .cell) (bytesOf (partAt w size ys)) b) ys zs →
-          Laying size v w xs us (left - s .mark) zs
-      lay-next d =
-          record {
-            rest = record { in-order = rising-earlier OFFSET-MAX (endOf r) (r .cell) 0 us (omega arith) (law .in-order .1); numbered = law .numbered .2 };
-            counted = omega (arith, lay-count);
-            below = below-then (t .two .target-in) (k .below) d byte;
-          }
-        where
-          byte : (b : ℕ) → Half view old b (cellAt (drop i rs) b) (bytesOf (partAt w size ys) b) →
-              Half view old b (cellAt us b) (overwrite (s .from) (s .to - s .from) (s .cell) (bytesOf (partAt w size ys)) b)
-          byte b p = rw (taken .range b, taken .cell) (half-next view old r us law b (bytesOf (partAt w size ys) b) (rw next at p))
+      byte : (b : ℕ) → Half (view k) (old k) b (cellAt (drop i rs) b) (bytesOf (partAt w size ys) b) →
+          Half (view k) (old k) b (cellAt us b) (overwrite (s .from) (s .to - s .from) (s .cell) (bytesOf (partAt w size ys)) b)
+      byte b p = rw (taken .range b, taken .cell) (half-next (view k) (old k) r us law b (bytesOf (partAt w size ys) b) (rw next at p))
