@@ -28,8 +28,7 @@ use Rattle.extents_weave.specs.Rewrites.{Weavable}
 use Rattle.extents_weave.proofs.Homes.{only-length, only-apart, only-with}
 use Rattle.extents_weave.proofs.Pairs.{below-weavable}
 use Rattle.extents_publish.specs.Publishing.{Below, Layable}
-use Rattle.extents_publish.proofs.Below.{below-made, below-then}
-use Rattle.extents_publish.proofs.Laying.{clear-fine}
+use Rattle.extents_publish.proofs.Laying.{below-made, below-then, clear-fine}
 
 -- What holds of two cells holds of the one that is picked.
 either : (P : ℕ → Type 0) (x : Bool) {c d : ℕ} → P c → P d → P (cond x c d)

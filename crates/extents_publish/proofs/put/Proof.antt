@@ -6,7 +6,7 @@ use denote.Ref.{now}
 use Rattle.extents_meaning.specs.Maps.{bytesOf, lawful, partAt}
 use Rattle.extents_pair.proofs.Parts.{lent}
 use Rattle.extents_pair.proofs.Sweeps.{over-none}
-use Rattle.extents_publish.proofs.Below.{below-start, put-fits, put-kept}
+use Rattle.extents_publish.proofs.Laying.{below-start, put-fits, put-kept}
 use Rattle.extents_publish.proofs.put.Statement.{statement}
 use Rattle.extents_publish.proofs.put.Tie as tie
 
