@@ -54,14 +54,6 @@ pub part-some : (s l c : ℕ) → 1 ≤ l → partOf s l c ≡ runOf s l c ∷ [
 unfolding partOf
 part-some s l c h = rw (ne-eqb l 0 (λ e. omega arith))
 
--- how many runs such a part is
-pub size-none : (s l c : ℕ) → l ≡ 0 → 0 ≡ length (partOf s l c)
-size-none s l c e = ap length (sym (part-none s l c e))
-
--- A part of a length other than 0 counts as one run.
-pub size-some : (s l c : ℕ) → (l ≡ 0 → ⊥) → 1 ≡ length (partOf s l c)
-size-some s l c f = ap length (sym (part-some s l c (omega arith)))
-
 -- ---- The first i runs of a list behind a run p
 
 -- the others may follow the last of them
@@ -353,12 +345,6 @@ module _ {rs : List Run} {first end i : ℕ} (k : Reaching rs first end i) where
           rw (drop-cons rs i (runOf 0 0 0) h)
           (record { rising = f h; filled = n .0 .filled; inside = n .0 .inside; written = n .0 .written; longest = a h }, n .1)
       go (no h) = let o : length rs ≤ i = omega arith in rw (drop-of-length-le rs o) tt
-
--- where no run is met, those from there on leave the bytes before the end of the range free
-pub free-behind : {rs : List Run} {first end cell i : ℕ} → Behind rs first end cell i → i ≤ first → (b : ℕ) → b < end → cellAt (drop first rs) b ≡ 0
-free-behind {rs} {first} {end} {cell} {i} m h b l =
-    let e : i ≡ first = omega (arith, m .low) in
-    ap (λ (k : ℕ). cellAt (drop k rs) b) (sym e) ∙ mean-before OFFSET-MAX end cell (drop i rs) (m .apart) b l
 
 -- ---- A range between its sides
 

@@ -24,10 +24,6 @@ runBefore rs i = getD (runOf 0 0 0 ∷ rs) i (runOf 0 0 0)
 abbrev pub sideOf : Side → List Run
 sideOf s = partOf (s .start) (s .length) (s .cell)
 
--- The runs of a range and of what stays beside it.
-abbrev pub partsOf : Side → ℕ → ℕ → Side → List Run
-partsOf left middle cell right = sideOf left ++ (partOf (left .bound) middle cell ++ sideOf right)
-
 -- run `at` is the first that a range from `start` on meets: those before it end earlier, or at the start with another cell
 pub record Met (rs : List Run) (start cell at : ℕ) : Type 0 where
   pub most : at ≤ length rs

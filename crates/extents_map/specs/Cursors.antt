@@ -2,13 +2,13 @@
 use Prim.Native.Nat.{ℕ, _+_, _*_, _-_, _≤_, _<_, min}
 use mathlib.Core.Path.{_≡_}
 use mathlib.Core.Bool.{true, cond}
-use mathlib.Core.List.{List, [], _∷_, _++_}
-use lib.ListN.{length, take, drop}
+use mathlib.Core.List.{List, [], _∷_}
+use lib.ListN.{length, drop}
 use lib.Dec.{eqb, ltb}
 use Rattle.rows.specs.Limits.{OFFSET-MAX}
 use Rattle.extents_meaning.specs.Cells.{inRange}
 use Rattle.extents_meaning.specs.Runs.{Run, runOf, cellAt, Open}
-use Rattle.extents_meaning.specs.Maps.{fours, runs, bytesOf, lawful}
+use Rattle.extents_meaning.specs.Maps.{runs, bytesOf, lawful}
 use Rattle.extents_meaning.specs.Lookups.{changeOf}
 use Rattle.extents_map.specs.declared.scan.Look.{Look}
 use Rattle.extents_map.specs.declared.scan.Both.{Both}
@@ -58,7 +58,3 @@ pub record BothLooked (xs : List ℕ) (i : ℕ) (os : List ℕ) (j : ℕ) (mix :
 -- a part of a run, none where its length is 0
 unfoldable pub partOf : ℕ → ℕ → ℕ → List Run
 partOf start length cell = cond (eqb length 0) [] (runOf start length cell ∷ [])
-
--- the slice with runs put from run i on
-abbrev pub putRuns : List ℕ → ℕ → List Run → List ℕ
-putRuns xs i rs = (take (4 * i) xs ++ fours rs) ++ drop (4 * i + length (fours rs)) xs
