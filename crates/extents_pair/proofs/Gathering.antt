@@ -65,7 +65,7 @@ no-marks (r ∷ rs) z = go (unpublished (r .cell)) z (no-marks rs)
 
 module _ (rs : List Run) (law : Lawful rs) (z : length (marked rs) ≡ 0) where
   -- Without unpublished runs no byte is unpublished.
-  marked-none : (b : ℕ) → unpublished (cellAt rs b) ≡ false
+  pub marked-none : (b : ℕ) → unpublished (cellAt rs b) ≡ false
   marked-none = no-marks-out rs (no-marks rs z)
 
   -- A view without unpublished runs is refreshed to the published map.

@@ -15,8 +15,8 @@ use Rattle.extents_map.specs.Beside.{endOf, runNo}
 use Rattle.extents_pair.specs.Marks.{marked}
 use Rattle.extents_pair.proofs.Spots.{here-at}
 use Rattle.extents_pair.proofs.Parts.{bytes-map, map-same}
-use Rattle.extents_pair.proofs.Gathering.{marked-fewer, as-published-none}
-use Rattle.extents_pair.proofs.Bounds.{marked-first, Tally, tally-none, tally-next}
+use Rattle.extents_pair.proofs.Gathering.{marked-fewer, as-published-none, marked-at}
+use Rattle.extents_pair.proofs.Bounds.{marked-first}
 use Rattle.extents_refresh.specs.Clearing.{Apart, Cleared}
 
 -- ---- One run of a list
@@ -130,16 +130,16 @@ first-apart (r ∷ rs) l z h = rw z (λ p q. absurd (omega (arith, l .numbered .
 -- Some marks are cleared in place, and all of the first i runs are published.
 pub record Clearing (xs₀ xs : List ℕ) (left i : ℕ) : Type 0 where
   pub done : Cleared xs₀ left xs
-  pub passed : Tally xs 0 i
+  pub passed : length (marked (drop i (runs xs))) ≡ length (marked (runs xs))
 
 -- At first no mark is cleared.
 pub clear-start : (xs₀ : List ℕ) {own : ℕ} → lawful xs₀ ≡ true → own ≡ length (marked (runs xs₀)) → Clearing xs₀ xs₀ own 0
-clear-start xs₀ law e = record { done = record { law = law; same = refl; mean = λ b. refl; all = e }; passed = tally-none xs₀ }
+clear-start xs₀ law e = record { done = record { law = law; same = refl; mean = λ b. refl; all = e }; passed = refl }
 
 module _ {xs₀ xs : List ℕ} {left i : ℕ} (k : Clearing xs₀ xs left i) (h : 0 < left) where
   -- While an unpublished run is left there is a run i.
   here : i < length (runs xs)
-  here = omega (arith, k .done .all, k .passed .found, marked-fewer (drop i (runs xs)), length-drop i (runs xs))
+  here = omega (arith, k .done .all, k .passed, marked-fewer (drop i (runs xs)), length-drop i (runs xs))
 
   -- The four numbers of run i stand in the slice, which has its length.
   pub clear-room : (i * 4 + 4 ≤ length xs) × (length xs ≡ length xs₀)
@@ -148,8 +148,8 @@ module _ {xs₀ xs : List ℕ} {left i : ℕ} (k : Clearing xs₀ xs left i) (h 
   -- A published run is passed.
   pub clear-skip : (getD xs (i * 4 + 3) 0 ≡ 1 → ⊥) → Clearing xs₀ xs left (i + 1)
   clear-skip p =
-      let m : 0 + getD xs (i * 4 + 3) 0 ≡ 0 = omega (arith, p, mark-at xs (k .done .law) i here) in
-      record { done = k .done; passed = rw m at (tally-next xs (k .done .law) (k .passed) here) }
+      let law = k .done .law in
+      record { done = k .done; passed = omega (arith, k .passed, marked-at xs law i here, p, mark-at xs law i here) }
 
   -- The mark of an unpublished run that is apart from both neighbours is cleared.
   pub clear-one : getD xs (i * 4 + 3) 0 ≡ 1 → (i < length (runs xs) → Apart (runOf 0 0 0) (runs xs) i) →
@@ -166,7 +166,6 @@ module _ {xs₀ xs : List ℕ} {left i : ℕ} (k : Clearing xs₀ xs left i) (h 
       let fewer = clear-marked rs i here in
       let rest = ap (λ (l : List Run). length (marked l)) (ap (drop (i + 1)) u ∙ drop-set-lt (i + 1) rs i r (omega arith)) in
       let marks = ap (λ (l : List Run). length (marked l)) u in
-      let size : length (runs (set xs (i * 4 + 3) 0)) ≡ length rs = ap (λ (l : List Run). length l) u ∙ length-set rs i r in
       record {
         done =
             record {
@@ -175,11 +174,7 @@ module _ {xs₀ xs : List ℕ} {left i : ℕ} (k : Clearing xs₀ xs left i) (h 
               mean = λ b. ap (λ (l : List Run). asPublished (cellAt l) b) u ∙ clear-mean rs i b ∙ k .done .mean b;
               all = omega (arith, k .done .all, fewer, marks, mark-at xs law i here, p);
             };
-        passed =
-            record {
-              passed = omega (arith, here, size);
-              found = omega (arith, tally-next xs law (k .passed) here .found, rest, fewer, marks, mark-at xs law i here, p);
-            };
+        passed = omega (arith, k .passed, marked-at xs law i here, rest, fewer, marks, mark-at xs law i here, p);
       }
 
 -- A map without an unpublished run left is marked published.

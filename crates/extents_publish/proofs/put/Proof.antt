@@ -5,7 +5,7 @@ use mathlib.Core.Path.{refl, sym, ap, _∙_}
 use denote.Ref.{now}
 use Rattle.extents_meaning.specs.Maps.{bytesOf, lawful, partAt}
 use Rattle.extents_pair.proofs.Parts.{lent}
-use Rattle.extents_pair.proofs.Sweeps.{over-none}
+use Rattle.extents_pair.proofs.Sweeps.{over-out}
 use Rattle.extents_publish.proofs.Laying.{below-start, put-fits, put-kept}
 use Rattle.extents_publish.proofs.put.Statement.{statement}
 use Rattle.extents_publish.proofs.put.Tie as tie
@@ -14,7 +14,7 @@ returns : tie.Need-returns
 returns c =
     let a = c .before .before .args in
     let f = bytesOf (partAt (a .w) (a .size) (now (a .maps))) in
-    (λ _. below-start (c .before .before .pre .0 .0) (c .before .before .pre .0 .1) (λ b. sym (over-none (a .start) (a .end) (a .cell) f b (c .if1 .taken))), λ _. refl)
+    (λ _. below-start (c .before .before .pre .0 .0) (c .before .before .pre .0 .1) (λ b. sym (over-out (a .start) (a .end) (a .cell) f b (λ l. omega (arith, c .if1 .taken)))), λ _. refl)
 
 add-lay : tie.Need-add-lay
 add-lay c = search needs
