@@ -16,16 +16,6 @@ use Rattle.extents_pair.proofs.Spots.{noRun, here-at}
 
 -- ---- Unpublished runs
 
--- an unpublished one is kept
-pub marked-in : (r : Run) (rs : List Run) → unpublished (r .cell) ≡ true → marked (r ∷ rs) ≡ r ∷ marked rs
-unfolding marked
-marked-in r rs e = rw e
-
--- a published one is left out
-pub marked-out : (r : Run) (rs : List Run) → unpublished (r .cell) ≡ false → marked (r ∷ rs) ≡ marked rs
-unfolding marked
-marked-out r rs e = rw e
-
 -- A run counts as unpublished where its mark is 1.
 pub marked-first : (r : Run) (rs : List Run) → length (marked (r ∷ rs)) ≡ markIn (r .cell) + length (marked rs)
 unfolding marked
@@ -71,10 +61,6 @@ module _ (rs : List Run) (law : Lawful rs) (z : length (marked rs) ≡ 0) where
   -- A view without unpublished runs is refreshed to the published map.
   pub refreshed-none : (f : Bytes) (b : ℕ) → refreshed (cellAt rs) f b ≡ f b
   refreshed-none f b = rw (marked-none b)
-
-  -- A view without unpublished runs publishes nothing.
-  pub published-none : (f : Bytes) (b : ℕ) → published (cellAt rs) f b ≡ f b
-  published-none f b = rw (marked-none b)
 
   -- A view without unpublished runs has no mark to clear.
   pub as-published-none : (b : ℕ) → asPublished (cellAt rs) b ≡ cellAt rs b

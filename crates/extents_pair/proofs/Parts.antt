@@ -1,8 +1,8 @@
--- Parts of a slice that are lent and come back, and two maps in a slice of which one changes.
-use Prim.Native.Nat.{ℕ, _+_, _*_, _-_, _/_, _≤_, _<_}
+-- Parts of a slice that are lent and come back, and the bytes of the maps that they hold.
+use Prim.Native.Nat.{ℕ, _+_, _-_, _≤_, _<_}
 use native.Mathlib.Omega.{arith}
 use native.Mathlib.Decide.{decLt}
-use mathlib.Core.Path.{_≡_, sym, ap, subst, _∙_}
+use mathlib.Core.Path.{_≡_, sym, ap, _∙_}
 use mathlib.Core.Logic.{_⊎_, inl, inr}
 use mathlib.Core.Bool.{Bool, true, cond}
 use mathlib.Core.List.{List, _++_, append-assoc}
@@ -12,13 +12,12 @@ use lib.Dec.{leb}
 use borrow.Author.Tests.{le-leb}
 use borrow.Rule.Slice.PartMut.{putMid}
 use Rattle.rows.specs.Limits.{OFFSET-MAX}
-use Rattle.extents_meaning.specs.Cells.{Bytes, overwrite}
+use Rattle.extents_meaning.specs.Cells.{Bytes}
 use Rattle.extents_meaning.specs.Runs.{Run, cellAt, runsOf, Lawful}
 use Rattle.extents_meaning.specs.Maps.{mapOf, mapFor, spaceIn, runs, bytesOf, lawful, partAt, withPart}
 use Rattle.extents_meaning.proofs.Longest.{mean-behind, runs-mean, runs-same, runs-lawful, runs-back, lawful-fine}
-use Rattle.extents_meaning.proofs.Trips.{length-map, map-back, map-lawful, lawful-map}
-use Rattle.extents_pair.specs.RangeWrites.{withBytes, MapsApart}
-use Rattle.extents_pair.proofs.Sweeps.{over-out, Fits}
+use Rattle.extents_meaning.proofs.Trips.{map-back, map-lawful, lawful-map}
+use Rattle.extents_pair.proofs.Sweeps.{Fits}
 
 -- ---- A part lent and home again
 
@@ -123,117 +122,9 @@ module _ (space : ℕ) (f : Bytes) (k : Fits space f) where
 pub map-same : (space : ℕ) (f g : Bytes) → ((b : ℕ) → f b ≡ g b) → mapFor space f ≡ mapFor space g
 map-same space f g h = ap (mapOf space) (runs-same f g (λ b _. h b))
 
--- ---- Two maps in a slice
-
-module _ {size v w : ℕ} {xs : List ℕ} (t : MapsApart size v w xs) where
-  -- the published map fills its part
-  two-length : length (partAt w size xs) ≡ size
-  two-length = part-length w size xs (t .below-in)
-
-  -- The part has four numbers for each run of its space.
-  two-fours : 4 * (size / 4) ≡ size
-  two-fours = omega (arith, lawful-map (partAt w size xs) (t .below) .fours-in, two-length)
-
-  -- The published map's space is a quarter of its part.
-  two-space : spaceIn (partAt w size xs) ≡ size / 4
-  two-space = ap (λ (n : ℕ). n / 4) two-length
-
--- a slice is another one with the published map of some bytes, which fit
-pub record Holds (size w : ℕ) (xs : List ℕ) (f : Bytes) (ys : List ℕ) : Type 0 where
-  pub fits : Fits (size / 4) f
-  pub same : ys ≡ withBytes size w f xs
-
--- a slice that holds some bytes holds equal ones
-pub holds-same : {size w : ℕ} {xs ys : List ℕ} {f : Bytes} (g : Bytes) → Fits (size / 4) g → ((b : ℕ) → f b ≡ g b) → Holds size w xs f ys →
-    Holds size w xs g ys
-holds-same {size} {w} {xs} {ys} {f} g a e k =
-    record { fits = a; same = k .same ∙ ap (λ (m : List ℕ). withPart w size m xs) (map-same (size / 4) f g e) }
-
--- a slice holds the bytes of its own map
-pub holds-start : {size v w : ℕ} {xs : List ℕ} → MapsApart size v w xs → Holds size w xs (bytesOf (partAt w size xs)) xs
-holds-start {size} {v} {w} {xs} t =
-    let m = partAt w size xs in
-    record {
-      fits = subst (λ (n : ℕ). Fits n (bytesOf m)) (two-space t) (bytes-fit m (t .below));
-      same =
-          sym (with-part w size xs (t .below-in))
-          ∙ ap (λ (l : List ℕ). withPart w size l xs) (sym (bytes-map m (t .below)) ∙ (λ i. mapFor (two-space t i) (bytesOf m)));
-    }
-
-module _ {size v w : ℕ} {xs : List ℕ} (t : MapsApart size v w xs) {f : Bytes} {ys : List ℕ} (k : Holds size w xs f ys) where
-  -- the map of the bytes
-  abbrev map : List ℕ
-  map = mapFor (size / 4) f
-
-  -- The map of the bytes fills its part.
-  map-length : length map ≡ size
-  map-length = length-map (size / 4) (runsOf f) (k .fits .few) ∙ two-fours t
-
-  -- the slice is as long as it was
-  pub holds-length : length ys ≡ length xs
-  holds-length = ap length (k .same) ∙ with-length w size xs (t .below-in) map map-length
-
-  -- the view is as it was
-  pub holds-view : partAt v size ys ≡ partAt v size xs
-  holds-view = ap (partAt v size) (k .same) ∙ part-apart w size xs (t .below-in) map map-length v (t .apart)
-
-  -- the published map is the one of the bytes
-  holds-below : partAt w size ys ≡ map
-  holds-below = ap (partAt w size) (k .same) ∙ part-with w size xs (t .below-in) map map-length
-
-  -- both maps are lawful still
-  pub holds-two : MapsApart size v w ys
-  holds-two =
-      record {
-        view-in = omega (arith, t .view-in, holds-length);
-        below-in = omega (arith, t .below-in, holds-length);
-        apart = t .apart;
-        view = ap lawful holds-view ∙ t .view;
-        below = ap lawful holds-below ∙ fits-lawful (size / 4) f (k .fits);
-      }
-
-  -- the view as it is lent is the old one
-  pub lent-view : take (v + size - v) (drop v ys) ≡ partAt v size xs
-  lent-view = lent v size ys ∙ holds-view
-
-  -- The lent view is lawful.
-  pub lent-lawful : lawful (take (v + size - v) (drop v ys)) ≡ true
-  lent-lawful = ap lawful lent-view ∙ t .view
-
-  -- the published map as it is lent is lawful
-  pub lent-below : lawful (take (w + size - w) (drop w ys)) ≡ true
-  lent-below = ap lawful (lent w size ys) ∙ holds-two .below
-
-  -- The lent published map has its space.
-  pub lent-space : spaceIn (take (w + size - w) (drop w ys)) ≡ size / 4
-  lent-space = ap spaceIn (lent w size ys) ∙ two-space holds-two
-
-  -- The lent published map has the bytes.
-  pub lent-bytes : (b : ℕ) → bytesOf (take (w + size - w) (drop w ys)) b ≡ f b
-  lent-bytes b = ap (λ (l : List ℕ). bytesOf l b) (lent w size ys ∙ holds-below) ∙ fits-back (size / 4) f (k .fits) b
-
-  -- The lent published map comes back with other bytes.
-  pub lent-next : (g h : Bytes) → Fits (size / 4) g → ((b : ℕ) → h b ≡ g b) → {last : List ℕ} →
-      last ≡ mapFor (spaceIn (take (w + size - w) (drop w ys))) h → Holds size w xs g (putMid w (w + size - w) ys last)
-  lent-next g h a e {last} q =
-      record {
-        fits = a;
-        same =
-            home w size ys last
-            ∙ (λ j. withPart w size ((q ∙ (λ i. mapFor (lent-space i) h) ∙ map-same (size / 4) h g e) j) (k .same j))
-            ∙ with-with w size xs (t .below-in) map map-length (mapFor (size / 4) g);
-      }
-
 -- ---- A range laid in a map
 
--- An empty range laid in a lawful map changes nothing.
-pub laid-none : (xs : List ℕ) → lawful xs ≡ true → (from to c : ℕ) → to ≤ from →
-    xs ≡ mapFor (spaceIn xs) (overwrite from (to - from) c (bytesOf xs))
-laid-none xs e from to c h =
-    let f = overwrite from (to - from) c (bytesOf xs) in
-    sym (map-same (spaceIn xs) f (bytesOf xs) (λ b. over-out from to c (bytesOf xs) b (λ l. omega arith)) ∙ bytes-map xs e)
-
--- what fits is laid
+-- What fits is laid.
 pub laid-fit : (xs : List ℕ) (f : Bytes) {r : Bool} {ys : List ℕ} → length (runsOf f) ≤ spaceIn xs →
     r ≡ leb (length (runsOf f)) (spaceIn xs) → ys ≡ cond r (mapFor (spaceIn xs) f) xs → ys ≡ mapFor (spaceIn xs) f
 laid-fit xs f {r} {ys} h a b = b ∙ ap (λ (x : Bool). cond x (mapFor (spaceIn xs) f) xs) (a ∙ le-leb (length (runsOf f)) (spaceIn xs) h)

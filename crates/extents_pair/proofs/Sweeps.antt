@@ -21,10 +21,6 @@ over-out from to c f b h = go (decLt b from)
     go (yes l) = over-before from (to - from) c f b l
     go (no l) = let m : to ≤ b = h (omega arith) in over-behind from (to - from) c f b (omega arith)
 
--- equal bytes stay equal
-pub over-same : (from to c : ℕ) (f g : Bytes) → ((b : ℕ) → f b ≡ g b) → (b : ℕ) → overwrite from (to - from) c f b ≡ overwrite from (to - from) c g b
-over-same from to c f g h b = λ i. cond (inRange from (to - from) b) c (h b i)
-
 -- ---- Bytes that a map can hold
 
 -- Good bytes: their cells are fine, and nothing is written from the end of all bytes on.

@@ -1,3 +1,2 @@
-pub mod RangeWrites
 pub mod Marks
 pub mod InPairs

@@ -16,13 +16,6 @@ ghost use Rattle.rows.specs.Limits.{OFFSET-MAX, ROWS};
 use extents_map::scan::Mix;
 use extents_map::scan::Mode;
 
-// A range to be written, and its cell.
-pub struct RangeWrite {
-    pub from: u32,
-    pub to: u32,
-    pub cell: u32,
-}
-
 // A view and the published map: two maps of one space by their numbers in a slice, and how many runs of the view are unpublished.
 pub struct Pair {
     pub space: usize,
