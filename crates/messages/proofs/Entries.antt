@@ -2,13 +2,14 @@
 use Prim.Native.Nat.{ℕ, _+_, _*_, _/_, _%_, _<_}
 use native.Mathlib.Omega.{arith}
 use mathlib.Core.Path.{_≡_, refl, sym, ap, _∙_}
-use mathlib.Core.Bool.{Bool, true, false, _||_, or-false, or-true, or-assoc}
+use mathlib.Core.Bool.{Bool, true, false}
 use mathlib.Core.List.{List, [], _∷_, _++_}
 use lib.Dec.{eqb}
 use borrow.Author.Tests.{eq-eqb}
 use Rattle.rows.specs.declared.Row.{Row}
 use Rattle.rows.specs.Kinds.{SEND, RECV, WAIT}
 use Rattle.rows.specs.Limits.{PROCESSES}
+use Rattle.rows.proofs.Tests.{any-last, any-fails, any-passes}
 use Rattle.messages.specs.Questions.{any, carries, carriesBy, sent, sentBy, posted, postedBy, waitedFor}
 use Rattle.messages.specs.Table.{SENT, POSTED, WAITED, senderIn, posterIn, SIX-BITS, isSent, isPosted, isWaited, isSentBy, isPostedBy, withSend, withPost, withWait}
 
@@ -90,20 +91,6 @@ module _ (e : ℕ) where
   wait-poster = omega arith
 
 -- ---- The tests with one row more
-
--- Some row passes, or the last one does.
-pub any-last : (test : Row → Bool) (rows : List Row) (r : Row) → any test (rows ++ (r ∷ [])) ≡ (any test rows || test r)
-unfolding any
-any-last test [] r = or-false (test r)
-any-last test (x ∷ rows) r = ap (λ (b : Bool). test x || b) (any-last test rows r) ∙ sym (or-assoc (test x) (any test rows) (test r))
-
--- A last row that does not pass changes nothing.
-any-fails : (test : Row → Bool) (rows : List Row) {r : Row} → test r ≡ false → any test (rows ++ (r ∷ [])) ≡ any test rows
-any-fails test rows {r} e = any-last test rows r ∙ rw e (or-false (any test rows))
-
--- Where the last row passes, some row does.
-any-passes : (test : Row → Bool) (rows : List Row) {r : Row} → test r ≡ true → any test (rows ++ (r ∷ [])) ≡ true
-any-passes test rows {r} e = any-last test rows r ∙ rw e (or-true (any test rows))
 
 -- A last row that does not carry the message changes nothing for any process.
 by-fails : (kind m p : ℕ) (rows : List Row) (r : Row) → carries kind m r ≡ false →

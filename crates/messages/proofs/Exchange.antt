@@ -1,40 +1,20 @@
 -- Rows that pass the questions from 12 on pass them still where a row moves before another process's row, if the message that arrives at it, if
 -- one does, was sent before both.
 use Prim.Native.Nat.{ℕ}
-use mathlib.Core.Path.{_≡_, refl, sym, ap, _∙_}
+use mathlib.Core.Path.{_≡_, sym, _∙_}
 use mathlib.Core.Logic.{_⊎_, inl, inr}
-use mathlib.Core.Bool.{Bool, true, false, _||_, false≢true}
+use mathlib.Core.Bool.{Bool, true, false, false≢true}
 use mathlib.Core.List.{List, [], _∷_, _++_}
 use Rattle.rows.specs.declared.Row.{Row}
 use Rattle.rows.specs.Kinds.{SEND, RECV, WAIT, ARRIVAL}
-use Rattle.rows.proofs.Bools.{or-out, not-passed}
+use Rattle.rows.proofs.Bools.{or-out}
+use Rattle.rows.proofs.Tests.{any-last, any-more, none-snoc, none-more, carries-iff, carries-by-iff, Alike}
 use Rattle.messages.specs.Questions.{any, carries, carriesBy, sent}
 use Rattle.messages.proofs.Asks.{Passes, Orderly, orderly, in-order}
-use Rattle.messages.proofs.Entries.{any-last}
-use Rattle.messages.proofs.InOrder.{carries-iff, carries-by-iff}
 
 -- The message that arrives at a row, if one does, was sent.
 abbrev pub Ready : List Row → Row → Type 0
 Ready before r = r .kind ≡ ARRIVAL → sent (r .message) before ≡ true
-
--- ---- Tests on rows with one row more
-
--- Two tests that answer false together answer false each.
-or-none : (x y : Bool) → x || y ≡ false → (x ≡ false) × (y ≡ false)
-or-none true y e = absurd (false≢true (sym e))
-or-none false y e = (refl, e)
-
--- Where one row before passes, some row does.
-any-more : (test : Row → Bool) (l : List Row) (x : Row) → any test l ≡ true → any test (l ++ (x ∷ [])) ≡ true
-any-more test l x e = any-last test l x ∙ ap (λ (b : Bool). b || test x) e
-
--- Where no row passes, none before does, and the last does not.
-none-snoc : (test : Row → Bool) (l : List Row) (x : Row) → any test (l ++ (x ∷ [])) ≡ false → (any test l ≡ false) × (test x ≡ false)
-none-snoc test l x e = or-none (any test l) (test x) (sym (any-last test l x) ∙ e)
-
--- Where no row before passes and the last does not, none does.
-none-more : (test : Row → Bool) (l : List Row) (x : Row) → any test l ≡ false → (test x ≡ true → ⊥) → any test (l ++ (x ∷ [])) ≡ false
-none-more test l x e f = any-last test l x ∙ (λ i. e i || not-passed (test x) f i)
 
 -- The message that arrives at a row that passes was sent.
 pub passes-ready : (before : List Row) (r : Row) → Passes before r → Ready before r
@@ -45,10 +25,6 @@ pub ready-more : (before : List Row) (x r : Row) → Ready before r → Ready (b
 ready-more before x r w c = any-more _ before x (w c)
 
 -- ---- Other rows before
-
--- Two lists of rows pass the same tests.
-abbrev pub Alike : List Row → List Row → Type 0
-Alike l m = (test : Row → Bool) → any test l ≡ any test m
 
 -- A row that passes behind rows passes behind other rows that pass the same tests.
 pub alike-passes : (l n : List Row) (r : Row) → Alike l n → Passes l r → Passes n r

@@ -1,17 +1,15 @@
 -- The questions 12 and 21 in the documents' words: the rows before a row that send its message, post its receive or wait for it.
-use Prim.Native.Nat.{ℕ, zero, suc, _≤_, _<_}
+use Prim.Native.Nat.{ℕ, _≤_, _<_}
 use native.Mathlib.Omega.{arith}
-use mathlib.Core.Path.{_≡_, sym, subst, _∙_}
-use mathlib.Core.Logic.{_↔_, _⊎_, inl, inr}
-use mathlib.Core.Bool.{Bool, true, false, false≢true}
-use mathlib.Core.List.{List, [], _∷_, _++_}
+use mathlib.Core.Path.{_≡_, sym, subst}
+use mathlib.Core.Logic.{_↔_}
+use mathlib.Core.Bool.{true, false}
+use mathlib.Core.List.{List, _++_}
 use lib.ListN.{length, List·getD-append}
-use lib.Dec.{eqb}
-use borrow.Author.Tests.{eq-eqb, eqb-true}
 use Rattle.rows.specs.declared.Row.{Row}
 use Rattle.rows.specs.Kinds.{SEND, RECV, WAIT, ARRIVAL}
 use Rattle.rows.specs.Rows.{rowAt, noRow}
-use Rattle.rows.proofs.Bools.{and-out, or-out, or-right, not-passed}
+use Rattle.rows.proofs.Tests.{carries-iff, carries-by-iff, some-iff, none-iff}
 use Rattle.messages.specs.Questions.{any, carries, carriesBy, sent, postedBy}
 use Rattle.messages.proofs.Asks.{Passes, Orderly, orderly, in-order}
 
@@ -40,56 +38,6 @@ pub record InOrder (rows : List Row) (n : ℕ) (r : Row) : Type 0 where
   pub posted-before : r .kind ≡ WAIT → (k : ℕ) × (k < n) × (Posts (rowAt rows k) (r .message) × (rowAt rows k .process ≡ r .process))
   pub sent-before : r .kind ≡ WAIT → (k : ℕ) × (k < n) × Sends (rowAt rows k) (r .message)
   pub unwaited : r .kind ≡ WAIT → (k : ℕ) → k < n → Arrives (rowAt rows k) (r .message) → ⊥
-
--- ---- The rows that pass a test
-
--- Where some row passes, one of them.
-pub some-out : (test : Row → Bool) (rows : List Row) → any test rows ≡ true → (k : ℕ) × (k < length rows) × (test (rowAt rows k) ≡ true)
-unfolding any
-some-out test [] e = absurd (false≢true e)
-some-out test (r ∷ rs) e = go (or-out (test r) (any test rs) e) (some-out test rs)
-  where
-    go : (test r ≡ true) ⊎ (any test rs ≡ true) → (any test rs ≡ true → (k : ℕ) × (k < length rs) × (test (rowAt rs k) ≡ true)) →
-        (k : ℕ) × (k < suc (length rs)) × (test (rowAt (r ∷ rs) k) ≡ true)
-    go (inl q) rest = (0, omega arith, q)
-    go (inr q) rest = let t = rest q in (suc (t .0), omega (arith, t .1), t .2)
-
--- Where one passes, some row does.
-pub some-in : (test : Row → Bool) (rows : List Row) (k : ℕ) → k < length rows → test (rowAt rows k) ≡ true → any test rows ≡ true
-unfolding any
-some-in test [] k h e = absurd (omega arith)
-some-in test (r ∷ rs) zero h e = rw e
-some-in test (r ∷ rs) (suc k) h e = or-right (test r) (any test rs) (some-in test rs k (omega arith) e)
-
--- A row of a kind with a message.
-pub carries-iff : (kind message : ℕ) (r : Row) → (carries kind message r ≡ true) ↔ ((r .kind ≡ kind) × (r .message ≡ message))
-carries-iff kind message r = (
-  λ e. let a = and-out (eqb (r .kind) kind) (eqb (r .message) message) e in (eqb-true _ _ (a .0), eqb-true _ _ (a .1)),
-  λ (k, m). rw (eq-eqb (r .kind) kind k, eq-eqb (r .message) message m),
-)
-
--- A row of a kind with a message, by a process.
-pub carries-by-iff : (process kind message : ℕ) (r : Row) →
-    (carriesBy process kind message r ≡ true) ↔ (((r .kind ≡ kind) × (r .message ≡ message)) × (r .process ≡ process))
-carries-by-iff process kind message r = (
-  λ e. let a = and-out (carries kind message r) (eqb (r .process) process) e in (carries-iff kind message r .0 (a .0), eqb-true _ _ (a .1)),
-  λ (c, p). rw (carries-iff kind message r .1 c) (eq-eqb (r .process) process p),
-)
-
-module _ (test : Row → Bool) (Q : Row → Type 0) (means : (r : Row) → (test r ≡ true) ↔ Q r) (rows : List Row) where
-  -- Some row passes exactly where one is as the test says.
-  some-iff : (any test rows ≡ true) ↔ ((k : ℕ) × (k < length rows) × Q (rowAt rows k))
-  some-iff = (
-    λ e. let s = some-out test rows e in (s .0, s .1, means (rowAt rows (s .0)) .0 (s .2)),
-    λ (k, h, q). some-in test rows k h (means (rowAt rows k) .1 q),
-  )
-
-  -- No row passes exactly where none is as the test says.
-  none-iff : (any test rows ≡ false) ↔ ((k : ℕ) → k < length rows → Q (rowAt rows k) → ⊥)
-  none-iff = (
-    λ e k h q. false≢true (sym e ∙ some-iff .1 (k, h, q)),
-    λ f. not-passed (any test rows) (λ e. let s = some-iff .0 e in f (s .0) (s .1) (s .2)),
-  )
 
 -- ---- The questions
 

@@ -7,19 +7,8 @@ use Rattle.rows.specs.Kinds.{SEND, RECV, WAIT}
 use Rattle.rows.specs.Questions.{Question}
 use Rattle.rows.specs.Refusals.{MESSAGE-ORDER, WAIT-ORDER}
 use Rattle.rows.specs.declared.Row.{Row}
-
--- Some row passes a test.
-unfoldable pub any : (Row → Bool) → List Row → Bool
-any test [] = false
-any test (r ∷ rs) = test r || any test rs
-
--- A row of this kind with this message.
-abbrev pub carries : ℕ → ℕ → Row → Bool
-carries kind message r = eqb (r .kind) kind && eqb (r .message) message
-
--- A row of this kind with this message, by this process.
-abbrev pub carriesBy : ℕ → ℕ → ℕ → Row → Bool
-carriesBy process kind message r = carries kind message r && eqb (r .process) process
+pub use Rattle.rows.specs.Tests.{carries, carriesBy}
+unfoldable pub use Rattle.rows.specs.Tests.{any}
 
 -- Some row sends the message.
 abbrev pub sent : ℕ → List Row → Bool

@@ -94,6 +94,20 @@ unfolding countBelow
 count-less zero f g h = omega arith
 count-less (suc n) f g h = step (count-less n f g (λ i l. h i (omega arith))) (f n) (g n) (h n (omega arith))
 
+-- A weaker test that passes at one number more has a larger count.
+pub count-fewer : (n : ℕ) (f g : ℕ → Bool) → ((i : ℕ) → i < n → f i ≡ true → g i ≡ true) → (k : ℕ) → k < n → f k ≡ false → g k ≡ true →
+    countBelow n f < countBelow n g
+unfolding countBelow
+count-fewer zero f g h k l e d = absurd (omega arith)
+count-fewer (suc n) f g h k l e d = go (decLt k n) (count-fewer n f g (λ i b. h i (omega arith)) k)
+  where
+    go : Dec (k < n) → (k < n → f k ≡ false → g k ≡ true → countBelow n f < countBelow n g) → countBelow n f + cond (f n) 1 0 < countBelow n g + cond (g n) 1 0
+    go (yes b) rest = let more = step (rest b e d) (f n) (g n) (h n (omega arith)) in omega arith
+    go (no b) rest =
+        let q : n ≡ k = omega arith in
+        let w = count-less n f g (λ i b. h i (omega arith)) in
+        rw (ap f q ∙ e, ap g q ∙ d) (omega arith)
+
 -- A count is at most the bound.
 pub count-below : (n : ℕ) (f : ℕ → Bool) → countBelow n f ≤ n
 unfolding countBelow

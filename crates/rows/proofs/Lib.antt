@@ -5,3 +5,5 @@ pub mod Lasts
 pub mod Asking
 pub mod Slices
 pub mod Products
+pub mod Tests
+pub mod Searching

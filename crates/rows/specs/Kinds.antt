@@ -29,10 +29,14 @@ RECV = 7
 abbrev pub WAIT : ℕ
 WAIT = 8
 
+-- A process arrives at a barrier. Its message field holds the barrier's number.
+abbrev pub BARRIER : ℕ
+BARRIER = 9
+
 -- The kind of the row at which a message arrives: the order runs from the send to this row.
 abbrev pub ARRIVAL : ℕ
 ARRIVAL = WAIT
 
 -- How many kinds there are.
 abbrev pub KINDS : ℕ
-KINDS = 9
+KINDS = 10

@@ -5,3 +5,4 @@ pub mod Rows
 pub mod Questions
 pub mod Counting
 pub mod Lists
+pub mod Tests

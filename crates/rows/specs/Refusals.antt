@@ -84,3 +84,7 @@ STUCK = 20
 -- Is the wait in order?
 abbrev pub WAIT-ORDER : ℕ
 WAIT-ORDER = 21
+
+-- Is each barrier in order, and finished?
+abbrev pub BARRIER-ORDER : ℕ
+BARRIER-ORDER = 22

@@ -40,11 +40,14 @@ pub const RECV: u32 = 7;
 
 pub const WAIT: u32 = 8;
 
+// A process arrives at a barrier. Its message field holds the barrier's number.
+pub const BARRIER: u32 = 9;
+
 // The kind of the row at which a message arrives: the order runs from the send to this row.
 pub const ARRIVAL: u32 = WAIT;
 
 // How many kinds there are.
-pub const KINDS: u32 = 9;
+pub const KINDS: u32 = 10;
 
 // The numbers of a row by their places in the slice, from the row's first.
 pub const PROCESS_AT: usize = 0;

@@ -42,3 +42,5 @@ pub const SHARED_PROCESS: u32 = 19;
 pub const STUCK: u32 = 20;
 // Is the wait in order?
 pub const WAIT_ORDER: u32 = 21;
+// Is each barrier in order, and finished?
+pub const BARRIER_ORDER: u32 = 22;
