@@ -40,7 +40,7 @@ module _ (n rows counts : ℕ) where
 -- ---- A row of the file
 
 module _ (file : ℕ) (r : Row) where
-  -- A send, a recv, a wait or a number that is no kind names no file.
+  -- A send, a recv, a wait, a barrier row or a number that is no kind names no file.
   pub kind-past : SEND ≤ r .kind → false ≡ ofFile file r
   kind-past h = sym (λ i. le-ltb (r .kind) SEND h i && eqb (r .file) file)
 

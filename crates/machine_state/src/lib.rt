@@ -66,7 +66,7 @@ pub fn ask_row(machine: Machine, row: Row, number: u32) -> u32
         rows::READ | rows::WRITE => ask_range(machine, row, number),
         // commit, open, close, sync: process and file
         rows::COMMIT | rows::OPEN | rows::CLOSE | rows::SYNC => ask_file(machine, row, number),
-        // send, recv, wait and numbers that are no kind: no file
+        // send, recv, wait, barrier and numbers that are no kind: no file
         _ => refusal::OF_FILE,
     }
 }
@@ -115,7 +115,7 @@ pub fn is_of(machine: Machine, row: Row) -> bool
         // read, write, commit, open, close, sync
         rows::READ | rows::WRITE | rows::COMMIT | rows::OPEN | rows::CLOSE | rows::SYNC => row.file
             == machine.file,
-        // send, recv, wait and numbers that are no kind
+        // send, recv, wait, barrier and numbers that are no kind
         _ => false,
     }
 }

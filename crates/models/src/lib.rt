@@ -17,11 +17,12 @@ const COLUMNS: usize = rows::KINDS as usize;
 // One entry for each model and each kind.
 const ENTRIES: usize = rows::MODELS as usize * COLUMNS;
 
-// Models by kinds: read, write, commit, open, close, sync, send, recv, wait.
+// Models by kinds: read, write, commit, open, close, sync, send, recv, wait, barrier.
 const TABLE: [u8; ENTRIES] = [
     // POSIX
     REFRESH,
     PUBLISH,
+    NONE,
     NONE,
     NONE,
     NONE,
@@ -39,12 +40,14 @@ const TABLE: [u8; ENTRIES] = [
     NONE,
     NONE,
     NONE,
+    NONE,
     // session
     NONE,
     NONE,
     NONE,
     REFRESH,
     PUBLISH,
+    NONE,
     NONE,
     NONE,
     NONE,
@@ -56,6 +59,7 @@ const TABLE: [u8; ENTRIES] = [
     REFRESH,
     PUBLISH,
     BOTH,
+    NONE,
     NONE,
     NONE,
     NONE,

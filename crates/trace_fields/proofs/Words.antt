@@ -63,7 +63,7 @@ module _ (k : ℕ) where
   unfolding usedBy
   used-file l h = stretch (take COMMIT usedTable) (SEND - COMMIT) fileUsed (drop SEND usedTable) k l h
 
-  -- send, recv and wait use the message
+  -- send, recv, wait and barrier use the message
   pub used-message : SEND ≤ k → k < KINDS → messageUsed ≡ usedBy k
   unfolding usedBy
   used-message l h = stretch (take SEND usedTable) (KINDS - SEND) messageUsed [] k l h

@@ -22,6 +22,7 @@ kindWords =
     ∷ (115 ∷ 101 ∷ 110 ∷ 100 ∷ [])  -- send
     ∷ (114 ∷ 101 ∷ 99 ∷ 118 ∷ [])  -- recv
     ∷ (119 ∷ 97 ∷ 105 ∷ 116 ∷ [])  -- wait
+    ∷ (98 ∷ 97 ∷ 114 ∷ 114 ∷ 105 ∷ 101 ∷ 114 ∷ [])  -- barrier
     ∷ []
 
 -- the place of the first word that is the content, and the number of words where none is
@@ -81,6 +82,7 @@ usedTable =
     ∷ messageUsed  -- send
     ∷ messageUsed  -- recv
     ∷ messageUsed  -- wait
+    ∷ messageUsed  -- barrier
     ∷ []
 
 -- the fields that a kind uses; a number that is no kind's uses none

@@ -41,6 +41,9 @@ fn kind_of(text: &[u8], span: Span) -> u32
     if csv_content::is_word(text, span, b"wait") {
         return rows::WAIT;
     }
+    if csv_content::is_word(text, span, b"barrier") {
+        return rows::BARRIER;
+    }
     rows::KINDS
 }
 
@@ -61,8 +64,8 @@ pub fn used_by(kind: u32) -> Used
             range: false,
             message: false,
         },
-        // send, recv, wait
-        rows::SEND | rows::RECV | rows::WAIT => Used {
+        // send, recv, wait, barrier
+        rows::SEND | rows::RECV | rows::WAIT | rows::BARRIER => Used {
             file: false,
             range: false,
             message: true,

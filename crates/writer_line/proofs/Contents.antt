@@ -29,15 +29,15 @@ use Rattle.writer_line.proofs.Digits.{decimal-text}
 
 -- ---- Words
 
--- The word of a kind is read back, is TEXTDATA to its end, and has at most six bytes.
+-- The word of a kind is read back, is TEXTDATA to its end, and has at most seven bytes.
 fine : ℕ → List ℕ → Bool
-fine k w = eqb (kindOf w) k && (eqb (textLength w) (length w) && leb (length w) 6)
+fine k w = eqb (kindOf w) k && (eqb (textLength w) (length w) && leb (length w) 7)
 
 -- The three facts of a kind's word.
 record Word (k : ℕ) (w : List ℕ) : Type 0 where
   back : kindOf w ≡ k
   text : textLength w ≡ length w
-  most : length w ≤ 6
+  most : length w ≤ 7
 
 -- Each kind's word has them.
 words : (k : ℕ) → k < KINDS → Word k (getD kindWords k [])
@@ -45,8 +45,8 @@ unfolding anyBelow fine wordOf sameBytes isText textLength
 words k h =
     let w = getD kindWords k [] in
     let a = and-out (eqb (kindOf w) k) _ (each-passes KINDS (λ i. fine i (getD kindWords i [])) refl k h) in
-    let b = and-out (eqb (textLength w) (length w)) (leb (length w) 6) (a .1) in
-    record { back = eqb-true (kindOf w) k (a .0); text = eqb-true (textLength w) (length w) (b .0); most = leb-true (length w) 6 (b .1) }
+    let b = and-out (eqb (textLength w) (length w)) (leb (length w) 7) (a .1) in
+    record { back = eqb-true (kindOf w) k (a .0); text = eqb-true (textLength w) (length w) (b .0); most = leb-true (length w) 7 (b .1) }
 
 -- A kind's word is read back.
 pub kind-back : (k : ℕ) → k < KINDS → kindOf (getD kindWords k []) ≡ k
@@ -104,15 +104,15 @@ line-record r =
 abbrev pub comma : Bool → ℕ → List ℕ
 comma used n = COMMA ∷ numberField used n
 
--- The bytes of the longest record: five numbers of ten digits, a word of six letters, five commas and a line end.
+-- The bytes of the longest record: five numbers of ten digits, a word of seven letters, five commas and a line end.
 abbrev pub RECORD-MOST : ℕ
-RECORD-MOST = 63
+RECORD-MOST = 64
 
--- A kind's word has at most six bytes.
-word-most : (k : ℕ) → length (getD kindWords k []) ≤ 6
+-- A kind's word has at most seven bytes.
+word-most : (k : ℕ) → length (getD kindWords k []) ≤ 7
 word-most k = go (decLt k KINDS)
   where
-    go : Dec (k < KINDS) → length (getD kindWords k []) ≤ 6
+    go : Dec (k < KINDS) → length (getD kindWords k []) ≤ 7
     go (yes h) = words k h .most
     go (no h) = rw (word-none k (omega arith)) (omega arith)
 
@@ -142,7 +142,7 @@ module _ (r : Row) where
       + length (numberField (u .range) (r .offset)) + length (numberField (u .range) (r .length)) + length (numberField (u .message) (r .message)) + 7
   record-size = ap length (sym record-parts) ∙ simp length-append (omega arith)
 
-  -- A record has at most 63 bytes.
+  -- A record has at most 64 bytes.
   pub record-most : length (recordOf r) ≤ RECORD-MOST
   record-most =
       omega (

@@ -12,8 +12,8 @@ use rows::Row;
 // The bytes of a record besides its fields: five commas, CR and LF.
 const MARKS: usize = 7;
 
-// No record has more bytes: five numbers of ten digits, a word of six letters, and the marks.
-const LONGEST: usize = 63;
+// No record has more bytes: five numbers of ten digits, a word of seven letters, and the marks.
+const LONGEST: usize = 64;
 
 // Answers how many bytes a row's line has, its line end included.
 pub fn record_length(row: Row) -> usize
@@ -31,7 +31,7 @@ pub fn record_length(row: Row) -> usize
 
 // Answers how many bytes a kind's word has, and 0 for a number that is no kind's.
 fn word_length(kind: u32) -> usize
-    ensures { λ r. ⌜ (r ≡ length (getD kindWords «kind» [])) × (r ≤ 6) ⌝ }
+    ensures { λ r. ⌜ (r ≡ length (getD kindWords «kind» [])) × (r ≤ 7) ⌝ }
 {
     match kind {
         rows::READ => 4,
@@ -43,6 +43,7 @@ fn word_length(kind: u32) -> usize
         rows::SEND => 4,
         rows::RECV => 4,
         rows::WAIT => 4,
+        rows::BARRIER => 7,
         _ => 0,
     }
 }
@@ -108,6 +109,7 @@ fn put_word(out: &mut [u8], at: usize, kind: u32) -> usize
         rows::SEND => print::put(out, at, b",send"),
         rows::RECV => print::put(out, at, b",recv"),
         rows::WAIT => print::put(out, at, b",wait"),
+        rows::BARRIER => print::put(out, at, b",barrier"),
         _ => print::put(out, at, b","),
     }
 }

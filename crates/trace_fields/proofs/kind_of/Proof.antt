@@ -38,6 +38,9 @@ past8 c = next (past7 (c .before .before .before)) (c .before .is-word8 .ensures
 abbrev past9 : tie.Else9 → Past 9 (drop 9 kindWords)
 past9 c = next (past8 (c .before .before .before)) (c .before .is-word9 .ensures) (c .if9 .left)
 
+abbrev past10 : tie.Else10 → Past 10 (drop 10 kindWords)
+past10 c = next (past9 (c .before .before .before)) (c .before .is-word10 .ensures) (c .if10 .left)
+
 slice-aggregate-is-word : tie.Need-slice-aggregate-is-word
 slice-aggregate-is-word c = search needs
 
@@ -121,8 +124,17 @@ is-word-requires-9 c κs = search needs
 returns-9 : tie.Need-returns-9
 returns-9 c = here (past8 (c .before .before .before)) (c .before .is-word9 .ensures) (c .if9 .taken)
 
+slice-aggregate-is-word-10 : tie.Need-slice-aggregate-is-word-10
+slice-aggregate-is-word-10 c = search needs
+
+is-word-requires-10 : tie.Need-is-word-requires-10
+is-word-requires-10 c κs = search needs
+
 returns-10 : tie.Need-returns-10
-returns-10 c = none (past9 c)
+returns-10 c = here (past9 (c .before .before .before)) (c .before .is-word10 .ensures) (c .if10 .taken)
+
+returns-11 : tie.Need-returns-11
+returns-11 c = none (past10 c)
 
 pub kind-of-spec : {M : Type 1} → statement M
 kind-of-spec =
@@ -155,4 +167,7 @@ kind-of-spec =
     slice-aggregate-is-word-9
     is-word-requires-9
     returns-9
-    returns-10)
+    slice-aggregate-is-word-10
+    is-word-requires-10
+    returns-10
+    returns-11)

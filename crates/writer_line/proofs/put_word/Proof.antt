@@ -66,6 +66,12 @@ slice-aggregate-put-10 c = search needs
 put-requires-10 : tie.Need-put-requires-10
 put-requires-10 c κs = search needs
 
+slice-aggregate-put-11 : tie.Need-slice-aggregate-put-11
+slice-aggregate-put-11 c = search needs
+
+put-requires-11 : tie.Need-put-requires-11
+put-requires-11 c κs = search needs
+
 same-length : tie.Need-same-length
 same-length c = search needs
 
@@ -153,7 +159,16 @@ same-length-10 c = search needs
 returns-10 : tie.Need-returns-10
 returns-10 c =
     let a = c .before .before .before .before .before .before .before .args in
-    comma-put (now (a .out)) (a .at) (a .kind) (past-all KINDS (a .kind) (c .before .before .before .before .before .match .rest)) (c .before .before .put10 .ensures)
+    let match = c .before .before .before .before .before .match in
+    word-put (now (a .out)) (a .at) 9 (match .keys10) (c .before .before .put10 .ensures)
+
+same-length-11 : tie.Need-same-length-11
+same-length-11 c = search needs
+
+returns-11 : tie.Need-returns-11
+returns-11 c =
+    let a = c .before .before .before .before .before .before .before .args in
+    comma-put (now (a .out)) (a .at) (a .kind) (past-all KINDS (a .kind) (c .before .before .before .before .before .match .rest)) (c .before .before .put11 .ensures)
 
 pub put-word-spec : {M : Type 1} → statement M
 put-word-spec =
@@ -179,6 +194,8 @@ put-word-spec =
     put-requires-9
     slice-aggregate-put-10
     put-requires-10
+    slice-aggregate-put-11
+    put-requires-11
     same-length
     returns
     same-length-2
@@ -198,4 +215,6 @@ put-word-spec =
     same-length-9
     returns-9
     same-length-10
-    returns-10)
+    returns-10
+    same-length-11
+    returns-11)

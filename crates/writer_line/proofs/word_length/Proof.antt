@@ -35,7 +35,10 @@ returns-9 : tie.Need-returns-9
 returns-9 c = search needs
 
 returns-10 : tie.Need-returns-10
-returns-10 c =
+returns-10 c = search needs
+
+returns-11 : tie.Need-returns-11
+returns-11 c =
     let kind = c .before .args .kind in
     (rw (word-none kind (past-all KINDS kind (c .match .rest))), omega arith)
 
@@ -52,4 +55,5 @@ word-length-spec =
     returns-7
     returns-8
     returns-9
-    returns-10)
+    returns-10
+    returns-11)
