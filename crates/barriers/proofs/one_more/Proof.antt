@@ -1,0 +1,17 @@
+-- `barriers::one_more` meets its contract.
+use borrow.Author.Needs.{needs}
+use Rattle.barriers.proofs.Codes.{one-more-few, one-more-full}
+use Rattle.barriers.proofs.one_more.Statement.{statement}
+use Rattle.barriers.proofs.one_more.Tie as tie
+
+add-result : tie.Need-add-result
+add-result c = search needs
+
+returns : tie.Need-returns
+returns c = one-more-few (c .before .args .n) (c .if1 .taken)
+
+returns-2 : tie.Need-returns-2
+returns-2 c = one-more-full (c .before .args .n) (c .if1 .left)
+
+pub one-more-spec : {M : Type 1} → statement M
+one-more-spec = tie.close (tie.spec add-result returns returns-2)

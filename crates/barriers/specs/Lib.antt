@@ -1,0 +1,3 @@
+pub mod Barriers
+pub mod Participants
+pub mod Tables
