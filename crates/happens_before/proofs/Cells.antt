@@ -1,6 +1,6 @@
 -- Cells of the counts' slice: the values of a function, and a row of them put into a list.
-use Prim.Native.Nat.{ℕ, zero, suc, _+_, _*_, _≤_, _<_}
-use native.Mathlib.Nat.{add-zero, suc-mul, mul-le-mul-right}
+use Prim.Native.Nat.{ℕ, zero, suc, _+_, _≤_, _<_}
+use native.Mathlib.Nat.{add-zero}
 use native.Mathlib.Numerals.{add-one}
 use native.Mathlib.Decide.{decLt}
 use native.Mathlib.Omega.{arith}
@@ -78,10 +78,6 @@ module _ (to n : ℕ) (l : List ℕ) (f : ℕ → ℕ) (fits : to + n ≤ length
   -- The part behind the row is kept.
   put-back : drop (to + n) (put to n l f) ≡ drop (to + n) l
   put-back = rw apart (drop-at (take to l ++ values n f) (drop (to + n) l) (to + n) both-length)
-
-  -- The length is kept.
-  pub put-length : length (put to n l f) ≡ length l
-  put-length = rw apart (omega (arith, length-append (take to l ++ values n f) (drop (to + n) l), both-length, length-drop (to + n) l))
 
   -- A number in the row is the function's value.
   pub put-at : (p : ℕ) → p < n → getD (put to n l f) (to + p) 0 ≡ f p

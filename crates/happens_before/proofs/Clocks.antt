@@ -10,11 +10,11 @@ use lib.ListN.{length}
 use lib.Dec.{ltb, eqb}
 use borrow.Author.Tests.{lt-ltb, ltb-true, eq-eqb, eqb-true, eqb-false}
 use Rattle.rows.specs.declared.Row.{Row}
-use Rattle.rows.specs.Kinds.{SEND, RECV, ARRIVAL}
+use Rattle.rows.specs.Kinds.{SEND, RECV, ARRIVAL, BARRIER}
 use Rattle.rows.specs.Counting.{anyBelow, countBelow, lastBelow}
-use Rattle.happens_before.specs.Order.{sameProcess, delivers, edge, HB, one, more, hbWithin, hb, upTo, count}
+use Rattle.happens_before.specs.Order.{sameProcess, delivers, lastOf, lastBefore, passes, crosses, edge, HB, one, more, hbWithin, hb, upTo, count}
 use Rattle.rows.specs.Rows.{rowAt}
-use Rattle.happens_before.specs.Clock.{lastOf, fromLast, joinedTo, clock}
+use Rattle.happens_before.specs.Clock.{fromLast, joinedTo, clock}
 use Rattle.rows.proofs.Bools.{and-out, or-out, or-right, same-test, not-passed}
 use Rattle.rows.proofs.Below.{any-in, any-out, count-same, count-below, count-cut, count-own, Closed, closed-place}
 use Rattle.happens_before.proofs.Unions.{unionTo, count-joined}
@@ -97,17 +97,17 @@ edge-first {e} f i k j a u = or-right (eqb i j) _ (hb-iff f i j .1 (go (or-out (
 
 -- ---- The edges of a trace
 
--- An edge leads forward, into the trace, within a process or along a message.
+-- An edge leads forward, into the trace, within a process or from a row that leads to its end.
 pub edge-out : (rows : List Row) (i j : ℕ) → edge rows i j ≡ true →
-    (i < j) × (j < length rows) × ((rowAt rows i .process ≡ rowAt rows j .process) ⊎ (delivers (rowAt rows i) (rowAt rows j) ≡ true))
+    (i < j) × (j < length rows) × ((rowAt rows i .process ≡ rowAt rows j .process) ⊎ (crosses (rowAt rows) i j ≡ true))
 unfolding edge
 edge-out rows i j e =
     let a = and-out (ltb i j) _ e in
     let b = and-out (ltb j (length rows)) _ (a .1) in
     (ltb-true _ _ (a .0), ltb-true _ _ (b .0), go (or-out _ _ (b .1)))
   where
-    go : (sameProcess (rowAt rows i) (rowAt rows j) ≡ true) ⊎ (delivers (rowAt rows i) (rowAt rows j) ≡ true) →
-        (rowAt rows i .process ≡ rowAt rows j .process) ⊎ (delivers (rowAt rows i) (rowAt rows j) ≡ true)
+    go : (sameProcess (rowAt rows i) (rowAt rows j) ≡ true) ⊎ (crosses (rowAt rows) i j ≡ true) →
+        (rowAt rows i .process ≡ rowAt rows j .process) ⊎ (crosses (rowAt rows) i j ≡ true)
     go (inl q) = inl (eqb-true _ _ q)
     go (inr d) = inr d
 
@@ -124,34 +124,65 @@ pub program-order : (rows : List Row) (i j : ℕ) → i < j → j < length rows 
 unfolding edge
 program-order rows i j h n p = rw (lt-ltb i j h, lt-ltb j (length rows) n, eq-eqb (rowAt rows i .process) (rowAt rows j .process) p)
 
+-- A row has an edge to a later row that it leads to.
+pub cross-order : (rows : List Row) (i j : ℕ) → i < j → j < length rows → crosses (rowAt rows) i j ≡ true → edge rows i j ≡ true
+unfolding edge
+cross-order rows i j h n d = rw (lt-ltb i j h, lt-ltb j (length rows) n) (or-right (sameProcess (rowAt rows i) (rowAt rows j)) _ d)
+
 -- A send has an edge to a later row at which its message arrives.
 pub message-order : (rows : List Row) (i j : ℕ) → i < j → j < length rows → delivers (rowAt rows i) (rowAt rows j) ≡ true → edge rows i j ≡ true
-unfolding edge
-message-order rows i j h n d = rw (lt-ltb i j h, lt-ltb j (length rows) n) (or-right (sameProcess (rowAt rows i) (rowAt rows j)) _ d)
+unfolding crosses
+message-order rows i j h n d = cross-order rows i j h n (rw d)
 
--- An edge along which no message arrives stays within a process.
-edge-within : (rows : List Row) (i j : ℕ) → (delivers (rowAt rows i) (rowAt rows j) ≡ true → ⊥) → edge rows i j ≡ true →
-    rowAt rows i .process ≡ rowAt rows j .process
-edge-within rows i j n e = go (edge-out rows i j e .2)
+-- An edge is within a process, along a message, or from a row of the barrier just after which its end stands.
+pub edge-by : (rows : List Row) (i j : ℕ) → edge rows i j ≡ true →
+    (rowAt rows i .process ≡ rowAt rows j .process)
+    ⊎ ((delivers (rowAt rows i) (rowAt rows j) ≡ true) ⊎ (passes (rowAt rows) i (lastBefore (rowAt rows) j) ≡ true))
+unfolding crosses
+edge-by rows i j e = go (edge-out rows i j e .2)
   where
-    go : (rowAt rows i .process ≡ rowAt rows j .process) ⊎ (delivers (rowAt rows i) (rowAt rows j) ≡ true) →
-        rowAt rows i .process ≡ rowAt rows j .process
-    go (inl q) = q
-    go (inr d) = absurd (n d)
+    go : (rowAt rows i .process ≡ rowAt rows j .process) ⊎ (crosses (rowAt rows) i j ≡ true) →
+        (rowAt rows i .process ≡ rowAt rows j .process)
+        ⊎ ((delivers (rowAt rows i) (rowAt rows j) ≡ true) ⊎ (passes (rowAt rows) i (lastBefore (rowAt rows) j) ≡ true))
+    go (inl q) = inl q
+    go (inr c) = inr (or-out (delivers (rowAt rows i) (rowAt rows j)) _ c)
 
--- A recv gives no order by itself: an edge to it comes from its own process.
-pub recv-alone : (rows : List Row) (i j : ℕ) → rowAt rows j .kind ≡ RECV → edge rows i j ≡ true → rowAt rows i .process ≡ rowAt rows j .process
-recv-alone rows i j k =
-    edge-within rows i j
-    (λ d.
-    let a = and-out (eqb (rowAt rows i .kind) SEND) _ d in
-    let w = eqb-true (rowAt rows j .kind) ARRIVAL (and-out _ _ (a .1) .0) in omega arith)
+-- ---- A recv gives no order by itself
 
--- And an edge from a recv leads to its own process.
+-- A row that is of a barrier is a barrier row.
+pub passes-kind : (at : ℕ → Row) (i last : ℕ) → passes at i last ≡ true → at i .kind ≡ BARRIER
+unfolding passes
+passes-kind at i zero e = absurd (false≢true e)
+passes-kind at i (suc k) e = eqb-true (at i .kind) BARRIER (and-out _ _ e .0)
+
+-- An edge to a recv comes from its own process, or from a row of the barrier just after which the recv stands.
+pub recv-alone : (rows : List Row) (i j : ℕ) → rowAt rows j .kind ≡ RECV → edge rows i j ≡ true →
+    (rowAt rows i .process ≡ rowAt rows j .process) ⊎ (passes (rowAt rows) i (lastBefore (rowAt rows) j) ≡ true)
+recv-alone rows i j k e = go (edge-by rows i j e)
+  where
+    go : (rowAt rows i .process ≡ rowAt rows j .process)
+        ⊎ ((delivers (rowAt rows i) (rowAt rows j) ≡ true) ⊎ (passes (rowAt rows) i (lastBefore (rowAt rows) j) ≡ true)) →
+        (rowAt rows i .process ≡ rowAt rows j .process) ⊎ (passes (rowAt rows) i (lastBefore (rowAt rows) j) ≡ true)
+    go (inl q) = inl q
+    go (inr (inl d)) =
+        let a = and-out (eqb (rowAt rows i .kind) SEND) _ d in
+        let w = eqb-true (rowAt rows j .kind) ARRIVAL (and-out _ _ (a .1) .0) in
+        absurd (omega arith)
+    go (inr (inr b)) = inr b
+
+-- An edge from a recv leads to its own process.
 pub recv-alone-out : (rows : List Row) (i j : ℕ) → rowAt rows i .kind ≡ RECV → edge rows i j ≡ true →
     rowAt rows i .process ≡ rowAt rows j .process
-recv-alone-out rows i j k =
-    edge-within rows i j (λ d. let s = eqb-true (rowAt rows i .kind) SEND (and-out _ _ d .0) in omega arith)
+recv-alone-out rows i j k e = go (edge-by rows i j e)
+  where
+    go : (rowAt rows i .process ≡ rowAt rows j .process)
+        ⊎ ((delivers (rowAt rows i) (rowAt rows j) ≡ true) ⊎ (passes (rowAt rows) i (lastBefore (rowAt rows) j) ≡ true)) →
+        rowAt rows i .process ≡ rowAt rows j .process
+    go (inl q) = q
+    go (inr (inl d)) = let s = eqb-true (rowAt rows i .kind) SEND (and-out _ _ d .0) in absurd (omega arith)
+    go (inr (inr b)) = absurd (omega (arith, passes-kind (rowAt rows) i _ b))
+
+-- ---- The rows of one process
 
 -- Row i is of process p.
 abbrev ofProcess : List Row → ℕ → ℕ → Bool
@@ -165,7 +196,7 @@ upTo-closed rows p k i s l h a b u =
 -- ---- The last row of a process
 
 -- The number l names the last row of process q below j, as `lastOf` does.
-abbrev Last : (ℕ → ℕ) → ℕ → ℕ → ℕ → Type 0
+abbrev pub Last : (ℕ → ℕ) → ℕ → ℕ → ℕ → Type 0
 Last at q j zero = (k : ℕ) → k < j → at k ≡ q → ⊥
 Last at q j (suc l) = (l < j) × (at l ≡ q) × ((k : ℕ) → k < j → at k ≡ q → k ≤ l)
 
@@ -182,7 +213,7 @@ last-more at q j l o r = go l r
     go (suc l) r = (omega arith, r .1, λ k b s. r .2 k (under k b s (decLt k j)) s)
 
 -- `lastOf` names the last row.
-last-is : (at : ℕ → ℕ) (q j : ℕ) → Last at q j (lastOf at q j)
+pub last-is : (at : ℕ → ℕ) (q j : ℕ) → Last at q j (lastOf at q j)
 unfolding lastOf lastBelow
 last-is at q zero = λ k b s. omega arith
 last-is at q (suc j) = go (eqb (at j) q) refl (last-is at q j)
@@ -241,20 +272,20 @@ module _ (rows : List Row) (j : ℕ) (h : j < length rows) where
   last-out i zero r u = absurd (false≢true u)
   last-out i (suc l) r u = upTo-edge (edge-forward rows) i l j u (program-order rows l j (r .0) h (r .1))
 
-  -- The rows that happen before row j are those up to the last row of its process and those up to a send whose message arrives at it.
+  -- The rows that happen before row j are those up to the last row of its process and those up to a row that leads to it.
   hb-union : (i l : ℕ) → LastOf l →
-      hb (edge rows) i j ≡ unionTo (λ k. delivers (rowAt rows k) (rowAt rows j)) (λ k s. upTo (edge rows) s k) (upToLast (edge rows) l) j i
+      hb (edge rows) i j ≡ unionTo (λ k. crosses (rowAt rows) k j) (λ k s. upTo (edge rows) s k) (upToLast (edge rows) l) j i
   hb-union i l r =
       same-test _ _ (λ b. there (edge-upTo (edge-forward rows) (hb-iff (edge-forward rows) i j .0 b)))
       (λ b. hb-iff (edge-forward rows) i j .1 (back (or-out (upToLast (edge rows) l i) _ b)))
     where
       sent : ℕ → Bool
-      sent k = delivers (rowAt rows k) (rowAt rows j) && upTo (edge rows) i k
+      sent k = crosses (rowAt rows) k j && upTo (edge rows) i k
 
       there : (k : ℕ) × (edge rows k j ≡ true) × (upTo (edge rows) i k ≡ true) → upToLast (edge rows) l i || anyBelow j sent ≡ true
       there (k, e, u) = let o = edge-out rows k j e in go (o .2) (o .0)
         where
-          go : (rowAt rows k .process ≡ rowAt rows j .process) ⊎ (delivers (rowAt rows k) (rowAt rows j) ≡ true) → k < j →
+          go : (rowAt rows k .process ≡ rowAt rows j .process) ⊎ (crosses (rowAt rows) k j ≡ true) → k < j →
               upToLast (edge rows) l i || anyBelow j sent ≡ true
           go (inl s) b = rw (last-in i k l r b s u)
           go (inr d) b = or-right (upToLast (edge rows) l i) _ (any-in j sent k b (rw d u))
@@ -263,8 +294,8 @@ module _ (rows : List Row) (j : ℕ) (h : j < length rows) where
       back (inl u) = last-out i l r u
       back (inr a) =
           let t = any-out j sent a in
-          let b = and-out (delivers (rowAt rows (t .0)) (rowAt rows j)) (upTo (edge rows) i (t .0)) (t .2) in
-          upTo-edge (edge-forward rows) i (t .0) j (b .1) (message-order rows (t .0) j (t .1) h (b .0))
+          let b = and-out (crosses (rowAt rows) (t .0) j) (upTo (edge rows) i (t .0)) (t .2) in
+          upTo-edge (edge-forward rows) i (t .0) j (b .1) (cross-order rows (t .0) j (t .1) h (b .0))
 
 -- The rows of a process that happen before row j are as many as row j's clock says.
 count-before : (rows : List Row) (p j : ℕ) → j < length rows →
@@ -274,7 +305,7 @@ count-before rows p j h =
     let isP = ofProcess rows p in
     let l = lastOf (λ k. rowAt rows k .process) (rowAt rows j .process) j in
     let r = last-is (λ k. rowAt rows k .process) (rowAt rows j .process) j in
-    let sends : ℕ → Bool = λ k. delivers (rowAt rows k) (rowAt rows j) in
+    let sends : ℕ → Bool = λ k. crosses (rowAt rows) k j in
     count-same (length rows) _ _ (λ i b. ap (λ (x : Bool). isP i && x) (hb-union rows j h i l r))
     ∙ count-joined (length rows) isP sends (λ k i. upTo (edge rows) i k) (upToLast (edge rows) l) (last-closed rows p l) (upTo-closed rows p) j
     ∙ ap (λ (x : ℕ). joinedTo sends (λ k. count rows p k) x j) (count-last rows p l)

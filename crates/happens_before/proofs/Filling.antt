@@ -4,7 +4,7 @@ use native.Mathlib.Nat.{zero-mul, suc-mul}
 use native.Mathlib.Decide.{decLt}
 use native.Mathlib.Omega.{arith}
 use mathlib.Core.Path.{_≡_, refl, sym, ap, _∙_}
-use mathlib.Core.Bool.{cond}
+use mathlib.Core.Bool.{cond, _||_}
 use mathlib.Core.List.{List, _++_, append-assoc}
 use lib.ListN.{length, getD, take, drop, replicate, length-append, length-replicate, replicate-append-replicate, List·getD-append}
 use lib.Seq.{take-at, drop-at, getD-append-add, drop-append-add}
@@ -12,8 +12,8 @@ use lib.Dec.{eqb}
 use Rattle.rows.specs.declared.Row.{Row}
 use Rattle.rows.specs.Rows.{rowsIn, rowAt, rowIn}
 use Rattle.rows.specs.Counting.{values, blocks, lastBelow}
-use Rattle.happens_before.specs.Order.{delivers, count, countsOf}
-use Rattle.happens_before.specs.Clock.{lastOf, fromLast, joinedTo, clock, cellIn, withCounts, filledRow}
+use Rattle.happens_before.specs.Order.{delivers, sameBarrier, lastOf, lastBefore, passes, crosses, count, countsOf}
+use Rattle.happens_before.specs.Clock.{fromLast, joinedTo, clock, cellIn, withCounts, filledRow}
 use Rattle.happens_before.specs.Tables.{Tables}
 use Rattle.happens_before.proofs.Cells.{values-length, values-at, values-same}
 use Rattle.happens_before.proofs.Joins.{last-low, joined-same}
@@ -36,6 +36,27 @@ last-same f g q (suc n) h =
 from-same : (f g : ℕ → ℕ) (m n : ℕ) → m ≤ n → ((k : ℕ) → k < n → f k ≡ g k) → fromLast f m ≡ fromLast g m
 from-same f g zero n l h = refl
 from-same f g (suc m) n l h = h m l
+
+module _ (f g : ℕ → Row) (n : ℕ) (h : (k : ℕ) → k < n → f k ≡ g k) where
+  -- The last row of a row's process is the same for rows that agree.
+  before-same : (j : ℕ) → j < n → lastBefore f j ≡ lastBefore g j
+  before-same j l =
+      last-same (λ k. f k .process) (λ k. g k .process) (f j .process) j (λ k q. ap (λ (r : Row). r .process) (h k (omega arith)))
+      ∙ ap (λ (r : Row). lastOf (λ k. g k .process) (r .process) j) (h j l)
+
+  -- Rows that agree are of the same barriers.
+  passes-same : (k m : ℕ) → k < n → m ≤ n → passes f k m ≡ passes g k m
+  unfolding passes
+  passes-same k zero a b = refl
+  passes-same k (suc m) a b = λ i. sameBarrier (h k a i) (h m b i)
+
+  -- Rows that agree lead to the same rows.
+  crosses-same : (k j : ℕ) → k < n → j < n → crosses f k j ≡ crosses g k j
+  unfolding crosses
+  crosses-same k j a b =
+      let low = last-low (λ i. f i .process) (f j .process) j in
+      (λ i. delivers (h k a i) (h j b i) || passes-same k (lastBefore f j) a (omega arith) i)
+      ∙ ap (λ (m : ℕ). delivers (g k) (g j) || passes g k m) (before-same j b)
 
 -- ---- Blocks of P values
 
@@ -95,40 +116,34 @@ module _ (n P L : ℕ) (xs : List ℕ) where
     abbrev rows : List Row
     rows = rowsIn n xs
 
-    at : (k : ℕ) → k < j → rowIn xs k ≡ rowAt rows k
-    at k q = sym (row-in n k xs (omega arith))
-
-    here : rowIn xs j ≡ rowAt rows j
-    here = sym (row-in n j xs h)
+    at : (k : ℕ) → k < n → rowIn xs k ≡ rowAt rows k
+    at k q = sym (row-in n k xs q)
 
     cells : (p : ℕ) → p < P → (k : ℕ) → k < j → cellIn P (filledTo j) k p ≡ counted k p
     cells p l k q = cell-done P counted j k p (replicate (L - j * P) 0) q l
 
     -- In the slice, the last row of the process has its counts.
     start-count : (p : ℕ) → p < P →
-        fromLast (λ k. cellIn P (filledTo j) k p) (lastOf (λ k. rowIn xs k .process) (rowIn xs j .process) j)
-        ≡ fromLast (λ k. counted k p) (lastOf (λ k. rowAt rows k .process) (rowAt rows j .process) j)
+        fromLast (λ k. cellIn P (filledTo j) k p) (lastBefore (rowIn xs) j) ≡ fromLast (λ k. counted k p) (lastBefore (rowAt rows) j)
     start-count p l =
-        from-same (λ k. cellIn P (filledTo j) k p) (λ k. counted k p) (lastOf (λ k. rowIn xs k .process) (rowIn xs j .process) j) j
+        from-same (λ k. cellIn P (filledTo j) k p) (λ k. counted k p) (lastBefore (rowIn xs) j) j
         (last-low (λ k. rowIn xs k .process) (rowIn xs j .process) j) (cells p l)
-        ∙ ap (fromLast (λ k. counted k p))
-        (last-same (λ k. rowIn xs k .process) (λ k. rowAt rows k .process) (rowIn xs j .process) j (λ k q. ap (λ (r : Row). r .process) (at k q))
-        ∙ ap (λ (r : Row). lastOf (λ k. rowAt rows k .process) (r .process) j) here)
+        ∙ ap (fromLast (λ k. counted k p)) (before-same (rowIn xs) (rowAt rows) n at j h)
 
-    -- In the slice, the sends have their counts.
-    sends-count : (p : ℕ) → p < P → (a : ℕ) →
-        joinedTo (λ k. delivers (rowIn xs k) (rowIn xs j)) (λ k. cellIn P (filledTo j) k p) a j
-        ≡ joinedTo (λ k. delivers (rowAt rows k) (rowAt rows j)) (λ k. counted k p) a j
-    sends-count p l a =
-        joined-same (λ k. delivers (rowIn xs k) (rowIn xs j)) (λ k. delivers (rowAt rows k) (rowAt rows j))
-        j (λ k q. λ i. delivers (at k q i) (here i)) (cells p l) refl
+    -- In the slice, the rows that lead to row j have their counts.
+    leads-count : (p : ℕ) → p < P → (a : ℕ) →
+        joinedTo (λ k. crosses (rowIn xs) k j) (λ k. cellIn P (filledTo j) k p) a j
+        ≡ joinedTo (λ k. crosses (rowAt rows) k j) (λ k. counted k p) a j
+    leads-count p l a =
+        joined-same (λ k. crosses (rowIn xs) k j) (λ k. crosses (rowAt rows) k j)
+        j (λ k q. crosses-same (rowIn xs) (rowAt rows) n at k j (omega arith) h) (cells p l) refl
 
     -- Row j is filled with its counts.
     filled-count : (p : ℕ) → p < P → filledRow P xs (filledTo j) j p ≡ counted j p
     unfolding filledRow clock
     filled-count p l =
         let in-rows : j < length rows = omega (arith, length-rows n xs) in
-        (λ i. sends-count p l (start-count p l i) i + cond (eqb (here i .process) p) 1 0) ∙ sym (vector-clock rows p j in-rows)
+        (λ i. leads-count p l (start-count p l i) i + cond (eqb (at j h i .process) p) 1 0) ∙ sym (vector-clock rows p j in-rows)
 
     module _ (room : j * P + P ≤ L) where
       -- The slice with row j put there is filled one row further.

@@ -1,26 +1,28 @@
--- The last row of a process, the sends whose messages arrive at a row, and a row's counts joined from those of other rows.
+-- The last row of a process, the rows that belong together with a row, and a row's counts joined from those of other rows.
 use Prim.Native.Nat.{ℕ, zero, suc, _+_, _*_, _-_, _≤_, _<_, max}
 use native.Mathlib.Nat.{max-zero, zero-max, max-le, add-zero, sub-add-eq-max}
 use native.Mathlib.Decide.{ℕ-discrete}
 use native.Mathlib.Omega.{arith}
 use mathlib.Core.Path.{_≡_, refl, sym, ap, ap₂, _∙_}
-use mathlib.Core.Bool.{Bool, true, false, cond, and-false, false≢true}
+use mathlib.Core.Logic.{_⊎_, inl, inr}
+use mathlib.Core.Bool.{Bool, true, false, cond, _&&_, _||_, and-false, or-true, or-false, false≢true}
 use mathlib.Core.List.{List, _++_}
 use lib.ListN.{length, getD, take, drop, set, length-set}
 use lib.Seq.{getD-drop, getD-set-same, getD-set-other, take-set-le, drop-set-lt}
 use lib.Dec.{eqb}
 use borrow.Author.Tests.{eq-eqb, ne-eqb, eqb-true}
-use Rattle.rows.specs.Kinds.{SEND, ARRIVAL}
+use Rattle.rows.specs.declared.Row.{Row}
+use Rattle.rows.specs.Kinds.{SEND, ARRIVAL, BARRIER}
 use Rattle.rows.specs.Rows.{rowHere, rowIn}
 use Rattle.rows.specs.Counting.{values, lastBelow}
-use Rattle.happens_before.specs.Order.{delivers}
-use Rattle.happens_before.specs.Clock.{lastOf, fromLast, joinedTo, cellIn, withCounts, joinedRow, joinedLast, joinedSends, withOwn, filledRow}
-use Rattle.happens_before.proofs.Cells.{put, values-same, put-same, put-at, put-before, put-behind, put-next, put-over, put-length}
+use Rattle.happens_before.specs.Order.{delivers, sameBarrier, lastOf, lastBefore, passes, crosses}
+use Rattle.happens_before.specs.Clock.{fromLast, joinedTo, alike, pairs, cellIn, withCounts, joinedRow, joinedLast, joinedPairs, joinedSends, joinedBarrier, withOwn, filledRow}
+use Rattle.happens_before.proofs.Cells.{put, values-same, put-same, put-at, put-before, put-behind, put-next, put-over}
 use Rattle.rows.specs.Limits.{ROWS}
-use Rattle.rows.proofs.Bools.{and-out}
+use Rattle.rows.proofs.Bools.{and-out, or-out}
 use Rattle.rows.proofs.Below.{last-most, last-again, last-passes}
 use Rattle.rows.proofs.Products.{block-before}
-use Rattle.happens_before.specs.Tables.{chainOf, inChain, lastSend}
+use Rattle.happens_before.specs.Tables.{chainOf, inChain, lastChained}
 
 -- ---- Rows of a slice
 
@@ -45,29 +47,38 @@ pub last-low : (f : ℕ → ℕ) (q n : ℕ) → lastOf f q n ≤ n
 unfolding lastOf
 last-low f q n = last-most n (λ i. eqb (f i) q)
 
-module _ (xs : List ℕ) (k j : ℕ) where
-  -- A row that is no send delivers nothing.
-  pub no-send : (getD xs (k * 6 + 1) 0 ≡ SEND → ⊥) → false ≡ delivers (rowIn xs k) (rowIn xs j)
-  no-send e = rw (kind-in xs k, ne-eqb (getD xs (k * 6 + 1) 0) SEND e)
+module _ (one other : ℕ) (xs : List ℕ) (k t : ℕ) where
+  -- A first row of another kind.
+  pub first-other : (getD xs (k * 6 + 1) 0 ≡ one → ⊥) → false ≡ alike one other (rowIn xs k) (rowIn xs t)
+  first-other e = rw (kind-in xs k, ne-eqb (getD xs (k * 6 + 1) 0) one e)
 
-  -- At a row of another kind nothing arrives.
-  pub no-arrival : (getD xs (j * 6 + 1) 0 ≡ ARRIVAL → ⊥) → false ≡ delivers (rowIn xs k) (rowIn xs j)
-  no-arrival e = rw (kind-in xs j, ne-eqb (getD xs (j * 6 + 1) 0) ARRIVAL e) (sym (and-false (eqb (rowIn xs k .kind) SEND)))
+  -- A second row of another kind.
+  pub second-other : (getD xs (t * 6 + 1) 0 ≡ other → ⊥) → false ≡ alike one other (rowIn xs k) (rowIn xs t)
+  second-other e = rw (kind-in xs t, ne-eqb (getD xs (t * 6 + 1) 0) other e) (sym (and-false (eqb (rowIn xs k .kind) one)))
 
-  -- Of a send and an arrival, the messages decide.
-  pub by-message : getD xs (k * 6 + 1) 0 ≡ SEND → getD xs (j * 6 + 1) 0 ≡ ARRIVAL →
-      eqb (getD xs (k * 6 + 5) 0) (getD xs (j * 6 + 5) 0) ≡ delivers (rowIn xs k) (rowIn xs j)
+  -- Of two rows of these kinds, the numbers decide.
+  pub by-message : getD xs (k * 6 + 1) 0 ≡ one → getD xs (t * 6 + 1) 0 ≡ other →
+      eqb (getD xs (k * 6 + 5) 0) (getD xs (t * 6 + 5) 0) ≡ alike one other (rowIn xs k) (rowIn xs t)
   by-message s r =
       rw (
         kind-in xs k,
-        eq-eqb (getD xs (k * 6 + 1) 0) SEND s,
-        kind-in xs j,
-        eq-eqb (getD xs (j * 6 + 1) 0) ARRIVAL r,
+        eq-eqb (getD xs (k * 6 + 1) 0) one s,
+        kind-in xs t,
+        eq-eqb (getD xs (t * 6 + 1) 0) other r,
         message-in xs k,
-        message-in xs j,
+        message-in xs t,
       )
 
--- ---- Values joined with those of the sends
+module _ (r s : Row) where
+  -- A send and the row at which its message arrives belong together.
+  pub by-send : delivers r s ≡ true → true ≡ pairs r s
+  by-send e = rw e
+
+  -- Of other rows, those of one barrier belong together.
+  pub by-barrier : {b : Bool} → delivers r s ≡ false → b ≡ sameBarrier r s → b ≡ pairs r s
+  by-barrier e q = rw e q
+
+-- ---- Values joined with those of the rows that lead to a row
 
 -- Tests, values and starts that agree join to the same value.
 pub joined-same : (s t : ℕ → Bool) {f g : ℕ → ℕ} {a b : ℕ} (n : ℕ) → ((k : ℕ) → k < n → s k ≡ t k) → ((k : ℕ) → k < n → f k ≡ g k) → a ≡ b →
@@ -78,20 +89,20 @@ joined-same s t (suc n) h e q =
     let ih = joined-same s t n (λ k l. h k (omega arith)) (λ k l. e k (omega arith)) q in
     λ i. cond (h n (omega arith) i) (max (ih i) (e n (omega arith) i)) (ih i)
 
-module _ (sends : ℕ → Bool) where
-  -- Without a send the start stays.
-  joined-none : (f : ℕ → ℕ) (s n : ℕ) → ((k : ℕ) → sends k ≡ false) → joinedTo sends f s n ≡ s
+module _ (leads : ℕ → Bool) where
+  -- Where no row leads there, the start stays.
+  joined-none : (f : ℕ → ℕ) (s n : ℕ) → ((k : ℕ) → leads k ≡ false) → joinedTo leads f s n ≡ s
   unfolding joinedTo
   joined-none f s zero e = refl
   joined-none f s (suc n) e = rw (e n) (joined-none f s n e)
 
   -- Values up to a bound join to a value up to that bound.
-  joined-low : {f : ℕ → ℕ} {s b : ℕ} (n : ℕ) → ((k : ℕ) → k < n → f k ≤ b) → s ≤ b → joinedTo sends f s n ≤ b
+  joined-low : {f : ℕ → ℕ} {s b : ℕ} (n : ℕ) → ((k : ℕ) → k < n → f k ≤ b) → s ≤ b → joinedTo leads f s n ≤ b
   unfolding joinedTo
   joined-low zero e q = q
-  joined-low {f} {s} {b} (suc n) e q = go (sends n) (joined-low n (λ k h. e k (omega arith)) q) (e n (omega arith))
+  joined-low {f} {s} {b} (suc n) e q = go (leads n) (joined-low n (λ k h. e k (omega arith)) q) (e n (omega arith))
     where
-      go : (t : Bool) → joinedTo sends f s n ≤ b → f n ≤ b → cond t (max (joinedTo sends f s n) (f n)) (joinedTo sends f s n) ≤ b
+      go : (t : Bool) → joinedTo leads f s n ≤ b → f n ≤ b → cond t (max (joinedTo leads f s n) (f n)) (joinedTo leads f s n) ≤ b
       go true h g = max-le h g
       go false h g = h
 
@@ -145,7 +156,7 @@ module _ (P : ℕ) (l : List ℕ) (j : ℕ) (fits : j * P + P ≤ length l) wher
           getD-set-other l (j * P + q) (j * P + p) (cellIn P l j q + 1) 0 (λ e. n (omega arith))
           ∙ sym (rw (ne-eqb q p (λ e. n (sym e))) (add-zero (cellIn P l j p)))
 
--- ---- The sends joined
+-- ---- Rows joined one after the other
 
 -- Of three numbers the larger two join in either order.
 max-swap : (a b c : ℕ) → max (max a b) c ≡ max (max a c) b
@@ -153,70 +164,101 @@ max-swap a b c =
     let swap : a - b + b - c + c ≡ a - c + c - b + b = omega arith in
     sym (λ i. sub-add-eq-max (sub-add-eq-max a b i) c i) ∙ swap ∙ (λ i. sub-add-eq-max (sub-add-eq-max a c i) b i)
 
-module _ (sends : ℕ → Bool) (f : ℕ → ℕ) where
+module _ (leads : ℕ → Bool) (f : ℕ → ℕ) where
   -- What is joined with the start is joined with the whole.
-  joined-start : (a b n : ℕ) → joinedTo sends f (max a b) n ≡ max (joinedTo sends f a n) b
+  joined-start : (a b n : ℕ) → joinedTo leads f (max a b) n ≡ max (joinedTo leads f a n) b
   unfolding joinedTo
   joined-start a b zero = refl
-  joined-start a b (suc n) = go (sends n) (joined-start a b n)
+  joined-start a b (suc n) = go (leads n) (joined-start a b n)
     where
-      go : (t : Bool) → joinedTo sends f (max a b) n ≡ max (joinedTo sends f a n) b →
-          cond t (max (joinedTo sends f (max a b) n) (f n)) (joinedTo sends f (max a b) n)
-          ≡ max (cond t (max (joinedTo sends f a n) (f n)) (joinedTo sends f a n)) b
-      go true rest = ap (λ (x : ℕ). max x (f n)) rest ∙ max-swap (joinedTo sends f a n) b (f n)
+      go : (t : Bool) → joinedTo leads f (max a b) n ≡ max (joinedTo leads f a n) b →
+          cond t (max (joinedTo leads f (max a b) n) (f n)) (joinedTo leads f (max a b) n)
+          ≡ max (cond t (max (joinedTo leads f a n) (f n)) (joinedTo leads f a n)) b
+      go true rest = ap (λ (x : ℕ). max x (f n)) rest ∙ max-swap (joinedTo leads f a n) b (f n)
       go false rest = rest
 
-  -- The sends below n are those up to the last that passes a test that every send passes.
-  joined-skip : (test : ℕ → Bool) → ((k : ℕ) → sends k ≡ true → test k ≡ true) → (a n : ℕ) →
-      joinedTo sends f a n ≡ joinedTo sends f a (lastBelow n test)
+  -- The rows below n that lead there are those up to the last that passes a test that each of them passes.
+  joined-skip : (test : ℕ → Bool) → ((k : ℕ) → leads k ≡ true → test k ≡ true) → (a n : ℕ) →
+      joinedTo leads f a n ≡ joinedTo leads f a (lastBelow n test)
   unfolding joinedTo lastBelow
   joined-skip test h a zero = refl
-  joined-skip test h a (suc n) = go (test n) refl (sends n) refl (joined-skip test h a n)
+  joined-skip test h a (suc n) = go (test n) refl (leads n) refl (joined-skip test h a n)
     where
-      go : (t : Bool) → test n ≡ t → (s : Bool) → sends n ≡ s → joinedTo sends f a n ≡ joinedTo sends f a (lastBelow n test) →
-          joinedTo sends f a (suc n) ≡ joinedTo sends f a (cond t (suc n) (lastBelow n test))
+      go : (t : Bool) → test n ≡ t → (s : Bool) → leads n ≡ s → joinedTo leads f a n ≡ joinedTo leads f a (lastBelow n test) →
+          joinedTo leads f a (suc n) ≡ joinedTo leads f a (cond t (suc n) (lastBelow n test))
       go true e s d rest = refl
       go false e true d rest = absurd (false≢true (sym e ∙ h n d))
       go false e false d rest = rw d rest
 
--- Every send whose message arrives at row j is in the chain of row j's message.
-arrived-chain : (xs : List ℕ) (j k : ℕ) → delivers (rowIn xs k) (rowIn xs j) ≡ true → inChain xs (chainOf (rowIn xs j .message)) k ≡ true
-arrived-chain xs j k d =
-    let a = and-out (eqb (rowIn xs k .kind) SEND) _ d in
-    let b = and-out (eqb (rowIn xs j .kind) ARRIVAL) _ (a .1) in
-    let m = eqb-true (rowIn xs k .message) (rowIn xs j .message) (b .1) in
-    rw (a .0) (eq-eqb (chainOf (rowIn xs k .message)) (chainOf (rowIn xs j .message)) (ap chainOf m))
+-- Joining the rows that pass one test and then those that pass another joins the rows that pass either.
+joined-either : (s t : ℕ → Bool) (f : ℕ → ℕ) (a n : ℕ) → joinedTo t f (joinedTo s f a n) n ≡ joinedTo (λ k. s k || t k) f a n
+unfolding joinedTo
+joined-either s t f a zero = refl
+joined-either s t f a (suc n) = go (s n) (t n) (joined-either s t f a n)
+  where
+    S : ℕ
+    S = joinedTo s f a n
 
--- The sends of row j's message are joined from the last to the first: `next` is 0 or names a send of the chain, row j's counts joined with those
--- of the sends below `next` are those of all sends, and nothing but row j's counts has changed.
-pub record Joining (P : ℕ) (xs l : List ℕ) (j : ℕ) (x : List ℕ) (next : ℕ) : Type 0 where
+    E : ℕ
+    E = joinedTo (λ k. s k || t k) f a n
+
+    -- Row n joined first is joined with the whole.
+    first : joinedTo t f S n ≡ E → joinedTo t f (max S (f n)) n ≡ max E (f n)
+    first rest = joined-start t f S (f n) n ∙ ap (λ (x : ℕ). max x (f n)) rest
+
+    go : (b c : Bool) → joinedTo t f S n ≡ E →
+        cond c (max (joinedTo t f (cond b (max S (f n)) S) n) (f n)) (joinedTo t f (cond b (max S (f n)) S) n) ≡ cond (b || c) (max E (f n)) E
+    go true true rest = ap (λ (x : ℕ). max x (f n)) (first rest) ∙ omega arith
+    go true false rest = first rest
+    go false true rest = ap (λ (x : ℕ). max x (f n)) rest
+    go false false rest = rest
+
+-- ---- The rows joined that belong together with a row
+
+-- Every row that belongs together with row t is in the chain of row t's number.
+paired-chain : (xs : List ℕ) (t k : ℕ) → pairs (rowIn xs k) (rowIn xs t) ≡ true → inChain xs (chainOf (rowIn xs t .message)) k ≡ true
+paired-chain xs t k d = go (or-out (delivers (rowIn xs k) (rowIn xs t)) (sameBarrier (rowIn xs k) (rowIn xs t)) d)
+  where
+    -- Two rows with one number have one chain.
+    one : (kind : ℕ) → eqb (rowIn xs t .kind) kind && eqb (rowIn xs k .message) (rowIn xs t .message) ≡ true →
+        eqb (chainOf (rowIn xs k .message)) (chainOf (rowIn xs t .message)) ≡ true
+    one kind e =
+        let m = eqb-true (rowIn xs k .message) (rowIn xs t .message) (and-out (eqb (rowIn xs t .kind) kind) _ e .1) in
+        eq-eqb (chainOf (rowIn xs k .message)) (chainOf (rowIn xs t .message)) (ap chainOf m)
+
+    go : (delivers (rowIn xs k) (rowIn xs t) ≡ true) ⊎ (sameBarrier (rowIn xs k) (rowIn xs t) ≡ true) →
+        inChain xs (chainOf (rowIn xs t .message)) k ≡ true
+    go (inl e) = let a = and-out (eqb (rowIn xs k .kind) SEND) _ e in rw (a .0) (one ARRIVAL (a .1))
+    go (inr e) =
+        let a = and-out (eqb (rowIn xs k .kind) BARRIER) _ e in
+        rw (a .0, or-true (eqb (rowIn xs k .kind) SEND)) (one BARRIER (a .1))
+
+-- The rows that belong together with row t are joined from the last to the first: `next` is 0 or names a row of the chain, row j's counts joined
+-- with those of such rows below `next` are those of all such rows below row j, and nothing but row j's counts has changed.
+pub record Joining (P : ℕ) (xs l : List ℕ) (t j : ℕ) (x : List ℕ) (next : ℕ) : Type 0 where
   pub low : next ≤ j
-  pub linked : lastSend xs (chainOf (rowIn xs j .message)) next ≡ next
+  pub linked : lastChained xs (chainOf (rowIn xs t .message)) next ≡ next
   pub size : length x ≡ length l
   pub others : x ≡ withCounts P l j (cellIn P x j)
   pub left : (p : ℕ) → p < P →
-      joinedTo (λ i. delivers (rowIn xs i) (rowIn xs j)) (λ i. cellIn P l i p) (cellIn P x j p) next ≡ joinedSends P xs l j p
+      joinedTo (λ i. pairs (rowIn xs i) (rowIn xs t)) (λ i. cellIn P l i p) (cellIn P x j p) next ≡ joinedPairs P xs l j t p
 
-module _ (P : ℕ) (xs l : List ℕ) (j : ℕ) (fits : j * P + P ≤ length l) where
-  -- What row i sends arrives at row j.
-  abbrev sends : ℕ → Bool
-  sends i = delivers (rowIn xs i) (rowIn xs j)
+module _ (P : ℕ) (xs l : List ℕ) (t j : ℕ) (fits : j * P + P ≤ length l) where
+  -- Row i belongs together with row t.
+  abbrev paired : ℕ → Bool
+  paired i = pairs (rowIn xs i) (rowIn xs t)
 
-  -- The last send of row j's chain below a row.
+  -- The last row of row t's chain below a row.
   abbrev previous : ℕ → ℕ
-  previous = lastSend xs (chainOf (rowIn xs j .message))
+  previous = lastChained xs (chainOf (rowIn xs t .message))
 
-  -- Row j's counts joined with those of the sends below n are those joined with the sends up to the chain's last send below n.
-  skipped : (p a n : ℕ) → joinedTo sends (λ i. cellIn P l i p) a n ≡ joinedTo sends (λ i. cellIn P l i p) a (previous n)
-  skipped p a n = joined-skip sends (λ i. cellIn P l i p) (inChain xs (chainOf (rowIn xs j .message))) (arrived-chain xs j) a n
+  -- Row j's counts joined with those of the rows below n are those joined with the rows up to the chain's last row below n.
+  skipped : (p a n : ℕ) → joinedTo paired (λ i. cellIn P l i p) a n ≡ joinedTo paired (λ i. cellIn P l i p) a (previous n)
+  skipped p a n = joined-skip paired (λ i. cellIn P l i p) (inChain xs (chainOf (rowIn xs t .message))) (paired-chain xs t) a n
 
-  -- A row at which nothing arrives joins nothing.
-  pub sends-none : (getD xs (j * 6 + 1) 0 ≡ ARRIVAL → ⊥) → l ≡ withCounts P l j (joinedSends P xs l j)
-  sends-none e = put-same (j * P) P l fits (λ p h. sym (joined-none _ _ _ j (λ k. sym (no-arrival xs k j e))))
-
-  -- The chain's last send below row j comes first.
-  pub sends-first : {next : ℕ} → next ≡ previous j → Joining P xs l j l next
-  sends-first e =
+  -- The chain's last row below row j comes first.
+  pub pairs-first : {next : ℕ} → next ≡ previous j → Joining P xs l t j l next
+  pairs-first e =
       record {
         low = rw e (last-most j _);
         linked = rw e (last-again j _);
@@ -225,48 +267,48 @@ module _ (P : ℕ) (xs l : List ℕ) (j : ℕ) (fits : j * P + P ≤ length l) w
         left = λ p h. rw e (sym (skipped p (cellIn P l j p) j));
       }
 
-  -- Where no send is left, all are joined.
-  pub sends-done : {x : List ℕ} {next : ℕ} → Joining P xs l j x next → next ≤ 0 → x ≡ withCounts P l j (joinedSends P xs l j)
+  -- Where no row is left, all are joined.
+  pub pairs-done : {x : List ℕ} {next : ℕ} → Joining P xs l t j x next → next ≤ 0 → x ≡ withCounts P l j (joinedPairs P xs l j t)
   unfolding joinedTo
-  sends-done {x} {next} g h =
+  pairs-done {x} {next} g h =
       let z : next ≡ 0 = omega arith in
-      g .others ∙ with-same P l j (λ p m. ap (joinedTo sends (λ i. cellIn P l i p) (cellIn P x j p)) (sym z) ∙ g .left p m)
+      g .others ∙ with-same P l j (λ p m. ap (joinedTo paired (λ i. cellIn P l i p) (cellIn P x j p)) (sym z) ∙ g .left p m)
 
-  module _ {x : List ℕ} {next k : ℕ} (g : Joining P xs l j x next) (here : next ≡ suc k) where
-    -- The send that comes next is in the chain.
-    pub next-chained : inChain xs (chainOf (rowIn xs j .message)) k ≡ true
+  module _ {x : List ℕ} {next k : ℕ} (g : Joining P xs l t j x next) (here : next ≡ suc k) where
+    -- The row that comes next is in the chain.
+    pub next-chained : inChain xs (chainOf (rowIn xs t .message)) k ≡ true
     next-chained = last-passes k _ (rw here at (g .linked))
 
-    -- The send that comes next stands before row j.
+    -- The row that comes next stands before row j.
     before : k < j
     before = omega (arith, g .low)
 
-    -- The counts that are left to join are those of the send that comes next, if its message arrives at row j, and of those before it.
+    -- The counts that are left to join are those of the row that comes next, if it belongs together with row t, and of those before it.
     split : (p : ℕ) → p < P →
-        cond (sends k) (joinedTo sends (λ i. cellIn P l i p) (max (cellIn P x j p) (cellIn P l k p)) k) (joinedTo sends (λ i. cellIn P l i p) (cellIn P x j p) k)
-        ≡ joinedSends P xs l j p
+        cond (paired k) (joinedTo paired (λ i. cellIn P l i p) (max (cellIn P x j p) (cellIn P l k p)) k) (joinedTo paired (λ i. cellIn P l i p) (cellIn P x j p) k)
+        ≡ joinedPairs P xs l j t p
     unfolding joinedTo
     split p h =
-        ap (λ (v : ℕ). cond (sends k) v (joinedTo sends (λ i. cellIn P l i p) (cellIn P x j p) k)) (joined-start sends (λ i. cellIn P l i p) (cellIn P x j p) (cellIn P l k p) k)
-        ∙ ap (joinedTo sends (λ i. cellIn P l i p) (cellIn P x j p)) (sym here) ∙ g .left p h
+        ap (λ (v : ℕ). cond (paired k) v (joinedTo paired (λ i. cellIn P l i p) (cellIn P x j p) k)) (joined-start paired (λ i. cellIn P l i p) (cellIn P x j p) (cellIn P l k p) k)
+        ∙ ap (joinedTo paired (λ i. cellIn P l i p) (cellIn P x j p)) (sym here) ∙ g .left p h
 
-    module _ {b : Bool} {after : ℕ} (d : b ≡ sends k) (link : after ≡ previous k) where
-      -- Where its message does not arrive at row j, the chain goes on with the send before.
-      pub sends-skip : b ≡ false → Joining P xs l j x after
-      sends-skip q =
+    module _ {b : Bool} {after : ℕ} (d : b ≡ paired k) (link : after ≡ previous k) where
+      -- Where it does not belong together with row t, the chain goes on with the row before it.
+      pub pairs-skip : b ≡ false → Joining P xs l t j x after
+      pairs-skip q =
           record {
-            low = rw link (omega (arith, last-most k (inChain xs (chainOf (rowIn xs j .message))), before));
+            low = rw link (omega (arith, last-most k (inChain xs (chainOf (rowIn xs t .message))), before));
             linked = rw link (last-again k _);
             size = g .size;
             others = g .others;
             left = λ p h. rw link (sym (skipped p (cellIn P x j p) k) ∙ rw (sym d ∙ q) at (split p h));
           }
 
-      -- Where its message arrives at row j, its counts are joined, and the chain goes on with the send before.
-      pub sends-join : {y : List ℕ} → b ≡ true → length y ≡ length x → y ≡ withCounts P x j (joinedRow P x j k) → Joining P xs l j y after
-      sends-join {y} q s f =
+      -- Where it does, its counts are joined, and the chain goes on with the row before it.
+      pub pairs-join : {y : List ℕ} → b ≡ true → length y ≡ length x → y ≡ withCounts P x j (joinedRow P x j k) → Joining P xs l t j y after
+      pairs-join {y} q s f =
           record {
-            low = rw link (omega (arith, last-most k (inChain xs (chainOf (rowIn xs j .message))), before));
+            low = rw link (omega (arith, last-most k (inChain xs (chainOf (rowIn xs t .message))), before));
             linked = rw link (last-again k _);
             size = s ∙ g .size;
             others =
@@ -282,44 +324,99 @@ module _ (P : ℕ) (xs l : List ℕ) (j : ℕ) (fits : j * P + P ≤ length l) w
           cell : (p : ℕ) → p < P → cellIn P y j p ≡ joinedRow P x j k p
           cell p h = ap (λ (w : List ℕ). cellIn P w j p) f ∙ put-at (j * P) P x (joinedRow P x j k) room p h
 
-          -- The counts of the send are as they were.
+          -- The counts of the row that was joined are as they were.
           kept : (p : ℕ) → p < P → cellIn P x k p ≡ cellIn P l k p
           kept p h = ap (λ (w : List ℕ). cellIn P w k p) (g .others) ∙ row-kept P l j fits (cellIn P x j) before h
 
+-- ---- Sends and barrier rows
+
+module _ (P : ℕ) (xs l : List ℕ) (j : ℕ) (fits : j * P + P ≤ length l) where
+  -- A test that no row passes joins nothing.
+  none-joined : (leads : ℕ → Bool) → ((k : ℕ) → leads k ≡ false) →
+      l ≡ withCounts P l j (λ p. joinedTo leads (λ k. cellIn P l k p) (cellIn P l j p) j)
+  none-joined leads e = put-same (j * P) P l fits (λ p h. sym (joined-none leads _ _ j e))
+
+  -- Where the rows that belong together with row t are those that pass a test, they are joined.
+  pairs-joined : (leads : ℕ → Bool) (t : ℕ) → ((k : ℕ) → pairs (rowIn xs k) (rowIn xs t) ≡ leads k) →
+      withCounts P l j (joinedPairs P xs l j t) ≡ withCounts P l j (λ p. joinedTo leads (λ k. cellIn P l k p) (cellIn P l j p) j)
+  pairs-joined leads t e = with-same P l j (λ p h. joined-same _ leads j (λ k m. e k) (λ k m. refl) refl)
+
+  -- A row at which nothing arrives joins no send.
+  pub sends-none : (getD xs (j * 6 + 1) 0 ≡ ARRIVAL → ⊥) → l ≡ withCounts P l j (joinedSends P xs l j)
+  sends-none e = none-joined _ (λ k. sym (second-other SEND ARRIVAL xs k j e))
+
+  -- The rows that belong together with a row at which a message arrives are the sends of the message.
+  pub sends-some : getD xs (j * 6 + 1) 0 ≡ ARRIVAL → withCounts P l j (joinedPairs P xs l j j) ≡ withCounts P l j (joinedSends P xs l j)
+  sends-some e =
+      pairs-joined (λ k. delivers (rowIn xs k) (rowIn xs j)) j
+      (λ k. rw (← second-other BARRIER BARRIER xs k j (λ b. omega arith)) (or-false (delivers (rowIn xs k) (rowIn xs j))))
+
+  -- Where there is no last row, no barrier row is joined.
+  pub barrier-none : {last : ℕ} → last ≡ 0 → l ≡ withCounts P l j (joinedBarrier P xs l j last)
+  unfolding passes
+  barrier-none {last} z = rw z (none-joined _ (λ k. refl))
+
+  module _ {last : ℕ} (h : 0 < last) where
+    -- The last row is row `last` - 1.
+    named : (k : ℕ) → passes (rowIn xs) k last ≡ sameBarrier (rowIn xs k) (rowIn xs (last - 1))
+    unfolding passes
+    named k = let e : last ≡ suc (last - 1) = omega arith in ap (passes (rowIn xs) k) e
+
+    -- Where the last row is of no barrier, no barrier row is joined.
+    pub barrier-other : (getD xs ((last - 1) * 6 + 1) 0 ≡ BARRIER → ⊥) → l ≡ withCounts P l j (joinedBarrier P xs l j last)
+    barrier-other e = none-joined _ (λ k. named k ∙ sym (second-other BARRIER BARRIER xs k (last - 1) e))
+
+    -- The rows that belong together with a barrier row are those of its barrier.
+    pub barrier-some : getD xs ((last - 1) * 6 + 1) 0 ≡ BARRIER →
+        withCounts P l j (joinedPairs P xs l j (last - 1)) ≡ withCounts P l j (joinedBarrier P xs l j last)
+    barrier-some e =
+        pairs-joined (λ k. passes (rowIn xs) k last) (last - 1)
+        (λ k. rw (← second-other SEND ARRIVAL xs k (last - 1) (λ a. omega arith)) (sym (named k)))
+
 -- ---- A row filled
 
--- Row j's counts from its process's last row and the sends whose messages arrive at row j.
+-- Row j's counts from its process's last row and the rows that lead to row j.
 abbrev joined : ℕ → List ℕ → List ℕ → ℕ → ℕ → ℕ
 joined P xs l j p =
-    joinedTo (λ k. delivers (rowIn xs k) (rowIn xs j)) (λ k. cellIn P l k p)
-    (fromLast (λ k. cellIn P l k p) (lastOf (λ k. rowIn xs k .process) (getD xs (j * 6) 0) j)) j
+    joinedTo (λ k. crosses (rowIn xs) k j) (λ k. cellIn P l k p) (fromLast (λ k. cellIn P l k p) (lastBefore (rowIn xs) j)) j
 
-module _ (P : ℕ) (xs l : List ℕ) (j : ℕ) (fits : j * P + P ≤ length l) (zeros : (p : ℕ) → p < P → cellIn P l j p ≡ 0)
-    {x y : List ℕ} {last : ℕ} (e : last ≡ lastOf (λ k. rowIn xs k .process) (getD xs (j * 6) 0) j)
-    (a : x ≡ withCounts P l j (joinedLast P l j last)) (b : y ≡ withCounts P x j (joinedSends P xs x j)) where
-  -- Row j is within the slice still.
-  kept : j * P + P ≤ length x
-  kept = omega (arith, ap length a, put-length (j * P) P l (joinedLast P l j last) fits)
+module _ (P : ℕ) (xs l : List ℕ) (j : ℕ) (fits : j * P + P ≤ length l) where
+  -- Rows that are joined into a row j that was put are joined with what was put.
+  then-joined : (leads : ℕ → Bool) (f : ℕ → ℕ) {x y : List ℕ} → x ≡ withCounts P l j f →
+      y ≡ withCounts P x j (λ p. joinedTo leads (λ k. cellIn P x k p) (cellIn P x j p) j) →
+      y ≡ withCounts P l j (λ p. joinedTo leads (λ k. cellIn P l k p) (f p) j)
+  then-joined leads f {x} a b =
+      let g : ℕ → ℕ = λ p. joinedTo leads (λ k. cellIn P x k p) (cellIn P x j p) j in
+      b ∙ ap (λ (w : List ℕ). withCounts P w j g) a ∙ put-over (j * P) P l f fits g
+      ∙ with-same P l j (λ p h. joined-same leads leads j (λ k m. refl)
+      (λ k m. ap (λ (w : List ℕ). cellIn P w k p) a ∙ row-kept P l j fits f m h)
+      (ap (λ (w : List ℕ). cellIn P w j p) a ∙ put-at (j * P) P l f fits p h))
 
-  -- Row j's counts, before the row itself is counted.
-  row-joined : (p : ℕ) → p < P → cellIn P y j p ≡ joined P xs l j p
-  row-joined p h =
-      let f : ℕ → ℕ = λ k. cellIn P l k p in
-      let g = joinedLast P l j last in
-      ap (λ (w : List ℕ). cellIn P w j p) b ∙ put-at (j * P) P x (joinedSends P xs x j) kept p h
-      ∙ joined-same (λ k. delivers (rowIn xs k) (rowIn xs j)) (λ k. delivers (rowIn xs k) (rowIn xs j)) j (λ k m. refl) (λ k m. ap (λ (w : List ℕ). cellIn P w k p) a ∙ row-kept P l j fits g m h)
-      (ap (λ (w : List ℕ). cellIn P w j p) a ∙ put-at (j * P) P l g fits p h ∙ (λ i. max (zeros p h i) (fromLast f (e i))) ∙ zero-max _)
+  module _ (zeros : (p : ℕ) → p < P → cellIn P l j p ≡ 0) {x y z : List ℕ} {last : ℕ} (e : last ≡ lastBefore (rowIn xs) j)
+      (a : x ≡ withCounts P l j (joinedLast P l j last)) (b : y ≡ withCounts P x j (joinedSends P xs x j))
+      (c : z ≡ withCounts P y j (joinedBarrier P xs y j last)) where
+    -- Row j holds its counts, before the row itself is counted.
+    row-joined : z ≡ withCounts P l j (joined P xs l j)
+    unfolding crosses
+    row-joined =
+        let sent : ℕ → Bool = λ k. delivers (rowIn xs k) (rowIn xs j) in
+        let passed : ℕ → Bool = λ k. passes (rowIn xs) k last in
+        then-joined passed _ (then-joined sent (joinedLast P l j last) a b) c
+        ∙ with-same P l j (λ p h. joined-either sent passed (λ k. cellIn P l k p) (joinedLast P l j last p) j
+        ∙ (λ i. joinedTo (λ k. sent k || passes (rowIn xs) k (e i)) (λ k. cellIn P l k p) (max (zeros p h i) (fromLast (λ k. cellIn P l k p) (e i))) j)
+        ∙ ap (λ (s : ℕ). joinedTo (λ k. crosses (rowIn xs) k j) (λ k. cellIn P l k p) s j) (zero-max _))
 
-  -- Row j's counts are at most the largest row limit, if those of the rows before are.
-  pub joined-most : ((k : ℕ) → (p : ℕ) → k < j → p < P → cellIn P l k p ≤ ROWS) → (p : ℕ) → p < P → cellIn P y j p ≤ ROWS
-  joined-most low p h =
-      rw (row-joined p h) (joined-low _ j (λ k m. low k p m h) (from-low _ (last-low _ (getD xs (j * 6) 0) j) (λ k m. low k p m h)))
+    -- Row j's counts are at most the largest row limit, if those of the rows before are.
+    pub joined-most : ((k : ℕ) → (p : ℕ) → k < j → p < P → cellIn P l k p ≤ ROWS) → (p : ℕ) → p < P → cellIn P z j p ≤ ROWS
+    joined-most low p h =
+        rw (ap (λ (w : List ℕ). cellIn P w j p) row-joined ∙ put-at (j * P) P l (joined P xs l j) fits p h)
+        (joined-low _ j (λ k m. low k p m h) (from-low _ (last-low _ (rowIn xs j .process) j) (λ k m. low k p m h)))
 
-  -- With row j itself counted, row j is filled.
-  pub row-filled : {z : List ℕ} → z ≡ withCounts P y j (withOwn (getD xs (j * 6) 0) (λ p. cellIn P y j p)) → z ≡ withCounts P l j (filledRow P xs l j)
-  unfolding filledRow
-  row-filled f =
-      let g = withOwn (getD xs (j * 6) 0) (λ p. cellIn P y j p) in
-      f ∙ ap (λ (w : List ℕ). withCounts P w j g) b ∙ put-over (j * P) P x (joinedSends P xs x j) kept g
-      ∙ ap (λ (w : List ℕ). withCounts P w j g) a ∙ put-over (j * P) P l (joinedLast P l j last) fits g
-      ∙ rw (process-in xs j) (with-same P l j (λ p h. ap (λ (n : ℕ). n + cond (eqb (getD xs (j * 6) 0) p) 1 0) (row-joined p h)))
+    -- With row j itself counted, row j is filled.
+    pub row-filled : {w : List ℕ} → w ≡ withCounts P z j (withOwn (getD xs (j * 6) 0) (λ p. cellIn P z j p)) → w ≡ withCounts P l j (filledRow P xs l j)
+    unfolding filledRow
+    row-filled f =
+        let g = withOwn (getD xs (j * 6) 0) (λ p. cellIn P z j p) in
+        f ∙ ap (λ (w : List ℕ). withCounts P w j g) row-joined ∙ put-over (j * P) P l (joined P xs l j) fits g
+        ∙ rw (← process-in xs j) (with-same P l j (λ p h. ap (λ (n : ℕ). n + cond (eqb (rowIn xs j .process) p) 1 0)
+        (ap (λ (w : List ℕ). cellIn P w j p) row-joined ∙ put-at (j * P) P l (joined P xs l j) fits p h)))

@@ -6,3 +6,4 @@ pub mod Tables
 pub mod Filling
 pub mod Asking
 pub mod Postings
+pub mod Barriers

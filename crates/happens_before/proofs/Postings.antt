@@ -1,78 +1,77 @@
--- A posted receive gives no order: two other rows are ordered exactly as they are by edges between rows that are no recv.
-use Prim.Native.Nat.{ℕ, _<_}
-use native.Mathlib.Omega.{arith}
+-- A posted receive gives no order by itself: a trace has the same edges where every recv is a row that carries nothing.
+use Prim.Native.Nat.{ℕ, zero, suc}
 use mathlib.Core.Path.{_≡_, refl, ap, _∙_}
-use mathlib.Core.Logic.{_↔_, _⊎_, inl, inr}
-use mathlib.Core.Bool.{Bool, true, false, not, _&&_}
-use mathlib.Core.List.{List}
-use lib.Dec.{eqb}
-use borrow.Author.Tests.{ne-eqb, eqb-true, eqb-false}
+use mathlib.Core.Bool.{Bool, true, false, cond, _&&_, _||_}
+use mathlib.Core.List.{List, [], _∷_, map}
+use lib.ListN.{length, length-map}
+use lib.Dec.{ltb, eqb}
+use borrow.Author.Tests.{eqb-true}
 use Rattle.rows.specs.declared.Row.{Row}
-use Rattle.rows.specs.Kinds.{RECV}
+use Rattle.rows.specs.Kinds.{READ, SEND, RECV, ARRIVAL, BARRIER}
 use Rattle.rows.specs.Rows.{rowAt}
-use Rattle.rows.proofs.Bools.{and-out}
-use Rattle.happens_before.specs.Order.{edge, HB, one, more}
-use Rattle.happens_before.proofs.Clocks.{HB-less, edge-out, edge-forward, program-order, recv-alone, recv-alone-out}
+use Rattle.happens_before.specs.Order.{delivers, lastOf, lastBefore, passes, crosses, edge}
 
-module _ (rows : List Row) where
-  -- The row is no recv.
-  abbrev other : ℕ → Bool
-  other i = not (eqb (rowAt rows i .kind) RECV)
+-- A read of row r's process whose other fields are 0.
+abbrev pub blank : Row → Row
+blank r = record { process = r .process; kind = READ; file = 0; offset = 0; length = 0; message = 0 }
 
-  -- A direct edge between two rows that are no recv.
-  abbrev pub edgeOfOthers : ℕ → ℕ → Bool
-  edgeOfOthers i j = edge rows i j && (other i && other j)
+-- A recv becomes such a read. Any other row stays.
+abbrev pub withoutPost : Row → Row
+withoutPost r = cond (eqb (r .kind) RECV) (blank r) r
 
-  -- The row is no recv, as a statement.
-  abbrev pub Other : ℕ → Type 0
-  Other i = rowAt rows i .kind ≡ RECV → ⊥
+-- The row at a place of a trace without posts.
+row-without : (rows : List Row) (i : ℕ) → rowAt (map withoutPost rows) i ≡ withoutPost (rowAt rows i)
+row-without [] i = refl
+row-without (r ∷ rows) zero = refl
+row-without (r ∷ rows) (suc i) = row-without rows i
 
-  -- An edge between others is one of theirs.
-  of-others : (i j : ℕ) → edge rows i j ≡ true → Other i → Other j → edgeOfOthers i j ≡ true
-  of-others i j e n m = rw (e, ne-eqb (rowAt rows i .kind) RECV n, ne-eqb (rowAt rows j .kind) RECV m)
-
-  -- Row k is no recv, and it is row i or row i happens before it by edges between others.
-  abbrev From : ℕ → ℕ → Type 0
-  From i k = Other k × ((i ≡ k) ⊎ HB edgeOfOthers i k)
-
-  -- Row j is such a row; or it is a recv, and such a row of its process stands before it.
-  abbrev Reached : ℕ → ℕ → Type 0
-  Reached i j = From i j ⊎ ((rowAt rows j .kind ≡ RECV) × ((k : ℕ) × (k < j) × (rowAt rows k .process ≡ rowAt rows j .process) × From i k))
-
-  -- An edge from such a row to another row goes on.
-  goes-on : (i k j : ℕ) → From i k → edge rows k j ≡ true → Other j → From i j
-  goes-on i k j (n, inl q) e m = (m, inr (one (ap (λ (x : ℕ). edgeOfOthers x j) q ∙ of-others k j e n m)))
-  goes-on i k j (n, inr h) e m = (m, inr (more h (of-others k j e n m)))
-
-  -- So does one to a recv, which is of the same process.
-  steps : (i k j : ℕ) → From i k → edge rows k j ≡ true → Reached i j
-  steps i k j f e = go (eqb (rowAt rows j .kind) RECV) refl
+module _ (r : Row) where
+  -- The process stays.
+  process-without : withoutPost r .process ≡ r .process
+  process-without = go (eqb (r .kind) RECV)
     where
-      go : (b : Bool) → eqb (rowAt rows j .kind) RECV ≡ b → Reached i j
-      go true q = let r = eqb-true (rowAt rows j .kind) RECV q in inr (r, (k, edge-out rows k j e .0, recv-alone rows k j r e, f))
-      go false q = inl (goes-on i k j f e (eqb-false (rowAt rows j .kind) RECV q))
+      go : (b : Bool) → cond b (blank r) r .process ≡ r .process
+      go true = refl
+      go false = refl
 
-  -- Every row behind a row that is no recv is reached so.
-  reached : {i j : ℕ} → Other i → HB (edge rows) i j → Reached i j
-  reached n (one {i} {j} e) = steps i i j (n, inl refl) e
-  reached n (more {i} {k} {j} h e) = go (reached n h)
+  -- A row of a kind that is neither read nor recv keeps its kind and its message, and no other row becomes one.
+  kind-without : (kind : ℕ) → eqb READ kind ≡ false → eqb RECV kind ≡ false → (test : ℕ → Bool) →
+      eqb (withoutPost r .kind) kind && test (withoutPost r .message) ≡ eqb (r .kind) kind && test (r .message)
+  kind-without kind a b test = go (eqb (r .kind) RECV) refl
     where
-      go : Reached i k → Reached i j
-      go (inl f) = steps i k j f e
-      go (inr (r, (m, l, p, f))) =
-          let o = edge-out rows k j e in
-          steps i m j f (program-order rows m j (omega (arith, l, o .0)) (o .1) (p ∙ recv-alone-out rows k j r e))
+      go : (t : Bool) → eqb (r .kind) RECV ≡ t →
+          eqb (cond t (blank r) r .kind) kind && test (cond t (blank r) r .message) ≡ eqb (r .kind) kind && test (r .message)
+      go true e = rw (a, eqb-true (r .kind) RECV e, b)
+      go false e = refl
 
-  -- Edges between others are edges.
-  fewer : {i j : ℕ} → HB edgeOfOthers i j → HB (edge rows) i j
-  fewer (one {i} {j} e) = one (and-out (edge rows i j) _ e .0)
-  fewer (more {i} {k} {j} h e) = more (fewer h) (and-out (edge rows k j) _ e .0)
+-- Two rows of such kinds with one message are such rows without posts, and no others are.
+message-without : (k l : ℕ) → (eqb READ k ≡ false) × (eqb RECV k ≡ false) → (eqb READ l ≡ false) × (eqb RECV l ≡ false) → (r s : Row) →
+    eqb (withoutPost r .kind) k && (eqb (withoutPost s .kind) l && eqb (withoutPost r .message) (withoutPost s .message))
+    ≡ eqb (r .kind) k && (eqb (s .kind) l && eqb (r .message) (s .message))
+message-without k l a b r s =
+    kind-without r k (a .0) (a .1) (λ m. eqb (withoutPost s .kind) l && eqb m (withoutPost s .message))
+    ∙ ap (λ (x : Bool). eqb (r .kind) k && x) (kind-without s l (b .0) (b .1) (λ m. eqb (r .message) m))
 
-  -- Of two rows that are no recv, one happens before the other exactly where it does by edges between rows that are no recv.
-  pub recv-no-order : (i j : ℕ) → Other i → Other j → HB (edge rows) i j ↔ HB edgeOfOthers i j
-  recv-no-order i j n m = (λ h. go (HB-less (edge-forward rows) h) (reached n h), fewer)
-    where
-      go : i < j → Reached i j → HB edgeOfOthers i j
-      go l (inl (o, inl q)) = absurd (omega arith)
-      go l (inl (o, inr h)) = h
-      go l (inr (r, rest)) = absurd (m r)
+module _ (at : ℕ → Row) (i : ℕ) where
+  -- The rows of a barrier stay.
+  passes-without : (last : ℕ) → passes (λ k. withoutPost (at k)) i last ≡ passes at i last
+  unfolding passes
+  passes-without zero = refl
+  passes-without (suc k) = message-without BARRIER BARRIER (refl, refl) (refl, refl) (at i) (at k)
+
+  -- A row leads to the same rows.
+  crosses-without : (j : ℕ) → crosses (λ k. withoutPost (at k)) i j ≡ crosses at i j
+  unfolding crosses
+  crosses-without j =
+      (λ t. message-without SEND ARRIVAL (refl, refl) (refl, refl) (at i) (at j) t
+      || passes (λ k. withoutPost (at k)) i (lastOf (λ k. process-without (at k) t) (process-without (at j) t) j))
+      ∙ ap (λ (x : Bool). delivers (at i) (at j) || x) (passes-without (lastBefore at j))
+
+-- A trace has the same edges without its posts.
+pub recv-no-order : (rows : List Row) (i j : ℕ) → edge (map withoutPost rows) i j ≡ edge rows i j
+unfolding edge
+recv-no-order rows i j =
+    (λ t. ltb i j && (ltb j (length-map rows withoutPost t)
+    && (eqb (row-without rows i t .process) (row-without rows j t .process) || crosses (λ k. row-without rows k t) i j)))
+    ∙ (λ t. ltb i j && (ltb j (length rows)
+    && (eqb (process-without (rowAt rows i) t) (process-without (rowAt rows j) t) || crosses-without (rowAt rows) i j t)))

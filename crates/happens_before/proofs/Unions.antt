@@ -1,12 +1,8 @@
 -- Unions of closed sets of rows, and how many rows of a process they hold.
-use Prim.Native.Nat.{ℕ, zero, suc, _+_, max, _≤_, _<_}
-use native.Mathlib.Omega.{arith}
-use native.Mathlib.Decide.{decLt}
-use mathlib.Core.Path.{_≡_, refl, sym, ap, _∙_}
-use mathlib.Core.Logic.{_↔_, _⊎_, inl, inr}
-use mathlib.Core.Bool.{Bool, true, false, cond, _&&_, _||_, false≢true, or-true, or-false, or-assoc, and-true, and-false}
-use lib.Dec.{eqb}
-use borrow.Author.Tests.{eq-eqb, ne-eqb}
+use Prim.Native.Nat.{ℕ, zero, suc, max}
+use mathlib.Core.Path.{_≡_}
+use mathlib.Core.Logic.{_⊎_, inl, inr}
+use mathlib.Core.Bool.{Bool, true, false, cond, _&&_, _||_, or-false, or-assoc}
 use Rattle.rows.specs.Counting.{anyBelow, countBelow}
 use Rattle.happens_before.specs.Clock.{joinedTo}
 use Rattle.rows.proofs.Bools.{and-out, or-out, or-right}

@@ -6,8 +6,8 @@ use mathlib.Core.List.{List}
 use lib.ListN.{length}
 use lib.Dec.{ltb, eqb}
 use Rattle.rows.specs.declared.Row.{Row}
-use Rattle.rows.specs.Kinds.{SEND, ARRIVAL}
-use Rattle.rows.specs.Counting.{anyBelow, countBelow, values, blocks}
+use Rattle.rows.specs.Kinds.{SEND, ARRIVAL, BARRIER}
+use Rattle.rows.specs.Counting.{anyBelow, lastBelow, countBelow, values, blocks}
 use Rattle.rows.specs.Rows.{rowAt}
 
 -- Two rows are of one process.
@@ -18,10 +18,32 @@ sameProcess r s = eqb (r .process) (s .process)
 abbrev pub delivers : Row → Row → Bool
 delivers r s = eqb (r .kind) SEND && (eqb (s .kind) ARRIVAL && eqb (r .message) (s .message))
 
--- A direct edge from row i to row j: i stands before j in the trace, and both are of one process or what i sends arrives at j. No other
--- definition knows of messages.
+-- Two rows are of one barrier.
+abbrev pub sameBarrier : Row → Row → Bool
+sameBarrier r s = eqb (r .kind) BARRIER && (eqb (s .kind) BARRIER && eqb (r .message) (s .message))
+
+-- The index of the last row of a process below k, plus one; 0 where there is none.
+unfoldable pub lastOf : (ℕ → ℕ) → ℕ → ℕ → ℕ
+lastOf processAt process k = lastBelow k (λ i. eqb (processAt i) process)
+
+-- The last row of row j's process before row j, named so.
+abbrev pub lastBefore : (ℕ → Row) → ℕ → ℕ
+lastBefore at j = lastOf (λ k. at k .process) (at j .process) j
+
+-- Row i is of one barrier with the row that such a number names.
+unfoldable pub passes : (ℕ → Row) → ℕ → ℕ → Bool
+passes at i zero = false
+passes at i (suc k) = sameBarrier (at i) (at k)
+
+-- Row i leads to row j, of whatever process: what row i sends arrives at row j, or row i is of the barrier just after which row j stands in its
+-- process.
+unfoldable pub crosses : (ℕ → Row) → ℕ → ℕ → Bool
+crosses at i j = delivers (at i) (at j) || passes at i (lastBefore at j)
+
+-- A direct edge from row i to row j: i stands before j in the trace, and both are of one process or row i leads to row j. No other definition
+-- knows of messages and barriers.
 unfoldable pub edge : List Row → ℕ → ℕ → Bool
-edge rows i j = ltb i j && (ltb j (length rows) && (sameProcess (rowAt rows i) (rowAt rows j) || delivers (rowAt rows i) (rowAt rows j)))
+edge rows i j = ltb i j && (ltb j (length rows) && (sameProcess (rowAt rows i) (rowAt rows j) || crosses (rowAt rows) i j))
 
 -- Happens-before is the transitive closure of direct edges.
 pub data HB (edge : ℕ → ℕ → Bool) : ℕ → ℕ → Type 0 where

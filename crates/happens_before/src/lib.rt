@@ -4,15 +4,14 @@ ghost use mathlib.Core.Path.{_≡_};
 ghost use Prim.Native.Nat.{ℕ, max, _+_, _*_, _-_, _<_, _≤_};
 ghost use lib.ListN.{length};
 ghost use Rattle.rows.specs.Questions.{longEnough, firstNo};
-ghost use Rattle.happens_before.specs.Order.{delivers};
-ghost use Rattle.happens_before.specs.Clock.{cellIn, withCounts, joinedRow, joinedLast, joinedSends, withOwn, filledRow};
+ghost use Rattle.happens_before.specs.Clock.{alike, pairs, cellIn, withCounts, joinedRow, joinedLast, joinedPairs, joinedSends, joinedBarrier, withOwn, filledRow};
 ghost use Rattle.rows.specs.Rows.{rowIn};
 ghost use Rattle.happens_before.specs.Filling.{processesIn, fillQuestions, filledOf, filledLeft};
-ghost use Rattle.happens_before.specs.Tables.{chainOf, Chains, Tables};
+ghost use Rattle.happens_before.specs.Tables.{chainOf, chained, Chains, Tables};
 use rows::refusal;
 ghost use Rattle.rows.specs.Limits.{ROWS, PROCESSES, FIELDS};
 
-// How many chains of sends there are. A message's chain is its remainder by this number, so any message has one.
+// How many chains there are. The chain of a message or a barrier is its number's remainder by this number, so any number has one.
 const CHAINS: usize = 4096;
 
 // The counts were filled, or the number of the question that was answered No.
@@ -115,10 +114,11 @@ fn fill_row(
     let last = lasts[process as usize] as usize;
     join_last(counts, last, j, processes);
     join_sends(rows, j, processes, counts, heads, earlier);
+    join_barrier(rows, last, j, processes, counts, heads, earlier);
     add_own(counts, j, processes, process);
 }
 
-// Notes row j in the tables: as the last row of its process and, if it is a send, as the head of its message's chain.
+// Notes row j in the tables: as the last row of its process and, if it is a send or a barrier row, as the head of its number's chain.
 fn note_row(rows: &[u32], j: usize, lasts: &mut [u16], heads: &mut [u16], earlier: &mut [u16])
     requires { ⌜ (j * FIELDS + FIELDS ≤ length (now rows)) × (j < ROWS) × (rowIn (now rows) j .process < PROCESSES) ⌝ }
     requires { ⌜ Tables (now rows) j (now lasts) (now heads) (now earlier) ⌝ }
@@ -127,34 +127,52 @@ fn note_row(rows: &[u32], j: usize, lasts: &mut [u16], heads: &mut [u16], earlie
     let at = j * rows::FIELDS;
     let next = j as u16 + 1;
     lasts[rows[at] as usize] = next;
-    if rows[at + rows::KIND_AT] == rows::SEND {
+    if is_chained(rows[at + rows::KIND_AT]) {
         let chain = chain_of(rows[at + rows::MESSAGE_AT]);
         earlier[j] = heads[chain];
         heads[chain] = next;
     }
 }
 
-// Answers the chain of a message.
+// Answers the chain of a number in the message field.
 fn chain_of(message: u32) -> usize
     ensures { λ r. ⌜ r ≡ chainOf message ⌝ }
 {
     message as usize % CHAINS
 }
 
-// What row k sends arrives at row j.
-fn arrives(rows: &[u32], k: usize, j: usize) -> bool
-    requires { ⌜ (k * FIELDS + FIELDS ≤ length (now rows)) × (j * FIELDS + FIELDS ≤ length (now rows)) ⌝ }
-    ensures { λ r. ⌜ r ≡ delivers (rowIn (now (rows .entry)) k) (rowIn (now (rows .entry)) j) ⌝ }
+// Rows of this kind stand in chains: sends and barrier rows.
+fn is_chained(kind: u32) -> bool
+    ensures { λ r. ⌜ r ≡ chained kind ⌝ }
+{
+    kind == rows::SEND || kind == rows::BARRIER
+}
+
+// Row k is of the first kind, row t of the second, and both have one number in the message field.
+fn are_alike(rows: &[u32], k: usize, t: usize, one: u32, other: u32) -> bool
+    requires { ⌜ (k * FIELDS + FIELDS ≤ length (now rows)) × (t * FIELDS + FIELDS ≤ length (now rows)) ⌝ }
+    ensures { λ r. ⌜ r ≡ alike one other (rowIn (now (rows .entry)) k) (rowIn (now (rows .entry)) t) ⌝ }
 {
     let from = k * rows::FIELDS;
-    let to = j * rows::FIELDS;
-    if rows[from + rows::KIND_AT] != rows::SEND {
+    let to = t * rows::FIELDS;
+    if rows[from + rows::KIND_AT] != one {
         return false;
     }
-    if rows[to + rows::KIND_AT] != rows::ARRIVAL {
+    if rows[to + rows::KIND_AT] != other {
         return false;
     }
     rows[from + rows::MESSAGE_AT] == rows[to + rows::MESSAGE_AT]
+}
+
+// Rows k and t belong together: what row k sends arrives at row t, or both are of one barrier.
+fn belong(rows: &[u32], k: usize, t: usize) -> bool
+    requires { ⌜ (k * FIELDS + FIELDS ≤ length (now rows)) × (t * FIELDS + FIELDS ≤ length (now rows)) ⌝ }
+    ensures { λ r. ⌜ r ≡ pairs (rowIn (now (rows .entry)) k) (rowIn (now (rows .entry)) t) ⌝ }
+{
+    if are_alike(rows, k, t, rows::SEND, rows::ARRIVAL) {
+        return true;
+    }
+    are_alike(rows, k, t, rows::BARRIER, rows::BARRIER)
 }
 
 // The larger of two counts.
@@ -188,7 +206,34 @@ fn join_last(counts: &mut [u16], last: usize, j: usize, processes: usize)
     }
 }
 
-// Joins the counts of every send whose message arrives at row j into those of row j: the chain of the message leads from send to earlier send.
+// Joins the counts of every row before row j that belongs together with row t into those of row j: the chain of row t's number leads from row to
+// earlier row.
+fn join_pairs(
+    rows: &[u32],
+    t: usize,
+    j: usize,
+    processes: usize,
+    counts: &mut [u16],
+    heads: &[u16],
+    earlier: &[u16],
+)
+    requires { ⌜ (t ≤ j) × (j * FIELDS + FIELDS ≤ length (now rows)) × (processes ≤ PROCESSES) × (j * processes + processes ≤ length (now counts)) ⌝ }
+    requires { ⌜ Chains (now rows) j (now heads) (now earlier) ⌝ }
+    ensures { λ r. ⌜ now (counts .exit) ≡ withCounts processes (now (counts .entry)) j (joinedPairs processes (now (rows .entry)) (now (counts .entry)) j t) ⌝ }
+{
+    let at = t * rows::FIELDS;
+    let chain = chain_of(rows[at + rows::MESSAGE_AT]);
+    let mut next = heads[chain] as usize;
+    while 0 < next {
+        let k = next - 1;
+        if belong(rows, k, t) {
+            join(counts, k, j, processes);
+        }
+        next = earlier[k] as usize;
+    }
+}
+
+// Joins the counts of every send whose message arrives at row j into those of row j.
 fn join_sends(
     rows: &[u32],
     j: usize,
@@ -205,15 +250,32 @@ fn join_sends(
     if rows[at + rows::KIND_AT] != rows::ARRIVAL {
         return;
     }
-    let chain = chain_of(rows[at + rows::MESSAGE_AT]);
-    let mut next = heads[chain] as usize;
-    while 0 < next {
-        let k = next - 1;
-        if arrives(rows, k, j) {
-            join(counts, k, j, processes);
-        }
-        next = earlier[k] as usize;
+    join_pairs(rows, j, j, processes, counts, heads, earlier);
+}
+
+// Joins the counts of every row of the barrier that row `last` - 1 is of into those of row j. Nothing changes where `last` is 0 or names a row
+// that is of no barrier.
+fn join_barrier(
+    rows: &[u32],
+    last: usize,
+    j: usize,
+    processes: usize,
+    counts: &mut [u16],
+    heads: &[u16],
+    earlier: &[u16],
+)
+    requires { ⌜ (last ≤ j) × (j * FIELDS + FIELDS ≤ length (now rows)) × (processes ≤ PROCESSES) × (j * processes + processes ≤ length (now counts)) ⌝ }
+    requires { ⌜ Chains (now rows) j (now heads) (now earlier) ⌝ }
+    ensures { λ r. ⌜ now (counts .exit) ≡ withCounts processes (now (counts .entry)) j (joinedBarrier processes (now (rows .entry)) (now (counts .entry)) j last) ⌝ }
+{
+    if last == 0 {
+        return;
     }
+    let at = (last - 1) * rows::FIELDS;
+    if rows[at + rows::KIND_AT] != rows::BARRIER {
+        return;
+    }
+    join_pairs(rows, last - 1, j, processes, counts, heads, earlier);
 }
 
 // Counts row j itself.

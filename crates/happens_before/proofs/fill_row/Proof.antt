@@ -54,30 +54,37 @@ join-sends-requires c κs =
     let s = c .before .before .before .before .before .before .before .before .before .before .before .before in
     ((s .pre .0 .0, s .pre .0 .1, omega (arith, s .pre .0 .2, c .before .before .before .join-last .kept .0)), s .pre .1 .1 .1 .chains)
 
-add-own-requires : tie.Need-add-own-requires
-add-own-requires c κs =
+join-barrier-requires : tie.Need-join-barrier-requires
+join-barrier-requires c κs =
     let s = c .before .before .before .before .before .before .before .before .before .before .before .before .before .before .before .before in
     let a = s .args in
+    let few = last-few (now (a .rows)) (a .j) (s .pre .1 .1 .1) (omega (arith, s .pre .0 .1, rw process-in at (s .pre .0 .3))) in
+    ((few, s .pre .0 .0, s .pre .0 .1, omega (arith, s .pre .0 .2, c .before .before .before .before .before .before .before .join-last .kept .0, c .before .before .before .join-sends .kept .1 .1 .1 .0)), s .pre .1 .1 .1 .chains)
+
+add-own-requires : tie.Need-add-own-requires
+add-own-requires c κs =
+    let s = c .before .before .before .before .before .before .before .before .before .before .before .before .before .before .before .before .before .before .before .before in
+    let a = s .args in
     let found = last-found (now (a .rows)) (a .j) (s .pre .1 .1 .1) (omega (arith, s .pre .0 .1, rw process-in at (s .pre .0 .3))) in
-    let m = c .before .before .before .before .before .before .before .join-last in
-    let n = c .before .before .before .join-sends in
+    let l = c .before .before .before .before .before .before .before .before .before .before .before .join-last in
+    let m = c .before .before .before .before .before .before .before .join-sends in
+    let n = c .before .before .before .join-barrier in
     let own = rw process-in at (s .pre .0 .3) in (
       s .pre .0 .1,
-      omega (arith, s .pre .0 .2, m .kept .0, n .kept .1 .1 .1 .0),
+      omega (arith, s .pre .0 .2, l .kept .0, m .kept .1 .1 .1 .0, n .kept .1 .1 .1 .1 .0),
       own,
-      joined-most (a .processes) (now (a .rows)) (now (a .counts)) (a .j) (s .pre .0 .2) (s .pre .1 .0) found (m .ensures) (n .ensures) (s .pre .1 .1 .0) _ own,
+      joined-most (a .processes) (now (a .rows)) (now (a .counts)) (a .j) (s .pre .0 .2) (s .pre .1 .0) found (l .ensures) (m .ensures) (n .ensures) (s .pre .1 .1 .0) _ own,
     )
 
 same-length : tie.Need-same-length
-same-length c =
-    c .before .before .add-own .kept .0 ∙ c .before .before .before .before .before .before .join-sends .kept .1 .1 .1 .0 ∙ c .before .before .before .before .before .before .before .before .before .before .join-last .kept .0
+same-length c = c .before .before .add-own .kept .0 ∙ c .before .before .before .before .before .before .join-barrier .kept .1 .1 .1 .1 .0 ∙ c .before .before .before .before .before .before .before .before .before .before .join-sends .kept .1 .1 .1 .0 ∙ c .before .before .before .before .before .before .before .before .before .before .before .before .before .before .join-last .kept .0
 
 returns : tie.Need-returns
 returns c =
-    let s = c .before .before .before .before .before .before .before .before .before .before .before .before .before .before .before .before .before .before .before in
+    let s = c .before .before .before .before .before .before .before .before .before .before .before .before .before .before .before .before .before .before .before .before .before .before .before in
     let a = s .args in
     let found = last-found (now (a .rows)) (a .j) (s .pre .1 .1 .1) (omega (arith, s .pre .0 .1, rw process-in at (s .pre .0 .3))) in
-    row-filled (a .processes) (now (a .rows)) (now (a .counts)) (a .j) (s .pre .0 .2) (s .pre .1 .0) found (c .before .before .before .before .before .before .before .before .before .before .join-last .ensures) (c .before .before .before .before .before .before .join-sends .ensures) (c .before .before .add-own .ensures)
+    row-filled (a .processes) (now (a .rows)) (now (a .counts)) (a .j) (s .pre .0 .2) (s .pre .1 .0) found (c .before .before .before .before .before .before .before .before .before .before .before .before .before .before .join-last .ensures) (c .before .before .before .before .before .before .before .before .before .before .join-sends .ensures) (c .before .before .before .before .before .before .join-barrier .ensures) (c .before .before .add-own .ensures)
 
 pub fill-row-spec : {M : Type 1} → statement M
 fill-row-spec =
@@ -92,6 +99,7 @@ fill-row-spec =
     cast-last-2
     join-last-requires
     join-sends-requires
+    join-barrier-requires
     add-own-requires
     same-length
     returns)

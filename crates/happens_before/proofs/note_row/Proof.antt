@@ -1,12 +1,12 @@
 -- `happens_before::note_row` meets its contract.
 use borrow.Author.Needs.{needs}
 use Rattle.happens_before.proofs.Joins.{process-in}
-use Rattle.happens_before.proofs.Tables.{other-noted, send-noted}
+use Rattle.happens_before.proofs.Tables.{other-noted, chained-noted}
+use mathlib.Core.Path.{sym, _∙_}
 use native.Mathlib.Omega.{arith}
 use denote.Ref.{now}
 use Rattle.happens_before.proofs.note_row.Statement.{statement}
 use Rattle.happens_before.proofs.note_row.Tie as tie
-use Rattle.happens_before.proofs.chain_of.Reads as chain-of-reads
 
 mul-at : tie.Need-mul-at
 mul-at c = search needs
@@ -24,24 +24,31 @@ shared-slice-read-lasts : tie.Need-shared-slice-read-lasts
 shared-slice-read-lasts c = search needs
 
 cast-lasts : tie.Need-cast-lasts
-cast-lasts c = let own = rw process-in at (c .before .before .before .before .before .pre .0 .2) in omega arith
+cast-lasts c =
+    let s = c .before .before .before .before .before in
+    let own = rw process-in at (s .pre .0 .2) in omega arith
 
 mul-lasts-2 : tie.Need-mul-lasts-2
-mul-lasts-2 c = let own = rw process-in at (c .before .before .before .before .before .pre .0 .2) in omega arith
+mul-lasts-2 c =
+    let s = c .before .before .before .before .before in
+    let own = rw process-in at (s .pre .0 .2) in omega arith
 
 slice-write-lasts : tie.Need-slice-write-lasts
 slice-write-lasts c =
     let s = c .before .before .before .before .before in
     let own = rw process-in at (s .pre .0 .2) in omega (arith, s .pre .1 .lasts-hold .length-is)
 
-add-if1 : tie.Need-add-if1
-add-if1 c = search needs
+add-is-chained : tie.Need-add-is-chained
+add-is-chained c = search needs
 
-mul-if1 : tie.Need-mul-if1
-mul-if1 c = search needs
+mul-is-chained : tie.Need-mul-is-chained
+mul-is-chained c = search needs
 
-shared-slice-read-if1 : tie.Need-shared-slice-read-if1
-shared-slice-read-if1 c = search needs
+shared-slice-read-is-chained : tie.Need-shared-slice-read-is-chained
+shared-slice-read-is-chained c = search needs
+
+is-chained-requires : tie.Need-is-chained-requires
+is-chained-requires c κs = search needs
 
 add-chain-of : tie.Need-add-chain-of
 add-chain-of c = search needs
@@ -84,19 +91,19 @@ same-length-3 c = search needs
 
 returns : tie.Need-returns
 returns c =
-    let s = c .before .before .before .before .before .before .before .before .before .before in
+    let s = c .before .before .before .before .before .before .before .before .before .before .before in
     let a = s .args in
     rw (c .before .chain-of .ensures)
-    (send-noted (now (a .rows)) (a .j) (s .pre .1) (rw process-in at (s .pre .0 .2)) (s .pre .0 .1) (c .before .before .before .if1 .taken))
+    (chained-noted (now (a .rows)) (a .j) (s .pre .1) (rw process-in at (s .pre .0 .2)) (s .pre .0 .1) (sym (c .before .before .before .before .is-chained .ensures) ∙ c .before .before .before .if1 .taken))
 
 same-length-4 : tie.Need-same-length-4
 same-length-4 c = search needs
 
 returns-2 : tie.Need-returns-2
 returns-2 c =
-    let s = c .before .before .before .before .before .before .before in
+    let s = c .before .before .before .before .before .before .before .before in
     let a = s .args in
-    other-noted (now (a .rows)) (a .j) (s .pre .1) (rw process-in at (s .pre .0 .2)) (s .pre .0 .1) (c .if1 .left)
+    other-noted (now (a .rows)) (a .j) (s .pre .1) (rw process-in at (s .pre .0 .2)) (s .pre .0 .1) (sym (c .before .is-chained .ensures) ∙ c .if1 .left)
 
 pub note-row-spec : {M : Type 1} → statement M
 note-row-spec =
@@ -110,9 +117,10 @@ note-row-spec =
     cast-lasts
     mul-lasts-2
     slice-write-lasts
-    add-if1
-    mul-if1
-    shared-slice-read-if1
+    add-is-chained
+    mul-is-chained
+    shared-slice-read-is-chained
+    is-chained-requires
     add-chain-of
     mul-chain-of
     shared-slice-read-chain-of

@@ -1,9 +1,9 @@
--- `happens_before::arrives` meets its contract.
+-- `happens_before::are_alike` meets its contract.
 use borrow.Author.Needs.{needs}
-use Rattle.happens_before.proofs.Joins.{no-send, no-arrival, by-message}
+use Rattle.happens_before.proofs.Joins.{first-other, second-other, by-message}
 use denote.Ref.{now}
-use Rattle.happens_before.proofs.arrives.Statement.{statement}
-use Rattle.happens_before.proofs.arrives.Tie as tie
+use Rattle.happens_before.proofs.are_alike.Statement.{statement}
+use Rattle.happens_before.proofs.are_alike.Tie as tie
 
 mul-from : tie.Need-mul-from
 mul-from c = search needs
@@ -21,7 +21,7 @@ shared-slice-read-if1 : tie.Need-shared-slice-read-if1
 shared-slice-read-if1 c = search needs
 
 returns : tie.Need-returns
-returns c = let a = c .before .before .args in no-send (now (a .rows)) (a .k) (a .j) (c .if1 .taken)
+returns c = let a = c .before .before .args in first-other (a .one) (a .other) (now (a .rows)) (a .k) (a .t) (c .if1 .taken)
 
 add-if2 : tie.Need-add-if2
 add-if2 c = search needs
@@ -33,7 +33,7 @@ shared-slice-read-if2 : tie.Need-shared-slice-read-if2
 shared-slice-read-if2 c = search needs
 
 returns-2 : tie.Need-returns-2
-returns-2 c = let a = c .before .before .before .before .args in no-arrival (now (a .rows)) (a .k) (a .j) (c .if2 .taken)
+returns-2 c = let a = c .before .before .before .before .args in second-other (a .one) (a .other) (now (a .rows)) (a .k) (a .t) (c .if2 .taken)
 
 add-result : tie.Need-add-result
 add-result c = search needs
@@ -56,10 +56,10 @@ shared-slice-read-result-2 c = search needs
 returns-3 : tie.Need-returns-3
 returns-3 c =
     let a = c .before .before .before .before .before .before .args in
-    by-message (now (a .rows)) (a .k) (a .j) (c .before .before .before .before .if1 .left) (c .before .before .if2 .left)
+    by-message (a .one) (a .other) (now (a .rows)) (a .k) (a .t) (c .before .before .before .before .if1 .left) (c .before .before .if2 .left)
 
-pub arrives-spec : {M : Type 1} → statement M
-arrives-spec =
+pub are-alike-spec : {M : Type 1} → statement M
+are-alike-spec =
     tie.close
     (tie.spec
     mul-from
