@@ -16,8 +16,10 @@ use Rattle.csv_content.proofs.Contents.{same-iff}
 use Rattle.csv.proofs.Grammar.{all-read-iff}
 use Rattle.rows.specs.declared.Row.{Row}
 use Rattle.trace.specs.Rows.{headerNames, sameFields, rowOf}
-use Rattle.trace.specs.Questions.{inRowLimit, sixFields, kindKnown, filledAsUsed, numbersInRange, endInRange, messageQuestions, fieldQuestions, recordQuestions, rowQuestions, isHeader, Outcome, refused, accepted, judgeRows, judgeHeader, readTrace, checkTrace}
+use Rattle.trace.specs.Questions.{inRowLimit, sixFields, kindKnown, filledAsUsed, numbersInRange, endInRange, messageQuestions, fieldQuestions, recordQuestions, rowQuestions, isHeader, Outcome, refused, accepted, judgeRows, judgeHeader, readRecords, readTrace, checkTrace}
 use Rattle.rows.specs.Questions.{firstNo}
+use Rattle.barriers.proofs.Kept.{Kept, kept-iff}
+use Rattle.trace.proofs.Barriers.{asked-yes, accepted-records}
 use Rattle.trace.proofs.Laws.{Legal, accepted-passed}
 use Rattle.trace.proofs.Asking.{all-asked}
 
@@ -44,7 +46,8 @@ pub data RowRecords : ℕ → List (List (List ℕ)) → List (List (List ℕ)) 
   header : {recs : List (List (List ℕ))} → RowRecords 1 (headerNames ∷ recs) recs
 
 -- Every question is answered Yes, and these are the rows: the questions 1 to 3 of the call; the text ends within the byte
--- limit and RFC 4180 derives its records (4); the header is right (5); every record that is a row passes the questions from 6 on.
+-- limit and RFC 4180 derives its records (4); the header is right (5); every record that is a row passes the questions from 6 on; and
+-- every barrier is kept (22).
 pub record Acceptable (text : List ℕ) (header model rowLimit processLimit byteLimit rowsLength countsLength : ℕ) (rows : List Row) : Type 0 where
   pub call : Legal header model rowLimit processLimit rowsLength countsLength
   pub in-byte-limit : length text ≤ byteLimit
@@ -54,6 +57,7 @@ pub record Acceptable (text : List ℕ) (header model rowLimit processLimit byte
   pub header-right : RowRecords header all-records row-records
   pub all-pass : AllPass rowLimit processLimit [] row-records
   pub its-rows : rows ≡ map rowOf row-records
+  pub barriers-kept : Kept rows
 
 -- ---- One record
 
@@ -195,17 +199,17 @@ module _ (rowLimit processLimit : ℕ) where
           (rest, subst (λ (f : List (List ℕ)). RowRecords 1 (f ∷ rest) rest) (sym (same-fields fields headerNames q)) header, r .0, r .1, r .2)
       go false q e = let z : _≡_ {A = ℕ} 0 1 = cc in absurd (omega arith)
 
-  -- any text that is accepted is as ReadAll says
-  all-to : (word : ℕ) → word ≤ 1 → (r : Records) {rows : List Row} → readTrace word rowLimit processLimit r ≡ accepted rows → ReadAll word r rows
-  unfolding readTrace
+  -- any text whose records are accepted is as ReadAll says
+  all-to : (word : ℕ) → word ≤ 1 → (r : Records) {rows : List Row} → readRecords word rowLimit processLimit r ≡ accepted rows → ReadAll word r rows
+  unfolding readRecords
   all-to zero h r e = let t = read-to rowLimit processLimit [] (r .rows) (r .ending) e in (r .rows, no-header, t .0, t .1, t .2)
   all-to (suc zero) h r e = header-to (r .rows) (r .ending) e
   all-to (suc (suc n)) h r e = absurd (omega arith)
 
-  -- a text whose row records all pass is accepted
+  -- the records of a text whose row records all pass are accepted
   all-from : {word : ℕ} {all recs : List (List (List ℕ))} → RowRecords word all recs → AllPass rowLimit processLimit [] recs →
-      readTrace word rowLimit processLimit (record { rows = all; ending = all-read }) ≡ accepted (map rowOf recs)
-  unfolding readTrace judgeHeader sameFields sameBytes
+      readRecords word rowLimit processLimit (record { rows = all; ending = all-read }) ≡ accepted (map rowOf recs)
+  unfolding readRecords judgeHeader sameFields sameBytes
   all-from {recs} no-header p = read-from rowLimit processLimit [] recs p
   all-from {recs} header p = read-from rowLimit processLimit [] recs p
 
@@ -215,11 +219,12 @@ module _ (rowLimit processLimit : ℕ) where
 pub accepted-iff : (text : List ℕ) (word model rowLimit processLimit byteLimit rowsLength countsLength : ℕ) (rows : List Row) →
     (checkTrace text word model rowLimit processLimit byteLimit rowsLength countsLength ≡ accepted rows)
     ↔ Acceptable text word model rowLimit processLimit byteLimit rowsLength countsLength rows
-unfolding checkTrace
+unfolding checkTrace readTrace
 accepted-iff text word model rowLimit processLimit byteLimit rowsLength countsLength rows = (
   λ e. let a = accepted-passed text word model rowLimit processLimit byteLimit rowsLength countsLength rows e in
       let r = records text byteLimit in
-      let t = all-to rowLimit processLimit word (a .0 .header-word) r (a .1) in
+      let passed = accepted-records word rowLimit processLimit r (a .1) in
+      let t = all-to rowLimit processLimit word (a .0 .header-word) r (passed .0) in
       let d = all-read-iff text byteLimit (r .rows) .0 (λ i. record { rows = r .rows; ending = t .2 i }) in
       record {
         call = a .0;
@@ -230,11 +235,12 @@ accepted-iff text word model rowLimit processLimit byteLimit rowsLength countsLe
         header-right = t .1;
         all-pass = t .3;
         its-rows = t .4;
+        barriers-kept = kept-iff rows .0 (passed .1);
       },
   λ a. let l = a .call in
       let no-no =
       all-asked word model rowLimit processLimit rowsLength countsLength (omega (arith, l .rows-fit)) (l .counts-fit) (l .known-model) (l .some-rows)
       (l .few-rows) (l .some-processes) (l .few-processes) (l .header-word) in
       rw (← no-no, all-read-iff text byteLimit (a .all-records) .1 (a .in-byte-limit, a .derived))
-      (all-from rowLimit processLimit (a .header-right) (a .all-pass) ∙ ap accepted (sym (a .its-rows))),
+      (asked-yes (all-from rowLimit processLimit (a .header-right) (a .all-pass) ∙ ap accepted (sym (a .its-rows))) (kept-iff rows .1 (a .barriers-kept))),
 )

@@ -13,10 +13,14 @@ use Rattle.rows.specs.Limits.{PROCESSES, ROWS, FILES, MESSAGES, OFFSET-MAX}
 use Rattle.rows.specs.declared.Row.{Row}
 use Rattle.trace.specs.Rows.{kindOf, usedBy, isPlain, value, valueFrom, isNumber, field, rowOf}
 use Rattle.rows.specs.Kinds.{KINDS}
-use Rattle.trace.specs.Questions.{callQuestions, isHeader, kindKnown, asUsed, filledAsUsed, numberIf, OFFSETS, numbersInRange, endInRange, messageQuestions, fieldQuestions, recordQuestions, rowQuestions, Outcome, refused, accepted, judgeRows, judgeHeader, readTrace, checkTrace}
+use Rattle.trace.specs.Questions.{callQuestions, isHeader, kindKnown, asUsed, filledAsUsed, numberIf, OFFSETS, numbersInRange, endInRange, messageQuestions, fieldQuestions, recordQuestions, rowQuestions, Outcome, refused, accepted, judgeRows, judgeHeader, readRecords, askBarriers, readTrace, checkTrace}
 use Rattle.rows.specs.Questions.{firstNo}
+use Rattle.rows.specs.Refusals.{BARRIER-ORDER}
 use Rattle.rows.proofs.Bools.{and-out}
 use Rattle.rows.proofs.Asking.{no-from, all-yes, none-appended}
+use Rattle.barriers.specs.Barriers.{barrierPlace}
+use Rattle.barriers.proofs.Kept.{Kept, kept}
+use Rattle.trace.proofs.Barriers.{accepted-records, accepted-barriers}
 
 -- the number of a field that is not used is 0
 abbrev pub Unless : Bool → ℕ → Type 0
@@ -99,6 +103,16 @@ weaken : {Q Q′ : List Row → Type 0} → ((rows : List Row) → Q rows → Q�
 weaken f (refused number place) h = h
 weaken f (accepted rows) h = f rows h
 
+-- question 22 refuses by a number past 4, and leaves accepted rows as they are
+asked : (Q : List Row → Type 0) (o : Outcome) → Where Q o → Where Q (askBarriers o)
+unfolding askBarriers
+asked Q (refused number place) h = h
+asked Q (accepted rows) h = go (eqb (barrierPlace rows) 0)
+  where
+    go : (b : Bool) → Where Q (cond b (accepted rows) (refused BARRIER-ORDER (barrierPlace rows)))
+    go true = h
+    go false = omega arith
+
 module _ (rowLimit processLimit : ℕ) where
   -- the rows of an accepted trace, from records behind the rows before
   record Came (before : List Row) (recs : List (List (List ℕ))) (ending : Ending) (rows : List Row) : Type 0 where
@@ -172,10 +186,10 @@ module _ (rowLimit processLimit : ℕ) where
       go true e = weaken (λ rows c. (fields, rest, refl, e, c)) behind (judged-rows [] rest ending)
       go false e = omega arith
 
-  -- the records of a text that are accepted give fair rows
-  judged : (header : ℕ) (r : Records) → Where Fair (readTrace header rowLimit processLimit r)
-  unfolding readTrace
-  judged header r = go (eqb header 0)
+  -- the records of a text that pass give fair rows
+  judged-records : (header : ℕ) (r : Records) → Where Fair (readRecords header rowLimit processLimit r)
+  unfolding readRecords
+  judged-records header r = go (eqb header 0)
     where
       plain : Outcome
       plain = judgeRows rowLimit processLimit [] (r .rows) (r .ending)
@@ -186,6 +200,11 @@ module _ (rowLimit processLimit : ℕ) where
       go : (b : Bool) → Where Fair (cond b plain behind)
       go true = weaken (λ rows c. fair c) plain (judged-rows [] (r .rows) (r .ending))
       go false = weaken (λ rows h. fair (h .4)) behind (judged-header (r .rows) (r .ending))
+
+  -- so they do once 22 was put
+  judged : (header : ℕ) (r : Records) → Where Fair (readTrace header rowLimit processLimit r)
+  unfolding readTrace
+  judged header r = asked Fair (readRecords header rowLimit processLimit r) (judged-records header r)
 
 -- ---- The laws
 
@@ -198,18 +217,18 @@ refused-from-four header rowLimit processLimit r number place e =
 -- With header word 0 every record of the text is a row, the first one row 1, and all of the text was read.
 pub rows-without-header : (rowLimit processLimit : ℕ) (r : Records) (rows : List Row) →
     readTrace 0 rowLimit processLimit r ≡ accepted rows → (rows ≡ map rowOf (r .rows)) × (r .ending ≡ all-read)
-unfolding readTrace
+unfolding readRecords
 rows-without-header rowLimit processLimit r rows e =
-    let c = subst (Where (Came rowLimit processLimit [] (r .rows) (r .ending))) e (judged-rows rowLimit processLimit [] (r .rows) (r .ending)) in
+    let c = subst (Where (Came rowLimit processLimit [] (r .rows) (r .ending))) (accepted-records 0 rowLimit processLimit r e .0) (judged-rows rowLimit processLimit [] (r .rows) (r .ending)) in
     (c .all, c .end)
 
 -- With header word 1 the first record is the header, and every other one is a row.
 pub rows-behind-header : (rowLimit processLimit : ℕ) (r : Records) (rows : List Row) →
     readTrace 1 rowLimit processLimit r ≡ accepted rows →
     (first : List (List ℕ)) × (rest : List (List (List ℕ))) × (r .rows ≡ first ∷ rest) × (isHeader first ≡ true) × (rows ≡ map rowOf rest) × (r .ending ≡ all-read)
-unfolding readTrace
+unfolding readRecords
 rows-behind-header rowLimit processLimit r rows e =
-    let b = subst (Where (Behind rowLimit processLimit (r .rows) (r .ending))) e (judged-header rowLimit processLimit (r .rows) (r .ending)) in
+    let b = subst (Where (Behind rowLimit processLimit (r .rows) (r .ending))) (accepted-records 1 rowLimit processLimit r e .0) (judged-header rowLimit processLimit (r .rows) (r .ending)) in
     (b .0, b .1, b .2, b .3, b .4 .all, b .4 .end)
 
 -- an accepted trace has at most as many rows as the row limit, each well formed, with its message in order
@@ -217,6 +236,12 @@ pub accepted-sound : (header rowLimit processLimit : ℕ) (r : Records) (rows : 
     readTrace header rowLimit processLimit r ≡ accepted rows → (length rows ≤ rowLimit) × (Sound processLimit rows)
 accepted-sound header rowLimit processLimit r rows e =
     subst (Where (Fair rowLimit processLimit)) e (judged rowLimit processLimit header r)
+
+-- records that pass give rows, each well formed, with its message in order
+pub records-sound : (header rowLimit processLimit : ℕ) (r : Records) (rows : List Row) →
+    readRecords header rowLimit processLimit r ≡ accepted rows → (length rows ≤ rowLimit) × (Sound processLimit rows)
+records-sound header rowLimit processLimit r rows e =
+    subst (Where (Fair rowLimit processLimit)) e (judged-records rowLimit processLimit header r)
 
 -- Reading depends on nothing but the text, the header word and the limits: slices that are long enough, and models, make no difference.
 pub slices-no-matter : (text : List ℕ) (header model model′ rowLimit processLimit byteLimit rowsLength countsLength rowsLength′ countsLength′ : ℕ) →
@@ -273,3 +298,8 @@ accepted-passed text header model R P limit a b rows e = go (eqb first 0) refl e
         Legal header model R P a b × (readTrace header R P (records text limit) ≡ accepted rows)
     go true q e = (legal header model R P a b (eqb-true first 0 q), e)
     go false q e = let z : _≡_ {A = ℕ} 0 1 = cc in absurd (omega arith)
+
+-- In an accepted trace no process repeats a barrier number or goes on before all have arrived, and every barrier is finished.
+pub accepted-kept : (text : List ℕ) (header model R P limit a b : ℕ) (rows : List Row) → checkTrace text header model R P limit a b ≡ accepted rows → Kept rows
+accepted-kept text header model R P limit a b rows e =
+    kept rows (accepted-barriers header R P (records text limit) (accepted-passed text header model R P limit a b rows e .1))

@@ -1,3 +1,4 @@
+pub mod Barriers
 pub mod Laws
 pub mod Asking
 pub mod Turns

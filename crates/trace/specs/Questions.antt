@@ -1,6 +1,6 @@
 -- The questions put to an input, each one definition, in document 01's order; the first No decides. The crate `trace_fields` defines the
 -- questions 8 to 11, which are put to the fields of one record, and the crate `messages` those from 12 on, which are put to a row behind the
--- rows before it.
+-- rows before it. The crate `barriers` defines 22, which is put to all rows once every record has passed.
 use Prim.Native.Nat.{ℕ, _+_, _*_, _-_}
 use mathlib.Core.Bool.{Bool, cond, _&&_}
 use mathlib.Core.List.{List, [], _∷_, _++_}
@@ -20,6 +20,8 @@ pub use Rattle.trace_numbers.specs.Numbers.{numberIf, OFFSETS}
 pub use Rattle.trace_fields.specs.Questions.{kindKnown, asUsed, endInRange}
 unfoldable pub use Rattle.trace_fields.specs.Questions.{filledAsUsed, numbersInRange, fieldQuestions}
 use Rattle.rows.specs.Questions.{Question, firstNo, longEnough}
+use Rattle.rows.specs.Refusals.{BARRIER-ORDER}
+use Rattle.barriers.specs.Barriers.{barrierPlace}
 
 -- ---- The questions of the caller's numbers and slices
 
@@ -87,10 +89,19 @@ judgeHeader rowLimit processLimit [] at-limit = refused 5 0
 judgeHeader rowLimit processLimit (fields ∷ rest) ending =
     cond (isHeader fields) (judgeRows rowLimit processLimit [] rest ending) (refused 5 0)
 
+-- the outcome of a text by the questions of its records, where the header word is 0 or 1
+unfoldable pub readRecords : ℕ → ℕ → ℕ → Records → Outcome
+readRecords header rowLimit processLimit r =
+    cond (eqb header 0) (judgeRows rowLimit processLimit [] (r .rows) (r .ending)) (judgeHeader rowLimit processLimit (r .rows) (r .ending))
+
+-- 22, put once every record has passed: is every row in its turn, and every barrier finished at the end? A refusal of a record stays as it is.
+unfoldable pub askBarriers : Outcome → Outcome
+askBarriers (refused number place) = refused number place
+askBarriers (accepted rows) = cond (eqb (barrierPlace rows) 0) (accepted rows) (refused BARRIER-ORDER (barrierPlace rows))
+
 -- the outcome of a text whose header word is 0 or 1
 unfoldable pub readTrace : ℕ → ℕ → ℕ → Records → Outcome
-readTrace header rowLimit processLimit r =
-    cond (eqb header 0) (judgeRows rowLimit processLimit [] (r .rows) (r .ending)) (judgeHeader rowLimit processLimit (r .rows) (r .ending))
+readTrace header rowLimit processLimit r = askBarriers (readRecords header rowLimit processLimit r)
 
 -- the outcome of the whole call
 unfoldable pub checkTrace : List ℕ → ℕ → ℕ → ℕ → ℕ → ℕ → ℕ → ℕ → Outcome

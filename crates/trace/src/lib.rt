@@ -1,11 +1,11 @@
-// Reads a trace, rows of file operations in RFC 4180 text, into slices that the caller lends, and puts the questions to it: 1 to 12 and 21.
+// Reads a trace, rows of file operations in RFC 4180 text, into slices that the caller lends, and puts the questions to it: 1 to 12, 21 and 22.
 mod reading;
 
 ghost use mathlib.Core.Path.{_≡_};
 ghost use Prim.Native.Nat.{_≤_, _*_};
 ghost use lib.ListN.{length, replicate};
 ghost use Rattle.csv.specs.Reading.{records};
-ghost use Rattle.trace.specs.Questions.{callQuestions, recordQuestions, readTrace, checkTrace, checkedOf, Holds, Leaves};
+ghost use Rattle.trace.specs.Questions.{callQuestions, recordQuestions, readRecords, readTrace, checkTrace, checkedOf, Holds, Leaves};
 ghost use Rattle.rows.specs.Questions.{firstNo};
 ghost use Rattle.trace.specs.Reads.{fieldsOf, headed, judgedBy};
 use csv::Status;
@@ -106,7 +106,7 @@ pub fn ask_call(
     0
 }
 
-// Puts the questions from 4 on to a text: where the header word is not 0, first to the header.
+// Puts the questions from 4 on to a text: those of its records, and 22 once every record has passed.
 fn read_trace(
     text: &[u8],
     header: u32,
@@ -118,6 +118,31 @@ fn read_trace(
     requires { ⌜ («row_limit» ≤ ROWS) × (6 * «row_limit» ≤ length (now rows)) × («process_limit» ≤ PROCESSES) ⌝ }
     ensures answer { λ r. ⌜ r ≡ checkedOf (readTrace header «row_limit» «process_limit» (records (now (text .entry)) «byte_limit»)) ⌝ }
     ensures held { λ r. ⌜ Holds (readTrace header «row_limit» «process_limit» (records (now (text .entry)) «byte_limit»)) (now (rows .entry)) (now (rows .exit)) ⌝ }
+{
+    match read_records(text, header, row_limit, process_limit, byte_limit, rows) {
+        Checked::Refused(number, place) => Checked::Refused(number, place),
+        Checked::Accepted(n) => {
+            let place = barriers::place_of(rows, n);
+            if place != 0 {
+                return Checked::Refused(refusal::BARRIER_ORDER, place);
+            }
+            Checked::Accepted(n)
+        }
+    }
+}
+
+// Puts the questions of the records to a text: where the header word is not 0, first that of the header.
+fn read_records(
+    text: &[u8],
+    header: u32,
+    row_limit: u32,
+    process_limit: u32,
+    byte_limit: usize,
+    rows: &mut [u32],
+) -> Checked
+    requires { ⌜ («row_limit» ≤ ROWS) × (6 * «row_limit» ≤ length (now rows)) × («process_limit» ≤ PROCESSES) ⌝ }
+    ensures answer { λ r. ⌜ r ≡ checkedOf (readRecords header «row_limit» «process_limit» (records (now (text .entry)) «byte_limit»)) ⌝ }
+    ensures held { λ r. ⌜ Holds (readRecords header «row_limit» «process_limit» (records (now (text .entry)) «byte_limit»)) (now (rows .entry)) (now (rows .exit)) ⌝ }
 {
     if header == 0 {
         return reading::read_rows(text, 0, row_limit, process_limit, byte_limit, rows);
