@@ -71,7 +71,7 @@ lines-next i xs =
     ap linesOf (row-next i xs) ∙ lines-add (rowsIn i xs) (rowIn xs i ∷ [])
     ∙ ap (λ (l : List ℕ). linesOf (rowsIn i xs) ++ l) (append-nil (recordOf (rowIn xs i)))
 
--- The lines of rows have at most 63 bytes each.
+-- The lines of rows have at most 64 bytes each.
 pub lines-most : (rows : List Row) → length (linesOf rows) ≤ RECORD-MOST * length rows
 unfolding linesOf
 lines-most [] = omega arith
@@ -131,7 +131,7 @@ unfolding linesOf rowsIn
 measured-none xs n = record { so-far = refl; within = omega arith }
 
 module _ (xs : List ℕ) (n i : ℕ) {lines : ℕ} (m : Measured xs n lines i) where
-  -- The lines have at most 63 bytes for each row.
+  -- The lines have at most 64 bytes for each row.
   pub measured-few : lines ≤ RECORD-MOST * i
   measured-few = omega (arith, m .so-far, lines-most (rowsIn i xs), length-rows i xs)
 

@@ -25,8 +25,11 @@ use Rattle.rows.specs.Rows.{rowsIn}
 use Rattle.rows.proofs.Asking.{all-yes}
 use Rattle.rows.proofs.Bools.{and-out}
 use Rattle.rows.proofs.Slices.{length-rows}
-use Rattle.trace.specs.Questions.{fieldQuestions, Outcome, refused, accepted, checkTrace}
+use Rattle.trace.specs.Questions.{fieldQuestions, Outcome, refused, accepted, askBarriers, checkTrace}
 use Rattle.trace.specs.Rows.{headerNames, rowOf}
+use Rattle.barriers.specs.Barriers.{barrierPlace}
+use Rattle.barriers.proofs.Kept.{kept}
+use Rattle.trace.proofs.Barriers.{asked-yes, asked-accepted, accepted-barriers}
 use Rattle.trace.proofs.Laws.{WellFormed, accepted-passed, accepted-sound}
 use Rattle.trace.proofs.Accepting.{Passes, AllPass, RowRecords, accepted-iff}
 use Rattle.writer_line.specs.Lines.{contentsOf, commas, lineOf}
@@ -112,12 +115,14 @@ module _ (P : ℕ) (few : P ≤ PROCESSES) where
 
 -- ---- The whole call
 
--- What a call that writes a text has: limits and a header word in their ranges, rows that pass, and the text of these rows.
+-- What a call that writes a text has: limits and a header word in their ranges, rows that pass and keep every barrier, and the text
+-- of these rows.
 record Wrote (xs : List ℕ) (n header P : ℕ) (text : List ℕ) : Type 0 where
   header-word : header ≤ 1
   some-processes : 1 ≤ P
   few-processes : P ≤ PROCESSES
   rows-pass : askRows P [] (rowsIn n xs) ≡ accepted (rowsIn n xs)
+  barriers-pass : barrierPlace (rowsIn n xs) ≡ 0
   text-is : text ≡ textOf header (rowsIn n xs)
 
 -- The outcome of rows that were asked is a text only where they pass.
@@ -140,18 +145,21 @@ wrote xs n header P outLength place text e = go (eqb first 0) refl e
     first = firstNo (writeQuestions n header P (length xs))
 
     go : (b : Bool) → eqb first 0 ≡ b →
-        cond b (onAsked header outLength place (askRows P [] (rowsIn n xs))) (not-written first 0) ≡ written text → Wrote xs n header P text
+        cond b (onAsked header outLength place (askBarriers (askRows P [] (rowsIn n xs)))) (not-written first 0) ≡ written text →
+        Wrote xs n header P text
     go true q d =
         let yes = all-yes (writeQuestions n header P (length xs)) (omega arith) (eqb-true first 0 q) in
         let some = and-out _ _ (yes .1 .0) in
         let few = and-out _ _ (some .1) in
-        let w = written-asked header outLength place (askRows P [] (rowsIn n xs)) d in
-        let same = asked-all P (rowsIn n xs) (w .0) (w .1) in
+        let w = written-asked header outLength place (askBarriers (askRows P [] (rowsIn n xs))) d in
+        let asked = asked-accepted (askRows P [] (rowsIn n xs)) (w .1) in
+        let same = asked-all P (rowsIn n xs) (w .0) (asked .0) in
         record {
           header-word = leb-true _ _ (yes .1 .1 .0);
           some-processes = leb-true _ _ (some .0);
           few-processes = leb-true _ _ (few .0);
-          rows-pass = w .1 ∙ ap accepted same;
+          rows-pass = asked .0 ∙ ap accepted same;
+          barriers-pass = ap barrierPlace (sym same) ∙ asked .1;
           text-is = w .2 ∙ ap (textOf header) same;
         }
     go false q d = let z : _≡_ {A = ℕ} 0 1 = cc in absurd (omega arith)
@@ -189,6 +197,7 @@ write-read xs n header P outLength place text e model R limit rowsLength countsL
       header-right = row-records header rows (w .header-word);
       all-pass = all-pass P (w .few-processes) R [] rows sound fits;
       its-rows = sym (passed-back P (w .few-processes) rows (w .rows-pass));
+      barriers-kept = kept rows (w .barriers-pass);
     })
 
 -- The rows of every accepted trace are written, where the text fits.
@@ -208,7 +217,7 @@ accepted-written text header model R P limit a b rows e xs long same header′ o
       le-leb (length rows) ROWS few,
       le-leb header′ 1 word,
       same,
-      accepted-passes text header model R P limit a b rows e,
+      asked-yes (accepted-passes text header model R P limit a b rows e) (accepted-barriers header R P (records text limit) read),
       le-leb (place + length (textOf header′ rows)) outLength fits,
     )
 

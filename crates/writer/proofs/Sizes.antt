@@ -3,6 +3,7 @@ use Prim.Native.Nat.{ℕ, suc, _+_, _*_, _-_, _/_, _≤_, _<_}
 use native.Mathlib.Omega.{arith}
 use native.Mathlib.Decide.{decLt}
 use mathlib.Core.Path.{_≡_, refl, sym, ap, subst, _∙_}
+use mathlib.Core.Logic.{_⊎_, inl, inr}
 use mathlib.Core.Bool.{Bool, true, false, cond}
 use mathlib.Core.List.{List, [], _∷_, _++_}
 use lib.ListN.{length, getD, length-append}
@@ -20,8 +21,9 @@ use Rattle.rows.specs.Rows.{rowsIn}
 use Rattle.rows.specs.Counting.{anyBelow}
 use Rattle.rows.proofs.Slices.{length-rows}
 use Rattle.rows.proofs.Below.{each-passes}
-use Rattle.trace.specs.Questions.{Outcome, refused, accepted}
+use Rattle.trace.specs.Questions.{Outcome, refused, accepted, askBarriers}
 use Rattle.trace.specs.Rows.{kindWords, usedBy}
+use Rattle.trace.proofs.Barriers.{AskedNo, asked-no-of, asked-accepted}
 use Rattle.trace.proofs.Laws.{WellFormed}
 use Rattle.writer_line.specs.Lines.{numberField, recordOf}
 use Rattle.writer_line.proofs.Contents.{record-size}
@@ -221,15 +223,20 @@ written-small xs n header P outLength place = go (eqb first 0) refl
     fitted true out h = h
     fitted false out h = (omega arith, omega arith)
 
-    asked : n ≤ ROWS → P ≤ PROCESSES → (o : Outcome) → askRows P [] rows ≡ o → Small (writtenOf (onAsked header outLength place o))
-    asked h few (refused number row) e =
-        let s = asked-small P [] rows e in
-        (s .0, omega (arith, s .1, length-rows n xs))
-    asked h few (accepted out) e =
+    no : n ≤ ROWS → {number row : ℕ} → (askRows P [] rows ≡ refused number row) ⊎ AskedNo (askRows P [] rows) number row → (0 < number) × (row ≤ ROWS)
+    no h (inl e) = let s = asked-small P [] rows e in (s .0, omega (arith, s .1, length-rows n xs))
+    no h (inr k) =
+        let same = asked-all P rows (k .rows) (k .passed) in
+        (omega (arith, k .is-number), omega (arith, k .few, ap length same, length-rows n xs))
+
+    asked : n ≤ ROWS → P ≤ PROCESSES → (o : Outcome) → askBarriers (askRows P [] rows) ≡ o → Small (writtenOf (onAsked header outLength place o))
+    asked h few (refused number row) e = no h (asked-no-of (askRows P [] rows) e)
+    asked h few (accepted out) d =
+        let e = asked-accepted (askRows P [] rows) d .0 in
         let same = asked-all P rows out e in
         let t = text-most P header out few (subst (λ (l : List Row). askRows P [] l ≡ accepted out) (sym same) e) in
         fitted (textFits outLength place (textOf header out)) out (omega (arith, t, ap length same, length-rows n xs))
 
-    go : (b : Bool) → eqb first 0 ≡ b → Small (writtenOf (cond b (onAsked header outLength place (askRows P [] rows)) (not-written first 0)))
-    go true q = let l = call-legal n header P (length xs) (eqb-true first 0 q) in asked (l .0) (l .2) (askRows P [] rows) refl
+    go : (b : Bool) → eqb first 0 ≡ b → Small (writtenOf (cond b (onAsked header outLength place (askBarriers (askRows P [] rows))) (not-written first 0)))
+    go true q = let l = call-legal n header P (length xs) (eqb-true first 0 q) in asked (l .0) (l .2) (askBarriers (askRows P [] rows)) refl
     go false q = let z = eqb-false first 0 q in (omega (arith, z), omega arith)

@@ -14,7 +14,7 @@ use Rattle.rows.specs.Limits.{ROWS, PROCESSES, FILES, MESSAGES, FIELDS}
 use Rattle.rows.specs.Questions.{Question, firstNo}
 use Rattle.rows.specs.Refusals.{SHORT-SLICE, LIMITS, HEADER-WORD, KNOWN-KIND, USED-FIELDS, RANGE, RANGE-END, TEXT-SPACE}
 use Rattle.rows.specs.Rows.{rowsIn}
-use Rattle.trace.specs.Questions.{headerWord, endInRange, OFFSETS, Outcome, refused, accepted}
+use Rattle.trace.specs.Questions.{headerWord, endInRange, OFFSETS, Outcome, refused, accepted, askBarriers}
 use Rattle.trace.specs.Rows.{headerNames, usedBy}
 use Rattle.trace_numbers.specs.declared.Used.{Used}
 use Rattle.writer_line.specs.Lines.{commas, recordOf}
@@ -137,11 +137,11 @@ onAsked header outLength place (refused number row) = not-written number row
 onAsked header outLength place (accepted rows) =
     cond (textFits outLength place (textOf header rows)) (written (textOf header rows)) (not-written TEXT-SPACE 0)
 
--- What the whole call comes to.
+-- What the whole call comes to. 22 is put once every row has passed, as a reader puts it, and before 18.
 unfoldable pub writeTrace : List ℕ → ℕ → ℕ → ℕ → ℕ → ℕ → Writing
 writeTrace xs n header processLimit outLength place =
     let first = firstNo (writeQuestions n header processLimit (length xs)) in
-    cond (eqb first 0) (onAsked header outLength place (askRows processLimit [] (rowsIn n xs))) (not-written first 0)
+    cond (eqb first 0) (onAsked header outLength place (askBarriers (askRows processLimit [] (rowsIn n xs)))) (not-written first 0)
 
 -- ---- What a call answers and leaves
 

@@ -16,8 +16,8 @@ pub enum Written {
     Refused(u32, u32),
 }
 
-// Writes the text of the first n rows from the place on. The questions 1 to 3 come first, then row by row those from 8 on, and 18 last: does the
-// text fit behind the place? Every byte before the place and behind the text keeps its value, and a refusal writes nothing.
+// Writes the text of the first n rows from the place on. The questions 1 to 3 come first, then row by row those from 8 on, then 22 of all rows,
+// and 18 last: does the text fit behind the place? Every byte before the place and behind the text keeps its value, and a refusal writes nothing.
 pub fn write_trace(
     rows: &[u32],
     n: u32,
@@ -37,6 +37,10 @@ pub fn write_trace(
     match asking::ask_rows(&mut table, rows, n as usize, process_limit) {
         Asked::No(number, row) => Written::Refused(number, row),
         Asked::Passed => {
+            let row = barriers::place_of(rows, n);
+            if row != 0 {
+                return Written::Refused(refusal::BARRIER_ORDER, row);
+            }
             if !sizing::text_fits(out.len(), place, rows, n as usize, header) {
                 return Written::Refused(refusal::TEXT_SPACE, 0);
             }
