@@ -18,13 +18,14 @@ use Rattle.rows.proofs.Bools.{and-out}
 use Rattle.trace.specs.Questions.{Outcome, callQuestions, headerWord}
 use Rattle.trace.specs.Questions as outcome
 use Rattle.trace.proofs.Laws.{WellFormed, Sound, Legal, legal}
+use Rattle.barriers.specs.Barriers.{barrierPlace}
 use Rattle.races_meaning.specs.Races.{verdictOf, free}
 use Rattle.join_meaning.specs.Files.{Entry, rowsOf, readFile, entriesOf}
 use Rattle.join_meaning.specs.Joining.{Joining, refused, joined, joinQuestions, PART, sharesProcess, onFile, joinEntries, joinFiles, joinTraces}
 use Rattle.join_meaning.specs.Merging.{Merged, AllowedMerging}
 use Rattle.join_meaning.proofs.Ahead.{file-rows, file-well-formed}
 use Rattle.join_meaning.proofs.Parts.{HandedOver, Every, every-merged, fileText, first-handed, second-handed}
-use Rattle.join_meaning.proofs.Taking.{join-merged, join-allowed, join-sound}
+use Rattle.join_meaning.proofs.Taking.{join-merged, join-allowed, join-sound, join-barriers}
 use Rattle.join_meaning.proofs.Verdicts.{join-verdict}
 use Rattle.join_meaning.proofs.Finding.{join-finds}
 use Rattle.join_meaning.proofs.Tests.{apart}
@@ -153,6 +154,10 @@ module _ (first second : List ℕ) (h₁ h₂ model R P rl cl pl : ℕ) where
         join-sound R (entriesOf 1 h₁ first) (entriesOf 2 h₂ second) es accepted-entries P (first-well-formed accepted-read)
         (second-well-formed accepted-read)
 
+    -- The joined rows have a Yes to question 22.
+    pub accepted-barriers : barrierPlace (rowsOf es) ≡ 0
+    accepted-barriers = join-barriers R (entriesOf 1 h₁ first) (entriesOf 2 h₂ second) es accepted-entries
+
     -- The verdict on the join is free exactly where that on any other allowed merging of the two files is, under each model.
     pub accepted-verdict : (m : List Row) → AllowedMerging first-file second-file m → (number : ℕ) →
         (verdictOf (rowsOf es) number ≡ free) ↔ (verdictOf m number ≡ free)
@@ -160,11 +165,11 @@ module _ (first second : List ℕ) (h₁ h₂ model R P rl cl pl : ℕ) where
         join-verdict R P (entriesOf 1 h₁ first) (entriesOf 2 h₂ second) es m (accepted-read .apart) (first-well-formed accepted-read)
         (second-well-formed accepted-read) accepted-entries o
 
-  -- Where the call's numbers pass, both files are accepted and share no process, and some merging of them within the row limit is a sound trace, the
-  -- join is accepted.
+  -- Where the call's numbers pass, both files are accepted and share no process, and some merging of them within the row limit is a sound trace with a
+  -- Yes to question 22, the join is accepted.
   pub merging-accepted : firstNo (joinQuestions h₁ h₂ model R P rl cl pl) ≡ 0 → BothRead h₁ h₂ R P first second → (m : List Row) →
-      Merged first-file second-file m → Sound P m → length m ≤ R → (es : List Entry) × (called ≡ joined es)
+      Merged first-file second-file m → Sound P m → barrierPlace m ≡ 0 → length m ≤ R → (es : List Entry) × (called ≡ joined es)
   unfolding joinTraces
-  merging-accepted z b m d s l =
-      let f = join-finds R P (entriesOf 1 h₁ first) (entriesOf 2 h₂ second) m (apart _ _ (b .apart)) d s l in
+  merging-accepted z b m d s y l =
+      let f = join-finds R P (entriesOf 1 h₁ first) (entriesOf 2 h₂ second) m (apart _ _ (b .apart)) d s y l in
       (f .0, rw (eq-eqb (firstNo (joinQuestions h₁ h₂ model R P rl cl pl)) 0 z) (entries-decide b ∙ f .1))

@@ -14,7 +14,8 @@ use Rattle.rows.specs.Questions.{firstNo, longEnough}
 use Rattle.rows.proofs.Asking.{none-no, none-appended}
 use Rattle.messages.specs.Questions.{any}
 use Rattle.trace.specs.Rows.{rowOf}
-use Rattle.trace.specs.Questions.{Outcome, refused, accepted, inLimits, headerWord, recordQuestions, rowQuestions, fieldQuestions, messageQuestions, isHeader, judgeRows, judgeHeader, readTrace, checkTrace}
+use Rattle.trace.specs.Questions.{Outcome, refused, accepted, inLimits, headerWord, recordQuestions, rowQuestions, fieldQuestions, messageQuestions, isHeader, judgeRows, judgeHeader, readRecords, readTrace, checkTrace}
+use Rattle.trace.proofs.Barriers.{accepted-records, accepted-barriers}
 use Rattle.trace.proofs.Laws as trace
 use Rattle.join_meaning.specs.Files.{Entry, rowsOf, fileRows, fileHeader, fileRecords, readFile, entriesFrom, onEntry, rowsStart, entriesOf}
 use Rattle.join_meaning.specs.Joining.{PART, joinQuestions, sharesProcess, joined, joinTraces}
@@ -63,11 +64,11 @@ module _ (R P : ℕ) where
       go true f = rows-file [] rest ending f
       go false f = f
 
-  -- A trace that is accepted by itself is an accepted file, with the same rows.
-  pub trace-is-file : (header : ℕ) (text : List ℕ) {rows : List Row} → readTrace header R P (records text (length text)) ≡ accepted rows →
+  -- Records that are accepted by themselves are an accepted file's, with the same rows.
+  records-file : (header : ℕ) (text : List ℕ) {rows : List Row} → readRecords header R P (records text (length text)) ≡ accepted rows →
       readFile header R P text ≡ accepted rows
-  unfolding readTrace readFile fileRecords
-  trace-is-file header text {rows} e = go (eqb header 0) e
+  unfolding readRecords readFile fileRecords
+  records-file header text {rows} e = go (eqb header 0) e
     where
       r : Records
       r = records text (length text)
@@ -76,6 +77,11 @@ module _ (R P : ℕ) where
           cond x (fileRows R P [] (r .rows) (r .ending)) (fileHeader R P (r .rows) (r .ending)) ≡ accepted rows
       go true f = rows-file [] (r .rows) (r .ending) f
       go false f = header-file (r .rows) (r .ending) f
+
+  -- A trace that is accepted by itself is an accepted file, with the same rows.
+  pub trace-is-file : (header : ℕ) (text : List ℕ) {rows : List Row} → readTrace header R P (records text (length text)) ≡ accepted rows →
+      readFile header R P text ≡ accepted rows
+  trace-is-file header text {rows} e = records-file header text (accepted-records header R P (records text (length text)) e .0)
 
 -- ---- Joined with a file without bytes
 
@@ -139,8 +145,9 @@ join-alone text header model R P rl cl pl rows h e =
     let s = trace.accepted-sound header R P (records text (length text)) rows (p .1) in
     let sound : trace.Sound P (rowsOf (entriesOf 1 header text)) = rw own (s .1) in
     let few : length (rowsOf (entriesOf 1 header text)) ≤ R = rw own (s .0) in
+    let barriers = accepted-barriers header R P (records text (length text)) (p .1) in
     let merged : Merged (rowsOf (entriesOf 1 header text)) (rowsOf (entriesOf 2 0 [])) (rowsOf (entriesOf 1 header text)) =
     rw none-entries (merged-alone (rowsOf (entriesOf 1 header text))) in
-    let j = merging-accepted text [] header 0 model R P rl cl pl all read (rowsOf (entriesOf 1 header text)) merged sound few in
+    let j = merging-accepted text [] header 0 model R P rl cl pl all read (rowsOf (entriesOf 1 header text)) merged sound (rw own barriers) few in
     let m = accepted-merging text [] header 0 model R P rl cl pl (j .0) (j .1) .merges in
     (j .0, j .1, merged-one (rw none-entries at m) ∙ own)

@@ -11,15 +11,17 @@ use Rattle.csv.specs.Reading.{Records, records, Ending, all-read, at-malformed,
 use Rattle.rows.specs.declared.Row.{Row}
 use Rattle.rows.specs.Limits.{ROWS}
 use Rattle.rows.specs.Questions.{Question, firstNo}
-use Rattle.rows.specs.Refusals.{HEADER, RANGE-END, SHARED-PROCESS, WAIT-ORDER}
+use Rattle.rows.specs.Refusals.{HEADER, RANGE-END, SHARED-PROCESS, BARRIER-ORDER}
 use Rattle.rows.proofs.Asking.{all-yes, no-from}
 use Rattle.messages.specs.Questions.{messageQuestions}
+use Rattle.barriers.specs.Barriers.{barrierPlace}
+use Rattle.barriers.proofs.Kept.{place-most}
 use Rattle.trace.specs.Rows.{rowOf}
 use Rattle.trace.specs.Questions.{Outcome, fieldQuestions, recordQuestions, isHeader}
 use Rattle.trace.specs.Questions as outcome
 use Rattle.trace.proofs.Refusals.{no-most}
 use Rattle.join_meaning.specs.Files.{Entry, rowsOf, fileRows, fileHeader, fileRecords, readFile, entriesOf}
-use Rattle.join_meaning.specs.Joining.{Joining, refused, joined, joinQuestions, turnOf, takenQuestions, onTurn, joinFrom, joinEntries, sharesProcess, onFile, joinFiles, joinTraces}
+use Rattle.join_meaning.specs.Joining.{Joining, refused, joined, joinQuestions, turnOf, takenQuestions, onTurn, joinFrom, askJoined, joinRows, joinEntries, sharesProcess, onFile, joinFiles, joinTraces}
 use Rattle.join_meaning.specs.Joining as turn
 use Rattle.join_meaning.proofs.Accepted.{allowed}
 use Rattle.join_meaning.proofs.Merging.{rows-length}
@@ -89,16 +91,17 @@ file-from-four header rowLimit processLimit text number place e = subst (FileLow
 
 -- ---- The join
 
--- A refusal of the questions from 4 on is 4 to 21, its place at most one past the row limit, and its file 0, 1 or 2.
+-- A refusal of the questions from 4 on is 4 to 22, its place at most one past the row limit, and its file 0, 1 or 2; an accepted join is
+-- within the row limit.
 abbrev Low : ℕ → Joining → Type 0
-Low rowLimit (refused number place file) = (4 ≤ number) × (number ≤ WAIT-ORDER) × (place ≤ rowLimit + 1) × (file ≤ 2)
-Low rowLimit (joined es) = Unit {0}
+Low rowLimit (refused number place file) = (4 ≤ number) × (number ≤ BARRIER-ORDER) × (place ≤ rowLimit + 1) × (file ≤ 2)
+Low rowLimit (joined es) = length es ≤ rowLimit
 
 -- One turn.
 low-turn : (R : ℕ) (taken : List Entry) (t : turn.Turn) (on : List Entry → List Entry → List Entry → Joining) → length taken ≤ R →
     ((l a b : List Entry) → length l ≤ R → Low R (on l a b)) → Low R (onTurn R taken t on)
 unfolding onTurn takenQuestions messageQuestions
-low-turn R taken turn.over on l h = tt
+low-turn R taken turn.over on l h = l
 low-turn R taken turn.stuck on l h = omega arith
 low-turn R taken (turn.take e a b) on l h = go (eqb first 0) refl
   where
@@ -114,14 +117,24 @@ low-turn R taken (turn.take e a b) on l h = go (eqb first 0) refl
         let many = rows-length taken in
         h (taken ++ (e ∷ [])) a b (simp length-append (omega arith))
     go false q =
-        (no-from 4 questions (omega arith) (eqb-false first 0 q), no-most WAIT-ORDER questions (omega arith), omega arith, omega arith)
+        (no-from 4 questions (omega arith) (eqb-false first 0 q), no-most BARRIER-ORDER questions (omega arith), omega arith, omega arith)
 
 -- The rest of both files.
-low-join : (k R : ℕ) (taken a b : List Entry) → length taken ≤ R → Low R (joinFrom k R taken a b)
+low-join : (k R : ℕ) (both : List Row) (taken a b : List Entry) → length taken ≤ R → Low R (joinFrom k R both taken a b)
 unfolding joinFrom
-low-join zero R taken a b l = tt
-low-join (suc k) R taken a b l =
-    low-turn R taken (turnOf (rowsOf taken) a b) (λ t c d. joinFrom k R t c d) l (λ t c d h. low-join k R t c d h)
+low-join zero R both taken a b l = l
+low-join (suc k) R both taken a b l =
+    low-turn R taken (turnOf both (rowsOf taken) a b) (λ t c d. joinFrom k R both t c d) l (λ t c d h. low-join k R both t c d h)
+
+-- 22 of the joined rows.
+low-asked : (R : ℕ) (o : Joining) → Low R o → Low R (askJoined o)
+unfolding askJoined
+low-asked R (refused number place file) h = h
+low-asked R (joined es) h = go (eqb (barrierPlace (rowsOf es)) 0)
+  where
+    go : (x : Bool) → Low R (cond x (joined es) (refused BARRIER-ORDER (barrierPlace (rowsOf es)) 0))
+    go true = h
+    go false = let most = place-most (rowsOf es) in let many = rows-length es in (omega arith, omega arith, omega arith, omega arith)
 
 -- The questions from 4 on.
 low-files : (h₁ h₂ R P : ℕ) (first second : List ℕ) → Low R (joinFiles h₁ h₂ R P first second)
@@ -138,7 +151,9 @@ low-files h₁ h₂ R P first second = go (readFile h₁ R P first) (low-file R 
     go (outcome.accepted rows) p (outcome.refused number place) q x = (q .0, omega arith, q .2, omega arith)
     go (outcome.accepted rows) p (outcome.accepted more) q true = omega arith
     go (outcome.accepted rows) p (outcome.accepted more) q false =
-        low-join (suc (length (entriesOf 1 h₁ first) + length (entriesOf 2 h₂ second))) R [] (entriesOf 1 h₁ first) (entriesOf 2 h₂ second) (omega arith)
+        low-asked R (joinRows R (entriesOf 1 h₁ first) (entriesOf 2 h₂ second))
+        (low-join (suc (length (entriesOf 1 h₁ first) + length (entriesOf 2 h₂ second))) R (rowsOf (entriesOf 1 h₁ first) ++ rowsOf (entriesOf 2 h₂ second)) []
+        (entriesOf 1 h₁ first) (entriesOf 2 h₂ second) (omega arith))
 
 -- A refusal of the questions from 4 on is 4 or more.
 pub from-four : (h₁ h₂ R P : ℕ) (first second : List ℕ) {number place file : ℕ} → joinFiles h₁ h₂ R P first second ≡ refused number place file → 4 ≤ number
@@ -147,7 +162,7 @@ from-four h₁ h₂ R P first second e = subst (Low R) e (low-files h₁ h₂ R 
 -- The bounds of every refusal.
 pub record Bounded (number place file : ℕ) : Type 0 where
   pub some : 1 ≤ number
-  pub few : number ≤ WAIT-ORDER
+  pub few : number ≤ BARRIER-ORDER
   pub placed : place ≤ ROWS + 1
   pub filed : file ≤ 2
 
@@ -175,7 +190,7 @@ refusal-bounded first second h₁ h₂ model R P rl cl pl {number} {place} {file
         let f : _≡_ {A = ℕ} 0 file = cc in
         record {
           some = omega (arith, no-from 1 questions (omega arith) (eqb-false no 0 q));
-          few = omega (arith, no-most WAIT-ORDER questions (omega arith));
+          few = omega (arith, no-most BARRIER-ORDER questions (omega arith));
           placed = omega arith;
           filed = omega arith;
         }

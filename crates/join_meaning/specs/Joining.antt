@@ -1,15 +1,16 @@
 -- Two files joined into one trace, as document 02 says it: which record comes next, which rows wait, the questions of the joined rows, and the
 -- whole call.
 use Prim.Native.Nat.{ℕ, zero, suc, _+_, _*_}
-use mathlib.Core.Bool.{Bool, cond, not, _&&_}
+use mathlib.Core.Bool.{Bool, cond, not, _&&_, _||_}
 use mathlib.Core.List.{List, [], _∷_, _++_}
 use lib.ListN.{length}
 use lib.Dec.{leb, eqb}
 use Rattle.rows.specs.declared.Row.{Row}
 use Rattle.rows.specs.Kinds.{ARRIVAL}
 use Rattle.rows.specs.Questions.{Question, firstNo, longEnough}
-use Rattle.rows.specs.Refusals.{SHORT-SLICE, LIMITS, HEADER-WORD, ROW-LIMIT, SHARED-PROCESS, STUCK}
+use Rattle.rows.specs.Refusals.{SHORT-SLICE, LIMITS, HEADER-WORD, ROW-LIMIT, SHARED-PROCESS, STUCK, BARRIER-ORDER}
 use Rattle.messages.specs.Questions.{any, sent, messageQuestions}
+use Rattle.barriers.specs.Barriers.{goesOn, barrierPlace}
 use Rattle.happens_before.specs.Order.{sameProcess}
 use Rattle.trace.specs.Questions.{Outcome, inLimits, headerWord, inRowLimit}
 use Rattle.trace.specs.Questions as outcome
@@ -17,9 +18,10 @@ use Rattle.join_meaning.specs.Files.{Entry, rowsOf, readFile, entriesOf}
 
 -- ---- Which record comes next
 
--- A row waits behind the rows taken so far: a message arrives at it that no taken row has sent. No other definition knows which rows wait.
-unfoldable pub waits : List Row → Row → Bool
-waits taken r = eqb (r .kind) ARRIVAL && not (sent (r .message) taken)
+-- A row waits behind the rows taken so far: a message arrives at it that no taken row has sent, or its process stands at a barrier at which a process
+-- of either file has not arrived. `both` are the rows of both files. No other definition knows which rows wait.
+unfoldable pub waits : List Row → List Row → Row → Bool
+waits both taken r = (eqb (r .kind) ARRIVAL && not (sent (r .message) taken)) || goesOn both taken r
 
 -- What comes next: both files are at their end; no next row can be taken; or an entry is taken, and this is left of the first and of the second.
 pub data Turn : Type 0 where
@@ -28,11 +30,12 @@ pub data Turn : Type 0 where
 
 -- The next entry comes from the first file, unless that file is at its end or its next row waits; then it comes from the second on the same
 -- condition.
-unfoldable pub turnOf : List Row → List Entry → List Entry → Turn
-turnOf taken [] [] = over
-turnOf taken [] (f ∷ b) = cond (waits taken (f .row)) stuck (take f [] b)
-turnOf taken (e ∷ a) [] = cond (waits taken (e .row)) stuck (take e a [])
-turnOf taken (e ∷ a) (f ∷ b) = cond (waits taken (e .row)) (cond (waits taken (f .row)) stuck (take f (e ∷ a) b)) (take e a (f ∷ b))
+unfoldable pub turnOf : List Row → List Row → List Entry → List Entry → Turn
+turnOf both taken [] [] = over
+turnOf both taken [] (f ∷ b) = cond (waits both taken (f .row)) stuck (take f [] b)
+turnOf both taken (e ∷ a) [] = cond (waits both taken (e .row)) stuck (take e a [])
+turnOf both taken (e ∷ a) (f ∷ b) =
+    cond (waits both taken (e .row)) (cond (waits both taken (f .row)) stuck (take f (e ∷ a) b)) (take e a (f ∷ b))
 
 -- ---- The join of two lists of entries
 
@@ -55,13 +58,22 @@ onTurn rowLimit taken (take e a b) on =
 
 -- The join of the rest of both files behind the entries taken so far. The first number bounds how many entries are taken; one larger than the
 -- number of entries left changes nothing.
-unfoldable pub joinFrom : ℕ → ℕ → List Entry → List Entry → List Entry → Joining
-joinFrom zero rowLimit taken a b = joined taken
-joinFrom (suc k) rowLimit taken a b = onTurn rowLimit taken (turnOf (rowsOf taken) a b) (λ t c d. joinFrom k rowLimit t c d)
+unfoldable pub joinFrom : ℕ → ℕ → List Row → List Entry → List Entry → List Entry → Joining
+joinFrom zero rowLimit both taken a b = joined taken
+joinFrom (suc k) rowLimit both taken a b = onTurn rowLimit taken (turnOf both (rowsOf taken) a b) (λ t c d. joinFrom k rowLimit both t c d)
+
+-- 22, put to the joined rows once all are taken.
+unfoldable pub askJoined : Joining → Joining
+askJoined (refused number place file) = refused number place file
+askJoined (joined es) = cond (eqb (barrierPlace (rowsOf es)) 0) (joined es) (refused BARRIER-ORDER (barrierPlace (rowsOf es)) 0)
+
+-- Every entry of both files taken in turn.
+abbrev pub joinRows : ℕ → List Entry → List Entry → Joining
+joinRows rowLimit a b = joinFrom (suc (length a + length b)) rowLimit (rowsOf a ++ rowsOf b) [] a b
 
 -- The join of two files' entries.
 abbrev pub joinEntries : ℕ → List Entry → List Entry → Joining
-joinEntries rowLimit a b = joinFrom (suc (length a + length b)) rowLimit [] a b
+joinEntries rowLimit a b = askJoined (joinRows rowLimit a b)
 
 -- ---- The whole call
 

@@ -2,7 +2,7 @@
 use Prim.Native.Nat.{ℕ, _<_}
 use mathlib.Core.Path.{_≡_}
 use mathlib.Core.Bool.{false}
-use mathlib.Core.List.{List, [], _∷_}
+use mathlib.Core.List.{List, [], _∷_, _++_}
 use lib.ListN.{length, take}
 use Rattle.rows.specs.declared.Row.{Row}
 use Rattle.rows.specs.Rows.{rowAt}
@@ -17,4 +17,4 @@ pub data Merged {A : Type 0} : List A → List A → List A → Type 0 where
 -- A merging of two files' rows in which no row stands where it would have to wait.
 pub record AllowedMerging (a b m : List Row) : Type 0 where
   pub merges : Merged a b m
-  pub in-order : (k : ℕ) → k < length m → waits (take k m) (rowAt m k) ≡ false
+  pub in-order : (k : ℕ) → k < length m → waits (a ++ b) (take k m) (rowAt m k) ≡ false
