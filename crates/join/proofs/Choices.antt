@@ -15,14 +15,16 @@ use Rattle.csv.proofs.Answers.{tells}
 use Rattle.rows.specs.declared.Row.{Row}
 use Rattle.rows.specs.Kinds.{ARRIVAL}
 use Rattle.messages.specs.Table.{isSent, entryFor}
+use Rattle.barriers.specs.Tables.{heldBy}
 use Rattle.trace_numbers.specs.Numbers.{fieldsOf}
 use Rattle.trace_numbers.specs.declared.ReadRow.{ReadRow}
 use Rattle.trace_fields.specs.Reads.{judgedFields}
 use Rattle.join_meaning.specs.Files.{behind, rowsStart}
 use Rattle.join.specs.declared.choosing.Next.{Next}
 use Rattle.join.specs.declared.choosing.Choice.{Choice}
+use Rattle.join.specs.declared.choosing.Turn.{Turn}
 use Rattle.join.specs.declared.choosing.Turn.the-variants.{Over, Stuck, Take}
-use Rattle.join.specs.Choosing.{FIRST, SECOND, noNext, nextRow, nextFound, nextIn, waitsBy, readyBy, choiceIn, turnBy, partNamed}
+use Rattle.join.specs.Choosing.{FIRST, SECOND, noNext, nextRow, nextFound, nextIn, unsentBy, waitsBy, readyBy, choiceIn, turnBy, partNamed}
 
 -- ---- The part handed over
 
@@ -76,53 +78,73 @@ module _ (P : ℕ) (text : List ℕ) (at : ℕ) {r : Reading} (e : r ≡ reading
 -- ---- Which record comes next
 
 module _ (table : List ℕ) (r : Row) where
-  -- A row of another kind does not wait.
-  pub waits-not : (r .kind ≡ ARRIVAL → ⊥) → false ≡ waitsBy table r
+  -- At a row of another kind no message arrives.
+  pub unsent-not : (r .kind ≡ ARRIVAL → ⊥) → false ≡ unsentBy table r
+  unfolding unsentBy
+  unsent-not k = rw (ne-eqb (r .kind) ARRIVAL k)
+
+  -- A message that arrives at a row is unsent where no row put to the table has sent it.
+  pub unsent-arrival : r .kind ≡ ARRIVAL → {b : Bool} → b ≡ isSent (entryFor table r) → not b ≡ unsentBy table r
+  unfolding unsentBy
+  unsent-arrival k e = rw (eq-eqb (r .kind) ARRIVAL k) (ap not e)
+
+module _ (table stands arrivals : List ℕ) (processes : ℕ) where
+  -- A row whose message is unsent waits.
+  pub waits-unsent : (r : Row) {b : Bool} → b ≡ unsentBy table r → b ≡ true → true ≡ waitsBy table stands arrivals processes r
   unfolding waitsBy
-  waits-not k = rw (ne-eqb (r .kind) ARRIVAL k)
+  waits-unsent r e q = rw (sym e ∙ q)
 
-  -- A row at which a message arrives waits where the message was not sent.
-  pub waits-arrival : r .kind ≡ ARRIVAL → {b : Bool} → b ≡ isSent (entryFor table r) → not b ≡ waitsBy table r
+  -- Another row waits where its process stands at an unfinished barrier.
+  pub waits-held : (r : Row) {b : Bool} → b ≡ unsentBy table r → b ≡ false → {h : Bool} → h ≡ heldBy stands arrivals processes r →
+      h ≡ waitsBy table stands arrivals processes r
   unfolding waitsBy
-  waits-arrival k e = rw (eq-eqb (r .kind) ARRIVAL k) (ap not e)
+  waits-held r e q f = rw (sym e ∙ q) f
 
-module _ (table : List ℕ) (x : Next) where
-  -- A file at its end has no row ready.
-  pub ready-not : x .some ≡ false → false ≡ readyBy table x
-  unfolding readyBy
-  ready-not s = rw s
+  module _ (x : Next) where
+    -- A file at its end has no row ready.
+    pub ready-not : x .some ≡ false → false ≡ readyBy table stands arrivals processes x
+    unfolding readyBy
+    ready-not s = rw s
 
-  -- A next row is ready where it does not wait.
-  pub ready-some : x .some ≡ true → {b : Bool} → b ≡ waitsBy table (x .row) → not b ≡ readyBy table x
-  unfolding readyBy
-  ready-some s e = rw s (ap not e)
+    -- A next row is ready where it does not wait.
+    pub ready-some : x .some ≡ true → {b : Bool} → b ≡ waitsBy table stands arrivals processes (x .row) → not b ≡ readyBy table stands arrivals processes x
+    unfolding readyBy
+    ready-some s e = rw s (ap not e)
 
-module _ (table : List ℕ) (a b : Next) where
-  -- The first file's record is taken where it is ready.
-  pub turn-first : readyBy table a ≡ true → Take (choiceIn FIRST a) ≡ turnBy table a b
-  unfolding turnBy
-  turn-first p = rw p
+  module _ (a b : Next) where
+    -- Whether the first file's record is ready, and the second's.
+    abbrev ready : Next → Bool
+    ready x = readyBy table stands arrivals processes x
 
-  -- The second file's record is taken where the first's is not ready and the second's is.
-  pub turn-second : readyBy table a ≡ false → readyBy table b ≡ true → Take (choiceIn SECOND b) ≡ turnBy table a b
-  unfolding turnBy
-  turn-second p q = rw (p, q)
+    -- The turn.
+    abbrev turn : Turn
+    turn = turnBy table stands arrivals processes a b
 
-  module _ (p : readyBy table a ≡ false) (q : readyBy table b ≡ false) where
-    -- The join is stuck where the first file has a row that waits.
-    pub stuck-first : a .some ≡ true → Stuck ≡ turnBy table a b
+    -- The first file's record is taken where it is ready.
+    pub turn-first : ready a ≡ true → Take (choiceIn FIRST a) ≡ turn
     unfolding turnBy
-    stuck-first s = rw (p, q, s)
+    turn-first p = rw p
 
-    -- The join is stuck where the second file has a row that waits.
-    pub stuck-second : a .some ≡ false → b .some ≡ true → Stuck ≡ turnBy table a b
+    -- The second file's record is taken where the first's is not ready and the second's is.
+    pub turn-second : ready a ≡ false → ready b ≡ true → Take (choiceIn SECOND b) ≡ turn
     unfolding turnBy
-    stuck-second s t = rw (p, q, s, t)
+    turn-second p q = rw (p, q)
 
-    -- The join is over where both files are at their end.
-    pub turn-over : a .some ≡ false → b .some ≡ false → Over ≡ turnBy table a b
-    unfolding turnBy
-    turn-over s t = rw (p, q, s, t)
+    module _ (p : ready a ≡ false) (q : ready b ≡ false) where
+      -- The join is stuck where the first file has a row that waits.
+      pub stuck-first : a .some ≡ true → Stuck ≡ turn
+      unfolding turnBy
+      stuck-first s = rw (p, q, s)
+
+      -- The join is stuck where the second file has a row that waits.
+      pub stuck-second : a .some ≡ false → b .some ≡ true → Stuck ≡ turn
+      unfolding turnBy
+      stuck-second s t = rw (p, q, s, t)
+
+      -- The join is over where both files are at their end.
+      pub turn-over : a .some ≡ false → b .some ≡ false → Over ≡ turn
+      unfolding turnBy
+      turn-over s t = rw (p, q, s, t)
 
 -- ---- Where the first row may start
 

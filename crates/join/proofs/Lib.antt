@@ -6,3 +6,4 @@ pub mod Going
 pub mod Flags
 pub mod Asking
 pub mod Whole
+pub mod Asked

@@ -2,7 +2,7 @@
 use Prim.Native.Nat.{ℕ, _-_, _<_, _≤_}
 use native.Mathlib.Omega.{arith}
 use mathlib.Core.Path.{_≡_, refl, sym, ap, _∙_}
-use mathlib.Core.Bool.{Bool, true, false, not, _&&_}
+use mathlib.Core.Bool.{Bool, true, false, not, _&&_, _||_}
 use mathlib.Core.List.{List, [], _∷_, map}
 use lib.ListN.{length, take, drop, length-map}
 use lib.Dec.{eqb}
@@ -14,8 +14,9 @@ use Rattle.csv.proofs.Places.{found-places}
 use Rattle.rows.specs.declared.Row.{Row}
 use Rattle.rows.specs.Questions.{firstNo}
 use Rattle.rows.specs.Kinds.{ARRIVAL}
-use Rattle.rows.specs.Limits.{MESSAGES}
+use Rattle.rows.specs.Limits.{PROCESSES, MESSAGES}
 use Rattle.messages.proofs.Tables.{Tells}
+use Rattle.barriers.proofs.Noting.{Noted, noted-held}
 use Rattle.trace_fields.specs.Questions.{fieldQuestions}
 use Rattle.trace_fields.specs.Reads.{judgedFields}
 use Rattle.trace.specs.Rows.{rowOf}
@@ -25,7 +26,7 @@ use Rattle.join_meaning.specs.Joining.{waits}
 use Rattle.join_meaning.proofs.Ahead.{Ahead, at-end, more, ahead-well-formed}
 use Rattle.join_meaning.proofs.Parts.{part-alone}
 use Rattle.join.specs.declared.choosing.Next.{Next}
-use Rattle.join.specs.Choosing.{noNext, nextRow, nextFound, nextIn, waitsBy, readyBy}
+use Rattle.join.specs.Choosing.{noNext, nextRow, nextFound, nextIn, unsentBy, waitsBy, readyBy}
 
 -- What stands next in a file is what the chooser reads at a place from which these entries stand ahead.
 pub record Stands (P file : ℕ) (text : List ℕ) (x : Next) (es : List Entry) : Type 0 where
@@ -92,18 +93,28 @@ stands-none s = end-ahead (s .ahead) (s .is-next)
 
 -- ---- Whether a row is ready
 
--- A table that tells of the taken rows tells which rows wait.
-pub waits-told : {table : List ℕ} {taken : List Row} → Tells table taken → (r : Row) → r .message < MESSAGES → waitsBy table r ≡ waits taken r
-unfolding waitsBy waits
-waits-told {table} {taken} t r h = ap (λ (b : Bool). eqb (r .kind) ARRIVAL && not b) (t .each (r .message) h .sent-told)
+-- The tables tell of the rows taken so far, of the rows of both files.
+pub record Told (both taken : List Row) (table stands arrivals : List ℕ) (processes : ℕ) : Type 0 where
+  pub messages-told : Tells table taken
+  pub barriers-told : Noted both taken stands arrivals processes
 
--- Where an entry stands next, the file is ready exactly where its row does not wait.
-pub ready-told : {P file : ℕ} {text : List ℕ} {x : Next} {e : Entry} {es : List Entry} {table : List ℕ} {taken : List Row} → First P file text x e es →
-    Tells table taken → readyBy table x ≡ not (waits taken (e .row))
-unfolding readyBy
-ready-told {e = e} {table = table} f t = ap (readyBy table) (f .is-next) ∙ ap not (waits-told t (e .row) (f .well-formed .message))
+module _ {both taken : List Row} {table stands arrivals : List ℕ} {processes : ℕ} (t : Told both taken table stands arrivals processes) where
+  -- Tables that tell of the taken rows tell which rows wait.
+  pub waits-told : (r : Row) → r .process < PROCESSES → r .message < MESSAGES → waitsBy table stands arrivals processes r ≡ waits both taken r
+  unfolding unsentBy waitsBy waits
+  waits-told r low h =
+      λ i. (eqb (r .kind) ARRIVAL && not (t .messages-told .each (r .message) h .sent-told i)) || noted-held (t .barriers-told) r low i
+
+  -- Where an entry stands next, the file is ready exactly where its row does not wait.
+  pub ready-told : {P file : ℕ} {text : List ℕ} {x : Next} {e : Entry} {es : List Entry} → P ≤ PROCESSES → First P file text x e es →
+      readyBy table stands arrivals processes x ≡ not (waits both taken (e .row))
+  unfolding readyBy
+  ready-told {e = e} few f =
+      let w = f .well-formed in
+      let low : e .row .process < PROCESSES = omega (arith, w .process) in
+      ap (readyBy table stands arrivals processes) (f .is-next) ∙ ap not (waits-told (e .row) low (w .message))
 
 -- A file at its end is not ready.
-pub ready-none : {x : Next} (table : List ℕ) → x ≡ noNext → readyBy table x ≡ false
+pub ready-none : {x : Next} (table stands arrivals : List ℕ) (processes : ℕ) → x ≡ noNext → readyBy table stands arrivals processes x ≡ false
 unfolding readyBy
-ready-none table q = ap (readyBy table) q
+ready-none table stands arrivals processes q = ap (readyBy table stands arrivals processes) q

@@ -29,7 +29,8 @@ use Rattle.join_reading.proofs.Laws.{file-passed}
 use Rattle.join.specs.declared.JoinCall.{JoinCall}
 use Rattle.join.specs.declared.Joined.{Joined}
 use Rattle.join.specs.declared.Joined.the-variants.{Accepted, Refused}
-use Rattle.join.specs.Sharing.{Members, anyFlagged}
+use Rattle.barriers.specs.Participants.{Members}
+use Rattle.join.specs.Sharing.{anyFlagged}
 use Rattle.join.specs.Taking.{partNumbers}
 use Rattle.join.specs.Leaving.{joinedOf, Fits, Holds, HeldOver, rowsLeft, Leaves}
 use Rattle.join.proofs.Flags.{shared-told}

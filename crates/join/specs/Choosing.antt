@@ -9,6 +9,7 @@ use Rattle.rows.specs.declared.Row.{Row}
 use Rattle.rows.specs.Kinds.{ARRIVAL}
 use Rattle.rows.specs.Rows.{noRow}
 use Rattle.messages.specs.Table.{isSent, entryFor}
+use Rattle.barriers.specs.Tables.{heldBy}
 use Rattle.trace_numbers.specs.Numbers.{fieldsOf}
 use Rattle.trace_numbers.specs.declared.ReadRow.{ReadRow}
 use Rattle.trace_numbers.specs.declared.ReadRow.the-variants.{Kept, No}
@@ -54,22 +55,27 @@ stepped taken processLimit text x = cond taken (nextIn processLimit text (x .beh
 
 -- ---- Which record comes next
 
--- A row waits by the table: a message arrives at it that no row put to the table has sent.
-unfoldable pub waitsBy : List ℕ → Row → Bool
-waitsBy table r = eqb (r .kind) ARRIVAL && not (isSent (entryFor table r))
+-- A message arrives at the row that no row put to the table has sent.
+unfoldable pub unsentBy : List ℕ → Row → Bool
+unsentBy table r = eqb (r .kind) ARRIVAL && not (isSent (entryFor table r))
+
+-- A row waits by the tables: a message arrives at it that no row put to the table has sent, or its process stands at an unfinished barrier.
+unfoldable pub waitsBy : List ℕ → List ℕ → List ℕ → ℕ → Row → Bool
+waitsBy table stands arrivals processes r = unsentBy table r || heldBy stands arrivals processes r
 
 -- A file has a next row, and the row does not wait.
-unfoldable pub readyBy : List ℕ → Next → Bool
-readyBy table x = x .some && not (waitsBy table (x .row))
+unfoldable pub readyBy : List ℕ → List ℕ → List ℕ → ℕ → Next → Bool
+readyBy table stands arrivals processes x = x .some && not (waitsBy table stands arrivals processes (x .row))
 
 -- The record that stands next in a file, as a choice.
 abbrev pub choiceIn : ℕ → Next → Choice
 choiceIn file x = record { file = file; start = x .start; end = x .end }
 
 -- The turn: the first file's record where it is ready, else the second's where it is; else one waits, or both files are at their end.
-unfoldable pub turnBy : List ℕ → Next → Next → Turn
-turnBy table a b =
-    cond (readyBy table a) (Take (choiceIn FIRST a)) (cond (readyBy table b) (Take (choiceIn SECOND b)) (cond (a .some || b .some) Stuck Over))
+unfoldable pub turnBy : List ℕ → List ℕ → List ℕ → ℕ → Next → Next → Turn
+turnBy table stands arrivals processes a b =
+    cond (readyBy table stands arrivals processes a) (Take (choiceIn FIRST a))
+    (cond (readyBy table stands arrivals processes b) (Take (choiceIn SECOND b)) (cond (a .some || b .some) Stuck Over))
 
 -- ---- The part handed over
 

@@ -2,7 +2,7 @@
 ghost use mathlib.Core.Path.{_≡_};
 ghost use mathlib.Core.Bool.{false};
 ghost use Prim.Native.Nat.{_-_};
-ghost use Rattle.join.specs.Choosing.{noNext, nextIn, stepped, waitsBy, readyBy, turnBy, partNamed};
+ghost use Rattle.join.specs.Choosing.{noNext, nextIn, stepped, unsentBy, waitsBy, readyBy, turnBy, partNamed};
 use csv::Status;
 use csv_field::Span;
 use rows::Row;
@@ -94,9 +94,25 @@ pub(crate) fn step(text: &[u8], next: Next, taken: bool, process_limit: u32) -> 
     next
 }
 
-// Whether a row waits: a message arrives at it that no row put to the table has sent.
-fn waits(table: &[u16; messages::ENTRIES], row: Row) -> bool
-    ensures { λ r. ⌜ r ≡ waitsBy (now (table .entry)) row ⌝ }
+// Whether a row waits: a message arrives at it that no row put to the table of messages has sent, or its process stands at an unfinished barrier.
+fn waits(
+    table: &[u16; messages::ENTRIES],
+    stands: &[u32; barriers::STANDS],
+    arrivals: &[u8; barriers::NUMBERS],
+    processes: u32,
+    row: Row,
+) -> bool
+    ensures { λ r. ⌜ r ≡ waitsBy (now (table .entry)) (now (stands .entry)) (now (arrivals .entry)) processes row ⌝ }
+{
+    if is_unsent(table, row) {
+        return true;
+    }
+    barriers::is_held(stands, arrivals, processes, row)
+}
+
+// Whether a message arrives at a row that no row put to the table has sent.
+fn is_unsent(table: &[u16; messages::ENTRIES], row: Row) -> bool
+    ensures { λ r. ⌜ r ≡ unsentBy (now (table .entry)) row ⌝ }
 {
     if row.kind != rows::ARRIVAL {
         return false;
@@ -105,30 +121,43 @@ fn waits(table: &[u16; messages::ENTRIES], row: Row) -> bool
 }
 
 // Whether a file has a next row and the row does not wait.
-fn is_ready(table: &[u16; messages::ENTRIES], next: Next) -> bool
-    ensures { λ r. ⌜ r ≡ readyBy (now (table .entry)) next ⌝ }
+fn is_ready(
+    table: &[u16; messages::ENTRIES],
+    stands: &[u32; barriers::STANDS],
+    arrivals: &[u8; barriers::NUMBERS],
+    processes: u32,
+    next: Next,
+) -> bool
+    ensures { λ r. ⌜ r ≡ readyBy (now (table .entry)) (now (stands .entry)) (now (arrivals .entry)) processes next ⌝ }
 {
     let some = next.some;
     if !some {
         return false;
     }
     let row = next.row;
-    !waits(table, row)
+    !waits(table, stands, arrivals, processes, row)
 }
 
 // Chooses the record that comes next: that of the first file, unless this file is at its end or its next row waits; then that of the second on
 // the same condition.
-pub(crate) fn choose(table: &[u16; messages::ENTRIES], first: Next, second: Next) -> Turn
-    ensures { λ r. ⌜ r ≡ turnBy (now (table .entry)) first second ⌝ }
+pub(crate) fn choose(
+    table: &[u16; messages::ENTRIES],
+    stands: &[u32; barriers::STANDS],
+    arrivals: &[u8; barriers::NUMBERS],
+    processes: u32,
+    first: Next,
+    second: Next,
+) -> Turn
+    ensures { λ r. ⌜ r ≡ turnBy (now (table .entry)) (now (stands .entry)) (now (arrivals .entry)) processes first second ⌝ }
 {
-    if is_ready(table, first) {
+    if is_ready(table, stands, arrivals, processes, first) {
         return Turn::Take(Choice {
             file: FIRST,
             start: first.start,
             end: first.end,
         });
     }
-    if is_ready(table, second) {
+    if is_ready(table, stands, arrivals, processes, second) {
         return Turn::Take(Choice {
             file: SECOND,
             start: second.start,

@@ -2,8 +2,10 @@
 ghost use mathlib.Core.Path.{_≡_};
 ghost use lib.ListN.{length};
 ghost use Rattle.rows.specs.Questions.{firstNo};
-ghost use Rattle.join_meaning.specs.Files.{entriesOf, rowsStart};
-ghost use Rattle.join_meaning.specs.Joining.{joinEntries};
+ghost use mathlib.Core.List.{_++_};
+ghost use Rattle.barriers.specs.Participants.{participants};
+ghost use Rattle.join_meaning.specs.Files.{rowsOf, entriesOf, rowsStart};
+ghost use Rattle.join_meaning.specs.Joining.{joinRows, joinEntries};
 ghost use Rattle.join.specs.Taking.{tableTakes, tableTaken, withPart};
 ghost use Rattle.join.specs.Leaving.{joinedOf, Fits, ReadAs, Holds};
 use crate::JoinCall;
@@ -53,28 +55,61 @@ fn put_part(parts: &mut [u64], k: usize, choice: Choice)
     parts[at + 2] = choice.end as u64;
 }
 
-// Joins the records of both files.
-pub(crate) fn join_records<'a>(
+// Joins the records of both files, in which so many processes have rows, and puts 22 to the joined rows.
+pub(crate) fn join_entries<'a>(
     first: &'a [u8],
     second: &'a [u8],
     call: JoinCall,
+    processes: u32,
     rows: &mut [u32],
     parts: &mut [u64],
 ) -> Joined
     requires { ⌜ Fits (call .«row_limit») (call .«process_limit») (length (now rows)) (length (now parts)) ⌝ }
     requires { ⌜ ReadAs (call .«first_header») (call .«row_limit») (call .«process_limit») (now first) ⌝ }
     requires { ⌜ ReadAs (call .«second_header») (call .«row_limit») (call .«process_limit») (now second) ⌝ }
+    requires { ⌜ processes ≡ participants (rowsOf (entriesOf 1 (call .«first_header») (now first)) ++ rowsOf (entriesOf 2 (call .«second_header») (now second))) ⌝ }
     ensures answer { λ r. ⌜ r ≡ joinedOf (joinEntries (call .«row_limit») (entriesOf 1 (call .«first_header») (now (first .entry))) (entriesOf 2 (call .«second_header») (now (second .entry)))) ⌝ }
     ensures held { λ r. ⌜ Holds (joinEntries (call .«row_limit») (entriesOf 1 (call .«first_header») (now (first .entry))) (entriesOf 2 (call .«second_header») (now (second .entry))))
         (now (rows .entry)) (now (rows .exit)) (now (parts .entry)) (now (parts .exit)) ⌝ }
 {
+    match join_records(first, second, call, processes, rows, parts) {
+        Joined::Refused(number, place, file) => Joined::Refused(number, place, file),
+        Joined::Accepted(n) => {
+            let place = barriers::place_of(rows, n);
+            if place != 0 {
+                return Joined::Refused(refusal::BARRIER_ORDER, place, 0);
+            }
+            Joined::Accepted(n)
+        }
+    }
+}
+
+// Takes every record of both files in its turn.
+fn join_records<'a>(
+    first: &'a [u8],
+    second: &'a [u8],
+    call: JoinCall,
+    processes: u32,
+    rows: &mut [u32],
+    parts: &mut [u64],
+) -> Joined
+    requires { ⌜ Fits (call .«row_limit») (call .«process_limit») (length (now rows)) (length (now parts)) ⌝ }
+    requires { ⌜ ReadAs (call .«first_header») (call .«row_limit») (call .«process_limit») (now first) ⌝ }
+    requires { ⌜ ReadAs (call .«second_header») (call .«row_limit») (call .«process_limit») (now second) ⌝ }
+    requires { ⌜ processes ≡ participants (rowsOf (entriesOf 1 (call .«first_header») (now first)) ++ rowsOf (entriesOf 2 (call .«second_header») (now second))) ⌝ }
+    ensures answer { λ r. ⌜ r ≡ joinedOf (joinRows (call .«row_limit») (entriesOf 1 (call .«first_header») (now (first .entry))) (entriesOf 2 (call .«second_header») (now (second .entry)))) ⌝ }
+    ensures held { λ r. ⌜ Holds (joinRows (call .«row_limit») (entriesOf 1 (call .«first_header») (now (first .entry))) (entriesOf 2 (call .«second_header») (now (second .entry))))
+        (now (rows .entry)) (now (rows .exit)) (now (parts .entry)) (now (parts .exit)) ⌝ }
+{
     let mut table = [0u16; messages::ENTRIES];
+    let mut stands = [0u32; barriers::STANDS];
+    let mut arrivals = [0u8; barriers::NUMBERS];
     let limit = call.process_limit;
     let mut a = choosing::next_at(first, start_of(first, call.first_header), limit);
     let mut b = choosing::next_at(second, start_of(second, call.second_header), limit);
     let mut n: usize = 0;
     loop {
-        match choosing::choose(&table, a, b) {
+        match choosing::choose(&table, &stands, &arrivals, processes, a, b) {
             Turn::Over => {
                 return Joined::Accepted(n as u32);
             }
@@ -88,6 +123,7 @@ pub(crate) fn join_records<'a>(
                 if no != 0 {
                     return Joined::Refused(no, n as u32 + 1, 0);
                 }
+                barriers::note(&mut stands, &mut arrivals, row);
                 rows::put_row(rows, n, row);
                 put_part(parts, n, choice);
                 n += 1;

@@ -8,9 +8,11 @@ ghost use lib.ListN.{length, replicate};
 ghost use Rattle.rows.specs.Questions.{firstNo};
 ghost use Rattle.join_meaning.specs.Joining.{joinQuestions, joinFiles, joinTraces};
 ghost use Rattle.join.specs.Leaving.{joinedOf, Passed, HeldOver, Leaves};
+use barriers::participants;
 use choosing::FIRST;
 use choosing::SECOND;
 use joining::PART;
+use participants::FLAGS;
 use rows::refusal;
 use trace::Checked;
 
@@ -119,14 +121,16 @@ fn join_files<'a>(
     match join_reading::read_file(first, call.first_header, limit, processes, rows) {
         Checked::Refused(number, place) => Joined::Refused(number, place, FIRST),
         Checked::Accepted(n) => {
-            let flags = sharing::flag_processes(rows, n as usize);
+            let flags = participants::flag_processes([false; FLAGS], rows, n as usize);
             match join_reading::read_file(second, call.second_header, limit, processes, rows) {
                 Checked::Refused(number, place) => Joined::Refused(number, place, SECOND),
                 Checked::Accepted(m) => {
                     if sharing::is_any_flagged(rows, m as usize, flags) {
                         return Joined::Refused(refusal::SHARED_PROCESS, 0, 0);
                     }
-                    joining::join_records(first, second, call, rows, parts)
+                    let both = participants::flag_processes(flags, rows, m as usize);
+                    let processes = participants::count_flags(both);
+                    joining::join_entries(first, second, call, processes, rows, parts)
                 }
             }
         }

@@ -6,19 +6,19 @@ use mathlib.Core.Path.{_≡_, refl, ap, _∙_}
 use denote.Ref.{now}
 use lib.ListN.{length}
 use Rattle.join.specs.Choosing.{nextIn}
-use Rattle.join.proofs.Going.{Going, outcome, begin, fits-kept, refusal, over, stuck, row-refused, room, goes-on}
+use Rattle.join.proofs.Going.{Going, outcome, bothOf, begin, fits-kept, refusal, over, stuck, row-refused, room, goes-on}
 use Rattle.join.proofs.joining.join_records.Statement.{statement}
 use Rattle.join.proofs.joining.join_records.Tie as tie
 
--- The outcome is that of the rest of both files behind the n entries taken so far, the slices hold their rows and places, and the table tells of
+-- The outcome is that of the rest of both files behind the n entries taken so far, the slices hold their rows and places, and the tables tell of
 -- them.
 abbrev Inv-loop : tie.InvT-loop
-Inv-loop first second call rows₀ parts₀ table₀ limit a₀ b₀ n₀ rows parts table a b n =
-    Going (call .«row_limit») (call .«process_limit») first second (outcome (call .«row_limit») (call .«first_header») (call .«second_header») first second) rows₀ parts₀ a b n rows parts table
+Inv-loop first second call processes rows₀ parts₀ table₀ stands₀ arrivals₀ limit a₀ b₀ n₀ rows parts table stands arrivals a b n =
+    Going (call .«row_limit») (call .«process_limit») first second (bothOf (call .«first_header») (call .«second_header») first second) (outcome (call .«row_limit») (call .«first_header») (call .«second_header») first second) rows₀ parts₀ a b n rows parts table stands arrivals processes
     × (length rows ≡ length rows₀) × (length parts ≡ length parts₀)
 
 abbrev μ-loop : tie.MeasureT-loop
-μ-loop first second call rows₀ parts₀ table₀ limit a₀ b₀ n₀ rows parts table a b n = call .«row_limit» - n
+μ-loop first second call processes rows₀ parts₀ table₀ stands₀ arrivals₀ limit a₀ b₀ n₀ rows parts table stands arrivals a b n = call .«row_limit» - n
 
 start-of-requires : tie.Need-start-of-requires Inv-loop μ-loop
 start-of-requires c κs = search needs
@@ -36,7 +36,7 @@ loop-holds : tie.Need-loop-holds Inv-loop μ-loop
 loop-holds c =
     let a = c .before .before .before .before .before .before .before .before .args in (
       begin (a .call .«row_limit») (a .call .«process_limit») (a .call .«first_header») (a .call .«second_header») (now (a .first)) (now (a .second)) (now (a .rows)) (now (a .parts))
-          (c .before .before .before .before .before .before .before .before .pre .1 .0) (c .before .before .before .before .before .before .before .before .pre .1 .1)
+          (c .before .before .before .before .before .before .before .before .pre .1 .0) (c .before .before .before .before .before .before .before .before .pre .1 .1 .0) (c .before .before .before .before .before .before .before .before .pre .0 .few-processes) (c .before .before .before .before .before .before .before .before .pre .1 .1 .1)
           (c .before .before .next-at .ensures ∙ ap (nextIn (a .call .«process_limit») (now (a .first))) (c .before .before .before .start-of .ensures))
           (c .next-at2 .ensures ∙ ap (nextIn (a .call .«process_limit») (now (a .second))) (c .before .start-of2 .ensures)),
       refl,
@@ -49,34 +49,34 @@ choose-requires c κs = search needs
 enum-told : tie.Need-enum-told Inv-loop μ-loop
 enum-told c = search needs
 
-cast-t18 : tie.Need-cast-t18 Inv-loop μ-loop
-cast-t18 c = omega (arith, c .before .before .before .before .loop .inv .0 .few, c .before .before .before .before .before .before .before .before .before .before .before .before .before .pre .0 .few-rows)
+cast-t23 : tie.Need-cast-t23 Inv-loop μ-loop
+cast-t23 c = omega (arith, c .before .before .before .before .before .before .loop .inv .0 .few, c .before .before .before .before .before .before .before .before .before .before .before .before .before .before .before .pre .0 .few-rows)
 
 same-length : tie.Need-same-length Inv-loop μ-loop
-same-length c = c .before .before .before .before .loop .inv .1
+same-length c = c .before .before .before .before .before .before .loop .inv .1
 
 same-length-2 : tie.Need-same-length-2 Inv-loop μ-loop
-same-length-2 c = c .before .before .before .before .loop .inv .2
+same-length-2 c = c .before .before .before .before .before .before .loop .inv .2
 
 returns : tie.Need-returns Inv-loop μ-loop
 returns c =
-    let l = c .before .before .before .before .loop in
-    over (l .inv .0) (c .before .before .choose .ensures) (c .enum-told .given .1)
+    let l = c .before .before .before .before .before .before .loop in
+    over (l .inv .0) (c .before .before .before .before .before .before .before .before .before .before .before .before .before .before .before .pre .0 .few-processes) (c .before .before .choose .ensures) (c .enum-told .given .1)
 
 enum-told-2 : tie.Need-enum-told-2 Inv-loop μ-loop
 enum-told-2 c = search needs
 
 same-length-3 : tie.Need-same-length-3 Inv-loop μ-loop
-same-length-3 c = c .before .before .before .before .loop .inv .1
+same-length-3 c = c .before .before .before .before .before .before .loop .inv .1
 
 same-length-4 : tie.Need-same-length-4 Inv-loop μ-loop
-same-length-4 c = c .before .before .before .before .loop .inv .2
+same-length-4 c = c .before .before .before .before .before .before .loop .inv .2
 
 returns-2 : tie.Need-returns-2 Inv-loop μ-loop
 returns-2 c =
-    let a = c .before .before .before .before .before .before .before .before .before .before .before .before .before .args in
-    let l = c .before .before .before .before .loop in
-    refusal (now (a .rows)) (l .rows) (now (a .parts)) (l .parts) (stuck (l .inv .0) (c .before .before .choose .ensures) (c .enum-told2 .given .1))
+    let a = c .before .before .before .before .before .before .before .before .before .before .before .before .before .before .before .args in
+    let l = c .before .before .before .before .before .before .loop in
+    refusal (now (a .rows)) (l .rows) (now (a .parts)) (l .parts) (stuck (l .inv .0) (c .before .before .before .before .before .before .before .before .before .before .before .before .before .before .before .pre .0 .few-processes) (c .before .before .choose .ensures) (c .enum-told2 .given .1))
 
 enum-known-choice : tie.Need-enum-known-choice Inv-loop μ-loop
 enum-known-choice c = search needs
@@ -90,24 +90,27 @@ row-of-requires c κs = search needs
 take-row-requires : tie.Need-take-row-requires Inv-loop μ-loop
 take-row-requires c κs = search needs
 
-cast-t21 : tie.Need-cast-t21 Inv-loop μ-loop
-cast-t21 c = omega (arith, c .before .before .before .before .before .before .before .before .before .before .loop .inv .0 .few, c .before .before .before .before .before .before .before .before .before .before .before .before .before .before .before .before .before .before .before .pre .0 .few-rows)
+cast-t26 : tie.Need-cast-t26 Inv-loop μ-loop
+cast-t26 c = omega (arith, c .before .before .before .before .before .before .before .before .before .before .before .before .loop .inv .0 .few, c .before .before .before .before .before .before .before .before .before .before .before .before .before .before .before .before .before .before .before .before .before .pre .0 .few-rows)
 
-add-t22 : tie.Need-add-t22 Inv-loop μ-loop
-add-t22 c = omega (arith, c .before .before .before .before .before .before .before .before .before .before .loop .inv .0 .few, c .before .before .before .before .before .before .before .before .before .before .before .before .before .before .before .before .before .before .before .pre .0 .few-rows)
+add-t27 : tie.Need-add-t27 Inv-loop μ-loop
+add-t27 c = omega (arith, c .before .before .before .before .before .before .before .before .before .before .before .before .loop .inv .0 .few, c .before .before .before .before .before .before .before .before .before .before .before .before .before .before .before .before .before .before .before .before .before .pre .0 .few-rows)
 
 same-length-5 : tie.Need-same-length-5 Inv-loop μ-loop
-same-length-5 c = c .before .before .before .before .before .before .before .before .before .before .loop .inv .1
+same-length-5 c = c .before .before .before .before .before .before .before .before .before .before .before .before .loop .inv .1
 
 same-length-6 : tie.Need-same-length-6 Inv-loop μ-loop
-same-length-6 c = c .before .before .before .before .before .before .before .before .before .before .loop .inv .2
+same-length-6 c = c .before .before .before .before .before .before .before .before .before .before .before .before .loop .inv .2
 
 returns-3 : tie.Need-returns-3 Inv-loop μ-loop
 returns-3 c =
-    let a = c .before .before .before .before .before .before .before .before .before .before .before .before .before .before .before .before .before .before .before .args in
-    let l = c .before .before .before .before .before .before .before .before .before .before .loop in
+    let a = c .before .before .before .before .before .before .before .before .before .before .before .before .before .before .before .before .before .before .before .before .before .args in
+    let l = c .before .before .before .before .before .before .before .before .before .before .before .before .loop in
     refusal (now (a .rows)) (l .rows) (now (a .parts)) (l .parts)
-    (row-refused (l .inv .0) (c .before .before .before .before .before .before .before .before .choose .ensures) (c .before .before .before .before .before .before .choice .given .1) (c .before .before .before .before .hand-over .ensures) (c .before .before .before .row-of .ensures) (c .before .before .before .before .before .before .before .before .before .before .before .before .before .before .before .before .before .before .before .pre .0 .few-processes) (c .before .take-row .ensures) (c .if1 .taken))
+    (row-refused (l .inv .0) (c .before .before .before .before .before .before .before .before .before .before .before .before .before .before .before .before .before .before .before .before .before .pre .0 .few-processes) (c .before .before .before .before .before .before .before .before .choose .ensures) (c .before .before .before .before .before .before .choice .given .1) (c .before .before .before .before .hand-over .ensures) (c .before .before .before .row-of .ensures) (c .before .take-row .ensures) (c .if1 .taken))
+
+note-requires : tie.Need-note-requires Inv-loop μ-loop
+note-requires c κs = search needs
 
 put-row-requires : tie.Need-put-row-requires Inv-loop μ-loop
 put-row-requires c κs = search needs
@@ -116,7 +119,7 @@ put-part-requires : tie.Need-put-part-requires Inv-loop μ-loop
 put-part-requires c κs = search needs
 
 add-n : tie.Need-add-n Inv-loop μ-loop
-add-n c = omega (arith, c .before .before .before .before .before .before .before .before .before .before .before .before .before .before .before .before .before .before .loop .inv .0 .few, c .before .before .before .before .before .before .before .before .before .before .before .before .before .before .before .before .before .before .before .before .before .before .before .before .before .before .before .pre .0 .few-rows)
+add-n c = omega (arith, c .before .before .before .before .before .before .before .before .before .before .before .before .before .before .before .before .before .before .before .before .before .before .before .loop .inv .0 .few, c .before .before .before .before .before .before .before .before .before .before .before .before .before .before .before .before .before .before .before .before .before .before .before .before .before .before .before .before .before .before .before .before .pre .0 .few-rows)
 
 step-requires : tie.Need-step-requires Inv-loop μ-loop
 step-requires c κs = search needs
@@ -126,14 +129,14 @@ step-requires-2 c κs = search needs
 
 loop-less : tie.Need-loop-less Inv-loop μ-loop
 loop-less c =
-    let l = c .before .before .before .before .before .before .before .before .before .before .before .before .before .before .before .before .before .before .before .before .before .before .loop in
-    omega (arith, room (l .inv .0) (c .before .before .before .before .before .before .before .before .before .before .before .before .before .before .before .before .before .before .before .before .choose .ensures) (c .before .before .before .before .before .before .before .before .before .before .before .before .before .before .before .before .before .before .choice .given .1) (c .before .before .before .before .before .before .before .before .before .before .before .before .before .before .before .before .hand-over .ensures) (c .before .before .before .before .before .before .before .before .before .before .before .before .before .before .before .row-of .ensures) (c .before .before .before .before .before .before .before .before .before .before .before .before .before .before .before .before .before .before .before .before .before .before .before .before .before .before .before .before .before .before .before .pre .0 .few-processes) (c .before .before .before .before .before .before .before .before .before .before .before .before .before .take-row .ensures) (c .before .before .before .before .before .before .before .before .before .before .before .before .if1 .left))
+    let l = c .before .before .before .before .before .before .before .before .before .before .before .before .before .before .before .before .before .before .before .before .before .before .before .before .before .before .before .loop in
+    omega (arith, room (l .inv .0) (c .before .before .before .before .before .before .before .before .before .before .before .before .before .before .before .before .before .before .before .before .before .before .before .before .before .before .before .before .before .before .before .before .before .before .before .before .pre .0 .few-processes) (c .before .before .before .before .before .before .before .before .before .before .before .before .before .before .before .before .before .before .before .before .before .before .before .choose .ensures) (c .before .before .before .before .before .before .before .before .before .before .before .before .before .before .before .before .before .before .before .before .before .choice .given .1) (c .before .before .before .before .before .before .before .before .before .before .before .before .before .before .before .before .before .before .before .hand-over .ensures) (c .before .before .before .before .before .before .before .before .before .before .before .before .before .before .before .before .before .before .row-of .ensures) (c .before .before .before .before .before .before .before .before .before .before .before .before .before .before .before .before .take-row .ensures) (c .before .before .before .before .before .before .before .before .before .before .before .before .before .before .before .if1 .left))
 
 loop-again : tie.Need-loop-again Inv-loop μ-loop
 loop-again c =
-    let l = c .before .before .before .before .before .before .before .before .before .before .before .before .before .before .before .before .before .before .before .before .before .before .loop in (
-      goes-on (l .inv .0) (c .before .before .before .before .before .before .before .before .before .before .before .before .before .before .before .before .before .before .before .before .choose .ensures) (c .before .before .before .before .before .before .before .before .before .before .before .before .before .before .before .before .before .before .choice .given .1) (c .before .before .before .before .before .before .before .before .before .before .before .before .before .before .before .before .hand-over .ensures) (c .before .before .before .before .before .before .before .before .before .before .before .before .before .before .before .row-of .ensures) (c .before .before .before .before .before .before .before .before .before .before .before .before .before .before .before .before .before .before .before .before .before .before .before .before .before .before .before .before .before .before .before .pre .0 .few-processes) (c .before .before .before .before .before .before .before .before .before .before .before .before .before .take-row .ensures) (c .before .before .before .before .before .before .before .before .before .before .before .before .if1 .left)
-          (fits-kept (c .before .before .before .before .before .before .before .before .before .before .before .before .before .before .before .before .before .before .before .before .before .before .before .before .before .before .before .before .before .before .before .pre .0) (l .inv .1) (l .inv .2)) (c .before .before .before .before .before .before .before .before .before .before .put-row .ensures) (c .before .before .before .before .before .before .put-part .ensures) (c .before .before .step .ensures) (c .step2 .ensures),
+    let l = c .before .before .before .before .before .before .before .before .before .before .before .before .before .before .before .before .before .before .before .before .before .before .before .before .before .before .before .loop in (
+      goes-on (l .inv .0) (c .before .before .before .before .before .before .before .before .before .before .before .before .before .before .before .before .before .before .before .before .before .before .before .before .before .before .before .before .before .before .before .before .before .before .before .before .pre .0 .few-processes) (c .before .before .before .before .before .before .before .before .before .before .before .before .before .before .before .before .before .before .before .before .before .before .before .choose .ensures) (c .before .before .before .before .before .before .before .before .before .before .before .before .before .before .before .before .before .before .before .before .before .choice .given .1) (c .before .before .before .before .before .before .before .before .before .before .before .before .before .before .before .before .before .before .before .hand-over .ensures) (c .before .before .before .before .before .before .before .before .before .before .before .before .before .before .before .before .before .before .row-of .ensures) (c .before .before .before .before .before .before .before .before .before .before .before .before .before .before .before .before .take-row .ensures) (c .before .before .before .before .before .before .before .before .before .before .before .before .before .before .before .if1 .left)
+          (fits-kept (c .before .before .before .before .before .before .before .before .before .before .before .before .before .before .before .before .before .before .before .before .before .before .before .before .before .before .before .before .before .before .before .before .before .before .before .before .pre .0) (l .inv .1) (l .inv .2)) (c .before .before .before .before .before .before .before .before .before .before .put-row .ensures) (c .before .before .before .before .before .before .put-part .ensures) (c .before .before .before .before .before .before .before .before .before .before .before .before .note .ensures) (c .before .before .step .ensures) (c .step2 .ensures),
       c .before .before .before .before .before .before .before .before .before .before .put-row .kept .0 ∙ l .inv .1,
       c .before .before .before .before .before .before .put-part .kept .0 ∙ l .inv .2,
     )
@@ -151,7 +154,7 @@ join-records-spec =
     loop-holds
     choose-requires
     enum-told
-    cast-t18
+    cast-t23
     same-length
     same-length-2
     returns
@@ -163,11 +166,12 @@ join-records-spec =
     hand-over-requires
     row-of-requires
     take-row-requires
-    cast-t21
-    add-t22
+    cast-t26
+    add-t27
     same-length-5
     same-length-6
     returns-3
+    note-requires
     put-row-requires
     put-part-requires
     add-n
