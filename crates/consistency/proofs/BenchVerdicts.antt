@@ -6,24 +6,25 @@ use Rattle.csv_field.specs.FieldReading.{fieldAt, quotedTo, quotes, afterQuote,
 use Rattle.csv_content.specs.Content.{contentOf, undouble, sameBytes}
 use Rattle.csv.specs.Reading.{records, recordsFrom, onFound, readAt, fieldsFrom, onStop, prepend}
 use Rattle.trace.specs.Rows.{wordOf, sameFields, usedBy, allDigits, startsPlain, valueFrom, rowOf}
-use Rattle.trace.specs.Questions.{callQuestions, filledAsUsed, numbersInRange, any, messageInOrder, waitInOrder, fieldQuestions, recordQuestions, rowQuestions, messageQuestions, judgeRows, judgeHeader, readTrace, checkTrace, Outcome, refused, accepted}
+use Rattle.trace.specs.Questions.{callQuestions, filledAsUsed, numbersInRange, any, messageInOrder, waitInOrder, fieldQuestions, recordQuestions, rowQuestions, messageQuestions, judgeRows, judgeHeader, readRecords, askBarriers, readTrace, checkTrace, Outcome, refused, accepted}
 use Rattle.rows.specs.Questions.{firstNo}
-use Rattle.rows.specs.Counting.{anyBelow, leastFrom}
-use Rattle.happens_before.specs.Order.{edge, hbWithin}
+use Rattle.rows.specs.Counting.{anyBelow, leastFrom, lastBelow}
+use Rattle.barriers.specs.Barriers.{goesOn, repeats, outOfTurn, firstOut, unfinished, barrierPlace}
+use Rattle.happens_before.specs.Order.{lastOf, passes, crosses, edge, hbWithin}
 use Rattle.races_meaning.specs.Races.{shareByte, conflict, chainPosix, chainCommit, chainSession, chainMpiIo, chain, synchronized, race, Verdict, free, racing, verdictOf}
 
 -- ---- Lines, without their line ends
 
 -- process,kind,file,offset,length,message
-l-head : List ℕ
+unfoldable pub l-head : List ℕ
 l-head = 112 ∷ 114 ∷ 111 ∷ 99 ∷ 101 ∷ 115 ∷ 115 ∷ 44 ∷ 107 ∷ 105 ∷ 110 ∷ 100 ∷ 44 ∷ 102 ∷ 105 ∷ 108 ∷ 101 ∷ 44 ∷ 111 ∷ 102 ∷ 102 ∷ 115 ∷ 101 ∷ 116 ∷ 44 ∷ 108 ∷ 101 ∷ 110 ∷ 103 ∷ 116 ∷ 104 ∷ 44 ∷ 109 ∷ 101 ∷ 115 ∷ 115 ∷ 97 ∷ 103 ∷ 101 ∷ []
 
 -- 0,write,1,0,10,
-l-write-ten : List ℕ
+unfoldable pub l-write-ten : List ℕ
 l-write-ten = 48 ∷ 44 ∷ 119 ∷ 114 ∷ 105 ∷ 116 ∷ 101 ∷ 44 ∷ 49 ∷ 44 ∷ 48 ∷ 44 ∷ 49 ∷ 48 ∷ 44 ∷ []
 
 -- 0,commit,1,,,
-l-commit : List ℕ
+unfoldable pub l-commit : List ℕ
 l-commit = 48 ∷ 44 ∷ 99 ∷ 111 ∷ 109 ∷ 109 ∷ 105 ∷ 116 ∷ 44 ∷ 49 ∷ 44 ∷ 44 ∷ 44 ∷ []
 
 -- 0,send,,,,7
@@ -39,7 +40,7 @@ l-wait : List ℕ
 l-wait = 49 ∷ 44 ∷ 119 ∷ 97 ∷ 105 ∷ 116 ∷ 44 ∷ 44 ∷ 44 ∷ 44 ∷ 55 ∷ []
 
 -- 1,read,1,5,10,
-l-read-ten : List ℕ
+unfoldable pub l-read-ten : List ℕ
 l-read-ten = 49 ∷ 44 ∷ 114 ∷ 101 ∷ 97 ∷ 100 ∷ 44 ∷ 49 ∷ 44 ∷ 53 ∷ 44 ∷ 49 ∷ 48 ∷ 44 ∷ []
 
 -- 1,read,1,10,10,
@@ -79,7 +80,7 @@ l-write-none : List ℕ
 l-write-none = 48 ∷ 44 ∷ 119 ∷ 114 ∷ 105 ∷ 116 ∷ 101 ∷ 44 ∷ 49 ∷ 44 ∷ 48 ∷ 44 ∷ 48 ∷ 44 ∷ []
 
 -- Lines as a text.
-inText : List (List ℕ) → List ℕ
+unfoldable pub inText : List (List ℕ) → List ℕ
 inText [] = []
 inText (l ∷ ls) = l ++ (13 ∷ (10 ∷ inText ls))
 
@@ -144,12 +145,12 @@ traces = a ∷ b ∷ b-wait ∷ c ∷ d ∷ e ∷ f ∷ g ∷ h ∷ i ∷ j ∷ 
 -- ---- Their verdicts
 
 -- The verdicts of an outcome under POSIX, commit, session and MPI-IO.
-pub verdicts : Outcome → List Verdict
+unfoldable pub verdicts : Outcome → List Verdict
 verdicts (refused number place) = []
 verdicts (accepted rows) = verdictOf rows 0 ∷ (verdictOf rows 1 ∷ (verdictOf rows 2 ∷ (verdictOf rows 3 ∷ [])))
 
 -- Read with room for 128 rows of 8 processes.
-pub judged : Bench → List Verdict
+unfoldable pub judged : Bench → List Verdict
 judged t = verdicts (checkTrace (t .text) (t .header) 0 128 8 8192 768 1024)
 
 -- The verdicts of A to J and L, B once more with a wait.
@@ -170,5 +171,5 @@ expected =
     ∷ []
 
 pub bench-verdicts : map judged traces ≡ expected
-unfolding records recordsFrom onFound readAt fieldsFrom onStop prepend fieldAt quotedTo quotes afterQuote afterCR stopOf textLength isText isQuoted contentOf undouble sameBytes wordOf sameFields usedBy allDigits startsPlain valueFrom rowOf firstNo callQuestions filledAsUsed numbersInRange any messageInOrder waitInOrder fieldQuestions recordQuestions rowQuestions messageQuestions judgeRows judgeHeader readTrace checkTrace anyBelow edge hbWithin shareByte conflict chainPosix chainCommit chainSession chainMpiIo chain synchronized race leastFrom verdictOf verdicts judged traces inText l-head l-write-ten l-commit l-send l-recv l-wait l-read-ten l-read-behind l-close l-open l-read-first l-write-there l-own-read l-write-one l-other-write l-write-none a b b-wait c d e f g h i j l
+unfolding records recordsFrom onFound readAt fieldsFrom onStop prepend fieldAt quotedTo quotes afterQuote afterCR stopOf textLength isText isQuoted contentOf undouble sameBytes wordOf sameFields usedBy allDigits startsPlain valueFrom rowOf firstNo callQuestions filledAsUsed numbersInRange any messageInOrder waitInOrder fieldQuestions recordQuestions rowQuestions messageQuestions judgeRows judgeHeader readRecords goesOn repeats outOfTurn firstOut unfinished barrierPlace askBarriers readTrace checkTrace anyBelow lastBelow lastOf passes crosses edge hbWithin shareByte conflict chainPosix chainCommit chainSession chainMpiIo chain synchronized race leastFrom verdictOf verdicts judged traces inText l-head l-write-ten l-commit l-send l-recv l-wait l-read-ten l-read-behind l-close l-open l-read-first l-write-there l-own-read l-write-one l-other-write l-write-none a b b-wait c d e f g h i j l
 bench-verdicts = refl

@@ -12,10 +12,11 @@ use Rattle.csv_content.specs.Content.{contentOf, sameBytes}
 use Rattle.csv.specs.Reading.{records, recordsFrom, onFound, readAt, fieldsFrom, onStop, prepend}
 use Rattle.rows.specs.declared.Row.{Row}
 use Rattle.trace.specs.Rows.{wordOf, usedBy, allDigits, startsPlain, valueFrom, rowOf}
-use Rattle.trace.specs.Questions.{callQuestions, filledAsUsed, numbersInRange, messageInOrder, waitInOrder, fieldQuestions, recordQuestions, rowQuestions, messageQuestions, judgeRows, readTrace, checkTrace, accepted}
+use Rattle.trace.specs.Questions.{callQuestions, filledAsUsed, numbersInRange, any, messageInOrder, waitInOrder, fieldQuestions, recordQuestions, rowQuestions, messageQuestions, judgeRows, readRecords, askBarriers, readTrace, checkTrace, accepted}
 use Rattle.rows.specs.Questions.{firstNo}
-use Rattle.rows.specs.Counting.{anyBelow, leastFrom}
-use Rattle.happens_before.specs.Order.{edge, hbWithin}
+use Rattle.rows.specs.Counting.{anyBelow, leastFrom, lastBelow}
+use Rattle.barriers.specs.Barriers.{goesOn, repeats, outOfTurn, firstOut, unfinished, barrierPlace}
+use Rattle.happens_before.specs.Order.{lastOf, passes, crosses, edge, hbWithin}
 use Rattle.consistency.proofs.BenchVerdicts.{judged, traces, expected, bench-verdicts}
 use Rattle.races_meaning.specs.Races.{shareByte, conflict, chainCommit, chain, synchronized, race, racing, verdictOf}
 use Rattle.extents_meaning.specs.Cells.{Bytes, cellOf}
@@ -69,13 +70,13 @@ pub record K : Type 0 where
 -- The text is read as these rows.
 k-taken : checkTrace kText 0 COMMIT-MODEL 4 2 8192 24 8 ≡ accepted kRows
 unfolding records recordsFrom onFound readAt fieldsFrom onStop prepend fieldAt afterCR stopOf textLength isText contentOf sameBytes wordOf usedBy allDigits
-    startsPlain valueFrom rowOf firstNo callQuestions filledAsUsed numbersInRange messageInOrder waitInOrder fieldQuestions recordQuestions rowQuestions messageQuestions judgeRows readTrace
-    checkTrace
+    startsPlain valueFrom rowOf firstNo callQuestions filledAsUsed numbersInRange any messageInOrder waitInOrder fieldQuestions recordQuestions rowQuestions messageQuestions judgeRows
+    readRecords goesOn repeats outOfTurn firstOut unfinished barrierPlace askBarriers readTrace checkTrace
 k-taken = refl
 
 -- Rows 1 and 2 race.
 k-judged : verdictOf kRows COMMIT-MODEL ≡ racing 1 2
-unfolding anyBelow edge hbWithin shareByte conflict chainCommit chain synchronized race leastFrom verdictOf
+unfolding anyBelow lastBelow lastOf passes crosses edge hbWithin shareByte conflict chainCommit chain synchronized race leastFrom verdictOf
 k-judged = refl
 
 -- ---- No row is refused

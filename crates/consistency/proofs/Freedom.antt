@@ -17,7 +17,7 @@ use Rattle.consistency.proofs.Core.{Trace, run, plain, Ok, none, next, 
 use Rattle.consistency.proofs.Holding.{AllPublished, Holds, holds-view, write-holds, shared-holds, shared-as-published, all-publish, shared-left, write-own, write-other}
 
 -- Row c stands in an order before row o.
-abbrev Before : ℕ → ℕ → List ℕ → Type 0
+abbrev pub Before : ℕ → ℕ → List ℕ → Type 0
 Before c o [] = ⊥
 Before c o (y ∷ h) = ((o ≡ y) × In c h) ⊎ Before c o h
 
@@ -69,7 +69,7 @@ module _ (t : Trace) where
       go (inr m) = m
 
   -- Whatever happens before a row that stands stands before it.
-  stands : {h : List ℕ} → Ok t h → {c o : ℕ} → HB (t .edge) c o → In o h → Before c o h
+  pub stands : {h : List ℕ} → Ok t h → {c o : ℕ} → HB (t .edge) c o → In o h → Before c o h
   stands none b m = absurd m
   stands (next l n e ok) b (inl q) = inl (q, earlier (next l n e ok) (rw q at b))
   stands (next l n e ok) b (inr m) = inr (stands ok b m)

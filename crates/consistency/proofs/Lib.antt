@@ -1,5 +1,7 @@
 pub mod Messages
+pub mod Barriers
 pub mod BenchVerdicts
+pub mod BarrierBenches
 pub mod Byte
 pub mod Core
 pub mod Holding

@@ -1,23 +1,26 @@
--- What the questions of messages leave of an accepted trace: a wait stands behind the send of its message and behind its receive.
-use Prim.Native.Nat.{ℕ, _<_}
+-- What the questions of messages leave of an accepted trace: a wait stands behind the send of its message and behind its receive. And which direct
+-- edges an accepted trace has.
+use Prim.Native.Nat.{ℕ, zero, suc, _≤_, _<_}
 use native.Mathlib.Omega.{arith}
 use mathlib.Core.Path.{_≡_, refl, sym, ap, _∙_}
 use mathlib.Core.Logic.{_↔_, _⊎_, inl, inr}
-use mathlib.Core.Bool.{true}
+use mathlib.Core.Bool.{true, false≢true}
 use mathlib.Core.List.{List}
 use lib.ListN.{length}
-use lib.Dec.{ltb, eqb}
-use borrow.Author.Tests.{lt-ltb, ltb-true, eq-eqb, eqb-true}
+use lib.Dec.{eqb}
+use borrow.Author.Tests.{eq-eqb, eqb-true}
 use Rattle.rows.specs.declared.Row.{Row}
 use Rattle.rows.specs.Kinds.{SEND, WAIT, ARRIVAL}
 use Rattle.rows.specs.Rows.{rowAt}
-use Rattle.rows.proofs.Bools.{and-out, or-out}
+use Rattle.rows.proofs.Bools.{and-out, or-right}
 use Rattle.messages.proofs.InOrder.{Sends, Posts, Arrives}
 use Rattle.trace.specs.Questions.{accepted, checkTrace}
 use Rattle.trace.proofs.Laws.{Sound, accepted-passed, accepted-sound}
 use Rattle.trace.proofs.Messages.{sends-once, posts-once, arrives-once, arrival-sent, arrival-posted}
-use Rattle.happens_before.specs.Order.{sameProcess, delivers, edge, HB, one}
-use Rattle.happens_before.proofs.Clocks.{message-order}
+use Rattle.barriers.proofs.Kept.{Meet, meet-other, Kept, barrier-first}
+use Rattle.happens_before.specs.Order.{delivers, lastBefore, passes, crosses, edge, HB, one}
+use Rattle.happens_before.proofs.Clocks.{Last, last-is, edge-forward, edge-by, program-order, cross-order, message-order}
+use Rattle.happens_before.proofs.Barriers.{meet-in, meet-out, SentFirst}
 use Rattle.rows.specs.Lists.{In}
 use Rattle.consistency.specs.Orders.{Allowed, Stands}
 
@@ -52,13 +55,54 @@ sound-delivers {P} {rows} s m i j h g c d =
     let e : t .0 ≡ i = sends-once s m (t .0) i b h (t .2) c in
     (omega (arith, t .1), λ q. t .3 (ap (λ (k : ℕ). rowAt rows k .process) e ∙ q))
 
--- The direct edges of an accepted trace are each process's own row order and the way from each send to the row at which its
--- message arrives.
-pub sound-edge : {P : ℕ} {rows : List Row} → Sound P rows → (i j : ℕ) → i < length rows → j < length rows →
+-- A send leads to the row at which its message arrives.
+delivers-in : (r w : Row) (m : ℕ) → Sends r m → Arrives w m → delivers r w ≡ true
+delivers-in r w m c d = rw (eq-eqb (r .kind) SEND (c .0), eq-eqb (w .kind) ARRIVAL (d .0)) (eq-eqb (r .message) (w .message) (c .1 ∙ sym (d .1)))
+
+-- Where a row's message arrives at another, the first sends that message.
+delivers-out : (r w : Row) → delivers r w ≡ true → Sends r (w .message) × Arrives w (w .message)
+delivers-out r w e =
+    let a = and-out (eqb (r .kind) SEND) _ e in
+    let b = and-out (eqb (w .kind) ARRIVAL) (eqb (r .message) (w .message)) (a .1) in
+    ((eqb-true _ _ (a .0), eqb-true _ _ (b .1)), (eqb-true _ _ (b .0), refl))
+
+-- A send of an accepted trace stands before the row at which its message arrives.
+pub sound-sent-first : {P : ℕ} {rows : List Row} → Sound P rows → SentFirst rows
+sound-sent-first {P} {rows} s i j h g e =
+    let a = delivers-out (rowAt rows i) (rowAt rows j) e in sound-delivers s (rowAt rows j .message) i j h g (a .0) (a .1) .0
+
+-- Row j stands just after the barrier that row i is of: the last row of j's process before j is of that barrier too.
+pub record JustAfter (rows : List Row) (i j : ℕ) : Type 0 where
+  pub row : ℕ
+  pub before : row < j
+  pub own : rowAt rows row .process ≡ rowAt rows j .process
+  pub last : (k : ℕ) → k < j → rowAt rows k .process ≡ rowAt rows j .process → k ≤ row
+  pub meets : Meet (rowAt rows row) (rowAt rows i)
+
+-- The test says so.
+just-after-iff : (rows : List Row) (i j : ℕ) → (passes (rowAt rows) i (lastBefore (rowAt rows) j) ≡ true) ↔ JustAfter rows i j
+unfolding passes
+just-after-iff rows i j = go (lastBefore (rowAt rows) j) (last-is (λ x. rowAt rows x .process) (rowAt rows j .process) j)
+  where
+    go : (l : ℕ) → Last (λ x. rowAt rows x .process) (rowAt rows j .process) j l → (passes (rowAt rows) i l ≡ true) ↔ JustAfter rows i j
+    go zero r = (λ e. absurd (false≢true e), λ a. absurd (r (a .row) (a .before) (a .own)))
+    go (suc k) r = (
+      λ e. record { row = k; before = r .0; own = r .1; last = r .2; meets = meet-other (meet-out (rowAt rows i) (rowAt rows k) e) },
+      λ a.
+          let l = a .last k (r .0) (r .1) in
+          let m = r .2 (a .row) (a .before) (a .own) in
+          let e : k ≡ a .row = omega arith in
+          rw e (meet-in (rowAt rows i) (rowAt rows (a .row)) (meet-other (a .meets))),
+    )
+
+-- The direct edges of an accepted trace are each process's own row order, the way from each send to the row at which its message arrives, and the
+-- way from each row of a barrier to the rows just after that barrier.
+pub sound-edge : {P : ℕ} {rows : List Row} → Sound P rows → Kept rows → (i j : ℕ) → i < length rows → j < length rows →
     (edge rows i j ≡ true)
-    ↔ (((i < j) × (rowAt rows i .process ≡ rowAt rows j .process)) ⊎ ((m : ℕ) × Sends (rowAt rows i) m × Arrives (rowAt rows j) m))
-unfolding edge
-sound-edge {P} {rows} s i j h g = (to, from)
+    ↔ (((i < j) × (rowAt rows i .process ≡ rowAt rows j .process))
+    ⊎ (((m : ℕ) × Sends (rowAt rows i) m × Arrives (rowAt rows j) m) ⊎ JustAfter rows i j))
+unfolding crosses
+sound-edge {P} {rows} s kept i j h g = (λ e. to (edge-forward rows i j e) (edge-by rows i j e), from)
   where
     r : Row
     r = rowAt rows i
@@ -67,26 +111,19 @@ sound-edge {P} {rows} s i j h g = (to, from)
     w = rowAt rows j
 
     Edge : Type 0
-    Edge = ((i < j) × (r .process ≡ w .process)) ⊎ ((m : ℕ) × Sends r m × Arrives w m)
+    Edge = ((i < j) × (r .process ≡ w .process)) ⊎ (((m : ℕ) × Sends r m × Arrives w m) ⊎ JustAfter rows i j)
 
-    to : edge rows i j ≡ true → Edge
-    to e =
-        let a = and-out (ltb i j) _ e in
-        go (ltb-true i j (a .0)) (or-out (sameProcess r w) (delivers r w) (and-out (ltb j (length rows)) _ (a .1) .1))
-      where
-        go : i < j → (sameProcess r w ≡ true) ⊎ (delivers r w ≡ true) → Edge
-        go l (inl q) = inl (l, eqb-true (r .process) (w .process) q)
-        go l (inr q) =
-            let a = and-out (eqb (r .kind) SEND) _ q in
-            let b = and-out (eqb (w .kind) ARRIVAL) (eqb (r .message) (w .message)) (a .1) in
-            inr (w .message, (eqb-true _ _ (a .0), eqb-true _ _ (b .1)), (eqb-true _ _ (b .0), refl))
+    to : i < j → (r .process ≡ w .process) ⊎ ((delivers r w ≡ true) ⊎ (passes (rowAt rows) i (lastBefore (rowAt rows) j) ≡ true)) → Edge
+    to l (inl q) = inl (l, q)
+    to l (inr (inl q)) = let a = delivers-out r w q in inr (inl (w .message, a .0, a .1))
+    to l (inr (inr q)) = inr (inr (just-after-iff rows i j .0 q))
 
     from : Edge → edge rows i j ≡ true
-    from (inl (l, q)) = rw (lt-ltb i j l, lt-ltb j (length rows) g, eq-eqb (r .process) (w .process) q)
-    from (inr (m, c, d)) =
-        let l = sound-delivers s m i j h g c d .0 in
-        let same = eq-eqb (r .message) (w .message) (c .1 ∙ sym (d .1)) in
-        message-order rows i j l g (rw (eq-eqb (r .kind) SEND (c .0), eq-eqb (w .kind) ARRIVAL (d .0)) same)
+    from (inl (l, q)) = program-order rows i j l g q
+    from (inr (inl (m, c, d))) = message-order rows i j (sound-delivers s m i j h g c d .0) g (delivers-in r w m c d)
+    from (inr (inr a)) =
+        cross-order rows i j (barrier-first kept i (a .row) j h (a .before) g (a .meets) (a .own)) g
+        (or-right (delivers r w) _ (just-after-iff rows i j .1 a))
 
 -- A wait of an accepted trace has a direct edge from the send of its message.
 wait-edge : {P : ℕ} {rows : List Row} → Sound P rows → (j : ℕ) → j < length rows → rowAt rows j .kind ≡ WAIT →
@@ -94,8 +131,7 @@ wait-edge : {P : ℕ} {rows : List Row} → Sound P rows → (j : ℕ) → j < l
 wait-edge {P} {rows} s j h k =
     let m = rowAt rows j .message in
     let t = arrival-sent s m j h (k, refl) in
-    let b : t .0 < length rows = omega (arith, t .1) in
-    (t .0, t .2, sound-edge s (t .0) j b h .1 (inr (m, t .2, (k, refl))))
+    (t .0, t .2, message-order rows (t .0) j (t .1) h (delivers-in (rowAt rows (t .0)) (rowAt rows j) m (t .2) (k, refl)))
 
 -- A wait of an accepted trace happens after the send of its message.
 pub wait-ordered : {P : ℕ} {rows : List Row} → Sound P rows → (j : ℕ) → j < length rows → rowAt rows j .kind ≡ WAIT →

@@ -7,11 +7,11 @@ use mathlib.Core.Bool.{true}
 use mathlib.Core.List.{List, [], _∷_, _++_, reverseAux, reverse, reverse-cons, reverseAux-append, reverse-reverse}
 use lib.ListN.{length}
 use Rattle.rows.specs.declared.Row.{Row}
-use Rattle.happens_before.specs.Order.{edge, one}
+use Rattle.happens_before.specs.Order.{edge, HB, one}
 use Rattle.consistency.specs.Orders.{Stands, Allowed, placesBelow, traceOrder}
 use Rattle.rows.specs.Lists.{In, Once}
 use Rattle.consistency.proofs.Core.{Trace, Ok, none, next}
-use Rattle.consistency.proofs.Freedom.{row-of, closed}
+use Rattle.consistency.proofs.Freedom.{Before, row-of, closed, stands}
 use Rattle.consistency.proofs.Selections.{select, select-ok}
 use Rattle.consistency.proofs.Meaning.{byteTrace}
 
@@ -82,6 +82,12 @@ turned-stands a b (c ∷ l) r (inl (inl q, i)) = turned-stands a b l (c ∷ r) (
 turned-stands a b (c ∷ l) r (inl (inr m, i)) = turned-stands a b l (c ∷ r) (inl (m, inr i))
 turned-stands a b (c ∷ l) r (inr s) = turned-stands a b l (c ∷ r) (inr (inr s))
 
+-- What stands before b, latest row first, stands before b in the turned list.
+before-turned : (a b : ℕ) (l r : List ℕ) → Before a b l → Stands a b (reverseAux l r)
+before-turned a b [] r s = absurd s
+before-turned a b (c ∷ l) r (inl (q, m)) = turned-stands a b l (c ∷ r) (inl (m, inl q))
+before-turned a b (c ∷ l) r (inr s) = before-turned a b l (c ∷ r) s
+
 -- What another stands before stands.
 stands-in : (a b : ℕ) (l : List ℕ) → Stands a b l → In b l
 stands-in a b [] s = absurd s
@@ -103,12 +109,6 @@ module _ (t : Trace) where
   ok-once : {h : List ℕ} → Ok t h → Once h
   ok-once none = tt
   ok-once (next b n e ok) = (n, ok-once ok)
-
-  -- In an allowed order, turned, a direct predecessor stands before its row.
-  ok-stands : {h : List ℕ} → Ok t h → (i j : ℕ) → t .edge i j ≡ true → In j h → (r : List ℕ) → Stands i j (reverseAux h r)
-  ok-stands none i j e m r = absurd m
-  ok-stands (next {y} {h} b n es ok) i j e (inl q) r = turned-stands i j h (y ∷ r) (inl (es i (rw q at e), inl q))
-  ok-stands (next {y} {h} b n es ok) i j e (inr m) r = ok-stands ok i j e m (y ∷ r)
 
 -- The next row of an order: its direct predecessors are passed.
 predecessor-passed : (rows : List Row) (y : ℕ) (passed rest : List ℕ) → Allowed rows (reverseAux passed (y ∷ rest)) → (k : ℕ) →
@@ -146,11 +146,17 @@ ok-allowed rows model file b h ok =
       of-trace = λ k m. row-of t ok k (in-reverse k h m);
       once = turned-once h [] (ok-once t ok) tt (λ a m i. i);
       closed = λ i j before m. turned-in i h [] (inl (closed t ok before (in-reverse j h m)));
-      in-order = λ i j e m n. ok-stands t ok i j e (in-reverse j h n) [];
+      in-order = λ i j e m n. before-turned i j h [] (stands t ok (one e) (in-reverse j h n));
     }
   where
     t : Trace
     t = byteTrace rows model file b
+
+-- In an allowed order whatever happens before a row stands before it.
+pub allowed-stands : (rows : List Row) (order : List ℕ) → Allowed rows order → (i j : ℕ) → HB (edge rows) i j → In j order → Stands i j order
+allowed-stands rows order a i j before m =
+    rw (reverse-reverse order) at (before-turned i j (reverse order) []
+    (stands (byteTrace rows 0 0 0) (allowed-ok rows 0 0 0 order a) before (turned-in j order [] (inl m))))
 
 -- Each first part of an allowed order is allowed.
 pub first-allowed : (rows : List Row) (first rest : List ℕ) → Allowed rows (first ++ rest) → Allowed rows first

@@ -2,12 +2,13 @@
 use Prim.Native.Nat.{ℕ, zero, suc, _<_}
 use native.Mathlib.Omega.{arith}
 use mathlib.Core.Path.{_≡_, refl, sym, ap, subst, _∙_}
-use mathlib.Core.Logic.{inl, inr}
-use mathlib.Core.Bool.{Bool, true, false, cond, _&&_, _||_, false≢true}
+use mathlib.Core.Logic.{_⊎_, inl, inr}
+use mathlib.Core.Bool.{Bool, true, false, cond, _&&_, false≢true}
 use mathlib.Core.List.{List, [], _∷_, _++_}
-use lib.Dec.{ltb, eqb}
+use lib.Dec.{eqb}
+use borrow.Author.Tests.{eq-eqb}
 use Rattle.rows.specs.Limits.{FILES}
-use Rattle.rows.specs.Kinds.{WRITE, COMMIT, CLOSE, SEND, RECV, WAIT, ARRIVAL}
+use Rattle.rows.specs.Kinds.{WRITE, COMMIT, CLOSE, SEND, RECV, WAIT, ARRIVAL, BARRIER}
 use Rattle.models.specs.Models.{COMMIT-MODEL, SESSION}
 use Rattle.models.specs.Table.{publishes, refreshes}
 use Rattle.csv.specs.Reading.{records, recordsFrom, onFound, readAt, fieldsFrom, onStop, prepend}
@@ -15,12 +16,13 @@ use Rattle.csv_field.specs.FieldReading.{fieldAt, afterCR, stopOf, textLength, 
 use Rattle.csv_content.specs.Content.{contentOf, sameBytes}
 use Rattle.rows.specs.declared.Row.{Row}
 use Rattle.trace.specs.Rows.{wordOf, usedBy, allDigits, startsPlain, valueFrom, rowOf}
-use Rattle.trace.specs.Questions.{callQuestions, filledAsUsed, numbersInRange, any, messageInOrder, waitInOrder, fieldQuestions, recordQuestions, rowQuestions, messageQuestions, judgeRows, readTrace, checkTrace, accepted}
+use Rattle.trace.specs.Questions.{callQuestions, filledAsUsed, numbersInRange, any, messageInOrder, waitInOrder, fieldQuestions, recordQuestions, rowQuestions, messageQuestions, judgeRows, readRecords, askBarriers, readTrace, checkTrace, accepted}
 use Rattle.rows.specs.Questions.{firstNo}
-use Rattle.rows.specs.Counting.{anyBelow, leastFrom}
-use Rattle.happens_before.specs.Order.{edge, hbWithin}
+use Rattle.rows.specs.Counting.{anyBelow, leastFrom, lastBelow}
+use Rattle.barriers.specs.Barriers.{goesOn, repeats, outOfTurn, firstOut, unfinished, barrierPlace}
+use Rattle.happens_before.specs.Order.{delivers, lastOf, lastBefore, passes, crosses, edge, hbWithin}
 use Rattle.rows.specs.Rows.{rowAt}
-use Rattle.happens_before.proofs.Clocks.{edge-forward}
+use Rattle.happens_before.proofs.Clocks.{edge-forward, edge-by, program-order, message-order, passes-kind}
 use Rattle.races_meaning.specs.Races.{shareByte, conflict, chainCommit, chainSession, chain, synchronized, race, free, racing, verdictOf}
 use Rattle.extents_meaning.specs.Cells.{numberIn}
 use Rattle.machine_meaning.specs.Layers.{Layers, fresh, nothing, ofFile}
@@ -69,7 +71,7 @@ pub record SessionRace : Type 0 where
 s-taken : checkTrace sText 0 SESSION 7 2 8192 42 14 ≡ accepted sRows
 unfolding records recordsFrom onFound readAt fieldsFrom onStop prepend fieldAt afterCR stopOf textLength isText contentOf sameBytes wordOf usedBy
     allDigits startsPlain valueFrom rowOf firstNo callQuestions filledAsUsed numbersInRange any messageInOrder waitInOrder fieldQuestions recordQuestions rowQuestions messageQuestions judgeRows
-    readTrace checkTrace
+    readRecords goesOn repeats outOfTurn firstOut unfinished barrierPlace askBarriers readTrace checkTrace
 s-taken = refl
 
 -- Rows 1 and 6 race.
@@ -88,7 +90,7 @@ cRows =
 
 -- The rows with commits for closes are free under commit.
 c-judged : verdictOf cRows COMMIT-MODEL ≡ free
-unfolding anyBelow edge hbWithin shareByte conflict chainCommit chain synchronized race leastFrom verdictOf
+unfolding anyBelow lastBelow lastOf passes crosses edge hbWithin shareByte conflict chainCommit chain synchronized race leastFrom verdictOf
 c-judged = refl
 
 -- ---- Every byte sees both traces alike
@@ -123,29 +125,36 @@ module _ (file b : ℕ) where
   abbrev u : Trace
   u = byteTrace cRows COMMIT-MODEL file b
 
-  -- Each row is seen alike, does not read, and is of process 0 or 1.
-  alike : (k : ℕ) → k < 7 →
+  -- A row is seen alike, does not read, is of process 0 or 1, and of no barrier.
+  abbrev Alike : ℕ → Type 0
+  Alike k =
       (seen SESSION file b (rowAt sRows k) ≡ seen COMMIT-MODEL file b (rowAt cRows k)) × (t .reads k ≡ false) × (u .process k < 2)
+      × (eqb (rowAt cRows k .kind) BARRIER ≡ false)
+
+  -- Each row is.
+  alike : (k : ℕ) → k < 7 → Alike k
   unfolding publishes refreshes
-  alike zero l = (refl, refl, omega arith)
-  alike (suc zero) l = (refl, refl, omega arith)
-  alike (suc (suc zero)) l = (refl, refl, omega arith)
-  alike (suc (suc (suc zero))) l = (refl, refl, omega arith)
-  alike (suc (suc (suc (suc zero)))) l = (refl, refl, omega arith)
-  alike (suc (suc (suc (suc (suc zero))))) l = (refl, refl, omega arith)
-  alike (suc (suc (suc (suc (suc (suc zero)))))) l = (refl, refl, omega arith)
+  alike zero l = (refl, refl, omega arith, refl)
+  alike (suc zero) l = (refl, refl, omega arith, refl)
+  alike (suc (suc zero)) l = (refl, refl, omega arith, refl)
+  alike (suc (suc (suc zero))) l = (refl, refl, omega arith, refl)
+  alike (suc (suc (suc (suc zero)))) l = (refl, refl, omega arith, refl)
+  alike (suc (suc (suc (suc (suc zero))))) l = (refl, refl, omega arith, refl)
+  alike (suc (suc (suc (suc (suc (suc zero)))))) l = (refl, refl, omega arith, refl)
   alike (suc (suc (suc (suc (suc (suc (suc k))))))) l = absurd (omega arith)
 
   -- An edge between rows with commits is one between the rows.
   edge-alike : (k y : ℕ) → y < 7 → edge cRows k y ≡ true → edge sRows k y ≡ true
-  unfolding edge
-  edge-alike k y l e =
-      let m : k < y = edge-forward cRows k y e in
-      let p = alike k (omega arith) .0 in
-      let q = alike y l .0 in
-      (λ i. ltb k y
-      && (ltb y 7 && (eqb (p i .process) (q i .process) || (p i .sends && (q i .arrives && eqb (p i .message) (q i .message))))))
-      ∙ e
+  edge-alike k y l e = let m = edge-forward cRows k y e in go m (alike k (omega arith)) (alike y l) (edge-by cRows k y e)
+    where
+      go : k < y → Alike k → Alike y →
+          (rowAt cRows k .process ≡ rowAt cRows y .process)
+          ⊎ ((delivers (rowAt cRows k) (rowAt cRows y) ≡ true) ⊎ (passes (rowAt cRows) k (lastBefore (rowAt cRows) y) ≡ true)) → edge sRows k y ≡ true
+      go m p q (inl s) = program-order sRows k y m l (ap (λ (x : Seen). x .process) (p .0) ∙ s ∙ ap (λ (x : Seen). x .process) (sym (q .0)))
+      go m p q (inr (inl d)) =
+          message-order sRows k y m l
+          ((λ i. p .0 i .sends && (q .0 i .arrives && eqb (p .0 i .message) (q .0 i .message))) ∙ d)
+      go m p q (inr (inr s)) = absurd (false≢true (sym (p .3) ∙ eq-eqb _ _ (passes-kind (rowAt cRows) k _ s)))
 
   -- An allowed order of the rows is one of the rows with commits, and leaves the same files.
   run-alike : {h : List ℕ} → Ok t h → Ok u h × (run t h ≡ run u h) × (plain t h ≡ plain u h)

@@ -15,7 +15,7 @@ Stands a b [] = ⊥
 Stands a b (c ∷ l) = ((a ≡ c) × In b l) ⊎ Stands a b l
 
 -- A set of rows that with each row holds every row that happens before it, in an allowed order: it keeps each process's rows in order and each
--- wait after its send.
+-- wait after its send, and lets no process pass a barrier until all have arrived.
 pub record Allowed (rows : List Row) (order : List ℕ) : Type 0 where
   pub of-trace : (k : ℕ) → In k order → k < length rows
   pub once : Once order
