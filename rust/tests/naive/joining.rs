@@ -1,5 +1,6 @@
 //! Two files joined into one trace as document 02 has it: record after record, with a look through all rows taken so far.
 
+use super::barriers::{self, is_held, processes};
 use super::order::{counts, first_race, Order};
 use super::reading::{entries, message_refusal, Entry};
 use super::rows::numbers;
@@ -15,9 +16,14 @@ pub struct Taken {
 /// The number of a refusal, its place, and the file whose place it is, 0 for none.
 pub type Refused = (u32, u32, u32);
 
-/// Whether a row has to wait behind these rows: it is a wait for a message that none of them has sent.
-pub fn waits(row: Row, taken: &[Row]) -> bool {
+/// Whether a row is a wait for a message that none of these rows has sent.
+pub fn lacks_send(row: Row, taken: &[Row]) -> bool {
     row.kind == WAIT && !taken.iter().any(|t| t.kind == SEND && t.message == row.message)
+}
+
+/// Whether a row has to wait behind these rows: it lacks its send, or its process stands at a barrier at which not all of these processes have arrived.
+pub fn waits(row: Row, taken: &[Row], processes: &[u32]) -> bool {
+    lacks_send(row, taken) || is_held(row, taken, processes)
 }
 
 /// The entries of one file, or the number and place of its refusal by the questions 4 to 11.
@@ -54,14 +60,14 @@ pub fn rows_of(taken: &[Taken]) -> Vec<Row> {
 /// What comes next behind the entries taken so far: the next entry of the first file, unless that file is at its end or its next row waits;
 /// then that of the second on the same condition.
 pub fn turn(files: &[Vec<Entry>; 2], taken: &[Taken]) -> Turn {
-    let rows = rows_of(taken);
+    let (rows, processes) = (rows_of(taken), processes(&files.concat().iter().map(|entry| entry.row).collect::<Vec<Row>>()));
     let mut some = false;
     for (entries, file) in files.iter().zip(1..) {
         let of_file = taken.iter().filter(|t| t.file == file).count();
         let Some(entry) = entries.get(of_file) else {
             continue;
         };
-        if !waits(entry.row, &rows) {
+        if !waits(entry.row, &rows, &processes) {
             return Turn::Take(Taken { file, entry: *entry });
         }
         some = true;
@@ -73,12 +79,15 @@ pub fn turn(files: &[Vec<Entry>; 2], taken: &[Taken]) -> Turn {
     }
 }
 
-/// The joined entries of two files, or the refusal: 6, 12 or 21 at a joined row, or 20.
+/// The joined entries of two files, or the refusal: 6, 12 or 21 at a joined row, or 20; and 22 behind the last joined row.
 fn joined(files: [Vec<Entry>; 2], row_limit: u32) -> Result<Vec<Taken>, Refused> {
     let mut taken = Vec::new();
     loop {
         let next = match turn(&files, &taken) {
-            Turn::Over => return Ok(taken),
+            Turn::Over => {
+                let wrong = barriers::wrong(&rows_of(&taken));
+                return wrong.map_or(Ok(taken), |(place, _)| Err((22, place, 0)));
+            }
             Turn::Stuck => return Err((20, 0, 0)),
             Turn::Take(next) => next,
         };
@@ -167,9 +176,10 @@ pub fn mergings(before: &[Row], first: &[Row], second: &[Row]) -> Vec<Vec<Row>> 
     if first.is_empty() && second.is_empty() {
         return vec![before.to_vec()];
     }
+    let processes = processes(&[before, first, second].concat());
     let mut all = Vec::new();
     for (from, other, first_is_from) in [(first, second, true), (second, first, false)] {
-        let Some((row, rest)) = from.split_first().filter(|(row, _)| !waits(**row, before)) else {
+        let Some((row, rest)) = from.split_first().filter(|(row, _)| !waits(**row, before, &processes)) else {
             continue;
         };
         let taken = [before, &[*row]].concat();

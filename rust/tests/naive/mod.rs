@@ -2,6 +2,7 @@
 //! the chains as they are written, and files byte by byte. It shares types with the library and no code. What the documents leave open is taken
 //! as `docs/DECISIONS.md` has it, and a replay, which they do not have, as the library's interface describes it: row by row.
 
+pub mod barriers;
 pub mod joining;
 pub mod lookup;
 pub mod machine;

@@ -1,21 +1,48 @@
 //! Happens-before, counts and races.
 
-use kiqsaryn::{Row, CLOSE, COMMIT, OPEN, READ, SEND, SYNC, WAIT, WRITE};
+use kiqsaryn::{Row, BARRIER, CLOSE, COMMIT, OPEN, READ, SEND, SYNC, WAIT, WRITE};
 
 /// Happens-before as a matrix: a bit for each pair.
+#[derive(PartialEq, Eq)]
 pub struct Order {
     before: Vec<Vec<u64>>,
 }
 
-/// A direct step of the order: rows of one process, or a send and the wait for its message.
+/// Whether both rows are of one barrier.
+fn same_barrier(a: Row, b: Row) -> bool {
+    a.kind == BARRIER && b.kind == BARRIER && a.message == b.message
+}
+
+/// A direct step of the order: rows of one process; a send and the wait for its message; or a row of a barrier and a row just behind that barrier, so
+/// that the last row before it of its own process is of the same barrier.
 fn edge(rows: &[Row], i: usize, j: usize) -> bool {
     let (a, b) = (rows[i], rows[j]);
-    i < j && (a.process == b.process || (a.kind == SEND && b.kind == WAIT && a.message == b.message))
+    let last = || rows[..j].iter().rev().find(|r| r.process == b.process);
+    let delivers = a.kind == SEND && b.kind == WAIT && a.message == b.message;
+    i < j && (a.process == b.process || delivers || (a.kind == BARRIER && last().is_some_and(|last| same_barrier(a, *last))))
+}
+
+/// The same with document 02's sentence on barriers: each row of a barrier comes before every row that follows a row of that barrier in any process.
+/// This one step may lead back, unless question 22 is answered Yes.
+fn sentence(rows: &[Row], i: usize, j: usize) -> bool {
+    let (a, b) = (rows[i], rows[j]);
+    let follows = || rows[..j].iter().any(|r| r.process == b.process && same_barrier(a, *r));
+    (i < j && (a.process == b.process || (a.kind == SEND && b.kind == WAIT && a.message == b.message))) || (a.kind == BARRIER && follows())
 }
 
 impl Order {
     /// The transitive closure of the direct steps; they lead forward alone.
     pub fn of(rows: &[Row]) -> Order {
+        Order::closed(rows, edge)
+    }
+
+    /// The order of the same rows by document 02's sentence on barriers; none where a step leads back.
+    pub fn by_sentence(rows: &[Row]) -> Option<Order> {
+        let back = (0..rows.len()).any(|j| (j..rows.len()).any(|i| sentence(rows, i, j)));
+        (!back).then(|| Order::closed(rows, sentence))
+    }
+
+    fn closed(rows: &[Row], edge: fn(&[Row], usize, usize) -> bool) -> Order {
         let words = rows.len().div_ceil(64);
         let mut before: Vec<Vec<u64>> = Vec::new();
         for j in 0..rows.len() {

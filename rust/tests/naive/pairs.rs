@@ -1,8 +1,8 @@
 //! Random rows of two files that are to be joined.
 
 use super::random::Random;
-use super::rows::some_rows;
-use kiqsaryn::{Row, RECV, SEND, WAIT};
+use super::rows::{damage_barrier, some_rows_within};
+use kiqsaryn::{Row, BARRIER, RECV, SEND, WAIT};
 
 /// The rows of two files.
 pub type Files = [Vec<Row>; 2];
@@ -72,6 +72,22 @@ fn damage_order(r: &mut Random, files: &mut Files) {
     }
 }
 
+/// Every process ends at one barrier, and mostly one of them does not arrive there.
+fn end_at_barrier(r: &mut Random, files: &mut Files) {
+    let Some((_, _, Row { message, .. })) = some_row(r, files, BARRIER) else {
+        return;
+    };
+    let is_of = |row: &Row| row.kind == BARRIER && row.message == message;
+    for file in &mut *files {
+        let before = |k: usize| !file[..k].iter().any(|row| is_of(row) && row.process == file[k].process);
+        *file = (0..file.len()).filter(|k| before(*k)).map(|k| file[k]).collect();
+    }
+    let k = r.place(2);
+    if let Some(at) = files[k].iter().rposition(is_of).filter(|_| !r.once_in(4)) {
+        files[k].remove(at);
+    }
+}
+
 /// A row put into the other file, or a process of the other file put into a row.
 fn damage_process(r: &mut Random, files: &mut Files) {
     let k = r.place(2);
@@ -90,8 +106,8 @@ fn damage_process(r: &mut Random, files: &mut Files) {
 
 /// Two files, mostly those of a trace that is accepted, of at most so many rows together where none is added, and the process limit that they keep.
 pub fn some_files(r: &mut Random, most: usize) -> (Files, u32) {
-    let (mut rows, process_limit) = some_rows(r);
-    rows.truncate(if r.once_in(40) { r.place(3) } else { most });
+    let most = if r.once_in(40) { r.place(3).min(most) } else { most };
+    let (rows, process_limit) = some_rows_within(r, most);
     let mut files = split(r, &rows);
     match r.below(16) {
         0 | 1 => damage_message(r, &mut files),
@@ -102,6 +118,11 @@ pub fn some_files(r: &mut Random, most: usize) -> (Files, u32) {
             damage_message(r, &mut files);
             damage_order(r, &mut files);
         }
+        6 => {
+            let k = r.place(2);
+            damage_barrier(r, &mut files[k]);
+        }
+        7 => end_at_barrier(r, &mut files),
         _ => {}
     }
     (files, process_limit)

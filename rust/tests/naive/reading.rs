@@ -1,7 +1,8 @@
 //! A trace's records, the questions put to them, and what the program `verdict` prints.
 
+use super::barriers;
 use super::order::{first_race, Order};
-use kiqsaryn::{Model, Row, Settings, KINDS, READ, RECV, SEND, WAIT, WRITE};
+use kiqsaryn::{Model, Row, Settings, BARRIER, KINDS, READ, RECV, SEND, WAIT, WRITE};
 
 const NAMES: [&[u8]; 6] = [b"process", b"kind", b"file", b"offset", b"length", b"message"];
 
@@ -113,7 +114,7 @@ fn row(fields: &[Vec<u8>], process_limit: u32) -> Result<Row, u32> {
     let kind = KINDS.iter().position(|word| word.as_bytes() == fields[1]).ok_or(8u32)? as u32;
     let used = match kind {
         READ | WRITE => [true, true, true, true, true, false],
-        SEND | RECV | WAIT => [true, true, false, false, false, true],
+        SEND | RECV | WAIT | BARRIER => [true, true, false, false, false, true],
         _ => [true, true, true, false, false, false],
     };
     if fields.iter().zip(used).any(|(field, used)| field.is_empty() == used) {
@@ -193,15 +194,25 @@ pub fn message_refusal(row: Row, rows: &[Row]) -> Option<u32> {
     faults(row, rows).first().map(|fault| fault.question())
 }
 
-/// All faults of the row at the place that a trace is refused for with 12 or 21.
-pub fn faults_at(text: &[u8], s: Settings, place: u32) -> Vec<Fault> {
+/// The rows of a trace up to the first that cannot be read, at most so many.
+fn rows_up_to(text: &[u8], s: Settings, most: usize) -> Vec<Row> {
     let fields = |placed: Placed| match placed.record {
         Record::Fields(fields) => Some(fields),
         _ => None,
     };
     let records = records(text, s.byte_limit).into_iter().skip(s.header as usize).map_while(fields);
-    let rows: Vec<Row> = records.map_while(|fields| row(&fields, s.process_limit).ok()).take(place as usize).collect();
+    records.map_while(|fields| row(&fields, s.process_limit).ok()).take(most).collect()
+}
+
+/// All faults of the row at the place that a trace is refused for with 12 or 21.
+pub fn faults_at(text: &[u8], s: Settings, place: u32) -> Vec<Fault> {
+    let rows = rows_up_to(text, s, place as usize);
     faults(rows[place as usize - 1], &rows[..place as usize - 1])
+}
+
+/// What is wrong with a trace that is refused with 22.
+pub fn wrongs(text: &[u8], s: Settings) -> Vec<barriers::Wrong> {
+    barriers::wrong(&rows_up_to(text, s, usize::MAX)).map_or(Vec::new(), |(_, wrong)| wrong)
 }
 
 /// A row, and where its record stands in its text: from its start to its end, which is before its line end.
@@ -253,7 +264,11 @@ pub fn check(text: &[u8], s: Settings, rows_len: usize, counts_len: usize) -> Re
         return Err((3, 0));
     }
     let entries = entries(text, s, message_refusal)?;
-    Ok(entries.into_iter().map(|entry| entry.row).collect())
+    let rows: Vec<Row> = entries.into_iter().map(|entry| entry.row).collect();
+    match barriers::wrong(&rows) {
+        Some((place, _)) => Err((22, place)),
+        None => Ok(rows),
+    }
 }
 
 /// What the program `verdict` prints.

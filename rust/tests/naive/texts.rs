@@ -1,7 +1,7 @@
 //! Random texts of rows: fields quoted here and there, and texts that are damaged.
 
 use super::random::Random;
-use kiqsaryn::{Row, KINDS, READ, RECV, SEND, WAIT, WRITE};
+use kiqsaryn::{Row, BARRIER, KINDS, READ, RECV, SEND, WAIT, WRITE};
 
 /// The contents of a record's fields.
 pub type Record = Vec<Vec<u8>>;
@@ -12,7 +12,7 @@ pub fn header() -> Record {
 
 pub fn record(row: Row) -> Record {
     let n = |used: bool, x: u32| if used { x.to_string().into_bytes() } else { Vec::new() };
-    let message = [SEND, RECV, WAIT].contains(&row.kind);
+    let message = [SEND, RECV, WAIT, BARRIER].contains(&row.kind);
     let data = row.kind == READ || row.kind == WRITE;
     vec![
         n(true, row.process),
@@ -58,7 +58,7 @@ pub fn text(r: &mut Random, records: &[Record]) -> Vec<u8> {
 
 /// A field with other content.
 fn damaged_field(r: &mut Random, field: &[u8]) -> Vec<u8> {
-    let words: [&[u8]; 29] = [
+    let words: [&[u8]; 31] = [
         b"",
         b"0",
         b"1",
@@ -86,6 +86,8 @@ fn damaged_field(r: &mut Random, field: &[u8]) -> Vec<u8> {
         b"WRITE",
         b"recv",
         b"wait",
+        b"barrier",
+        b"Barrier",
         b"a\"b",
         b"a,b\r\nc",
     ];

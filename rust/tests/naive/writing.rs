@@ -1,10 +1,11 @@
 //! Rows as the text of a trace, and the questions that their writing asks.
 
+use super::barriers;
 use super::reading::message_refusal;
 use kiqsaryn::Row;
 
 /// For each kind its word, and whether it uses the file, the range (offset and length) and the message.
-const KINDS: [(&str, bool, bool, bool); 9] = [
+const KINDS: [(&str, bool, bool, bool); 10] = [
     ("read", true, true, false),
     ("write", true, true, false),
     ("commit", true, false, false),
@@ -14,6 +15,7 @@ const KINDS: [(&str, bool, bool, bool); 9] = [
     ("send", false, false, true),
     ("recv", false, false, true),
     ("wait", false, false, true),
+    ("barrier", false, false, true),
 ];
 
 /// The fields behind process and kind: whether the row's kind uses it, its number, and the largest that it can have.
@@ -38,7 +40,7 @@ pub fn text(header: u32, rows: &[Row]) -> Vec<u8> {
     text.into_bytes()
 }
 
-/// The questions from 8 on that are answered No for a row behind these rows, in their order; none of the others is put to an unknown kind.
+/// The questions from 8 to 21 that are answered No for a row behind these rows, in their order; none of the others is put to an unknown kind.
 pub fn noes(row: Row, earlier: &[Row], process_limit: u32) -> Vec<u32> {
     let Some(fields) = fields(row) else {
         return vec![8];
@@ -76,6 +78,9 @@ pub fn write(rows: &[u32], n: u32, header: u32, process_limit: u32, out: &mut [u
         if let Some(number) = noes(*row, &rows[..k], process_limit).first() {
             return Err((*number, k as u32 + 1));
         }
+    }
+    if let Some((place, _)) = barriers::wrong(&rows) {
+        return Err((22, place));
     }
     let text = text(header, &rows);
     match out.get_mut(place..).and_then(|rest| rest.get_mut(..text.len())) {

@@ -27,6 +27,21 @@ pub fn lines(text: &str) -> impl Iterator<Item = Line<'_>> {
     (1..).zip(text.lines()).map(|(number, line)| Line { number, words: line.split(' ').collect() })
 }
 
+/// The files that hold calls of several kinds, and the lines with which these start. Each kind has its own test.
+const MIXED: [(&str, &[&str]); 2] = [("barrier.txt", &["T", "J", "W"]), ("aimed_joins.txt", &["J", "W"])];
+
+/// The lines of those calls that start so. In a file of several kinds the calls of the others are left out, and nothing else.
+pub fn calls<'a>(file: &str, text: &'a str, start: &'static str) -> impl Iterator<Item = Line<'a>> {
+    let starts = MIXED.iter().find(|(name, _)| *name == file).map_or(&[][..], |(_, starts)| starts);
+    let mut inside = true;
+    lines(text).filter(move |line| {
+        if starts.contains(&line.words[0]) {
+            inside = line.words[0] == start;
+        }
+        inside
+    })
+}
+
 impl Line<'_> {
     /// The line's kind. Fails where the line has not as many words as lines of this kind have.
     pub fn kind(&self, kinds: &[(&'static str, usize)]) -> &'static str {
