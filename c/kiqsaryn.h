@@ -4,26 +4,31 @@
  * and then how many elements it has; the pointer must not be null and must be aligned, also where the length is 0, and a slice lent for
  * writing must not overlap another one of the call. The contracts stand in crates/kiqsaryn/src/lib.rt.
  *
- * Stack: kiqsaryn_check_trace, kiqsaryn_judge, kiqsaryn_report and kiqsaryn_write take up to 140 KB of stack, for a table by message;
- * kiqsaryn_fill_counts and kiqsaryn_verdict up to 18 KB, for tables of earlier rows; kiqsaryn_join up to 150 KB, for both; every other call less
+ * Stack: kiqsaryn_check_trace, kiqsaryn_judge, kiqsaryn_report and kiqsaryn_write take up to 200 KB of stack, for tables by message and by barrier;
+ * kiqsaryn_fill_counts and kiqsaryn_verdict up to 18 KB, for tables of earlier rows; kiqsaryn_join up to 270 KB, for all; every other call less
  * than 4 KB. There is no heap and no state between calls.
  *
- * Models: 0 POSIX, 1 commit, 2 session, 3 MPI-IO. Kinds: 0 read, 1 write, 2 commit, 3 open, 4 close, 5 sync, 6 send, 7 recv, 8 wait. A recv
- * posts a receive, before or behind the send of its message, and gives no order by itself; the receive is over at its wait, and the send happens
- * before the wait. A row is six numbers: process, kind, file, offset, length, message. A piece is three: start, length, row number (0 for
- * unwritten bytes). A run is four: start, length, row number, mark (1 while unpublished).
+ * Models: 0 POSIX, 1 commit, 2 session, 3 MPI-IO. Kinds: 0 read, 1 write, 2 commit, 3 open, 4 close, 5 sync, 6 send, 7 recv, 8 wait, 9 barrier.
+ * A recv posts a receive, before or behind the send of its message, and gives no order by itself; the receive is over at its wait, and the send
+ * happens before the wait. A barrier row's message field holds the barrier's number, which has nothing to do with a message of that number; each row
+ * of a barrier happens before every row behind a row of that barrier in any process. A row is six numbers: process, kind, file, offset, length,
+ * message. A piece is three: start, length, row number (0 for unwritten bytes). A run is four: start, length, row number, mark (1 while
+ * unpublished).
  *
  * Refusals, the first question that is answered No:
  *   1 slices long enough          7 six fields                      13 lawful state
  *   2 limits                      8 a known kind                    14 row number 1 to 4,096
- *   3 header word 0 or 1          9 used fields filled, others not  15 a row of this file: no send, recv or wait
+ *   3 header word 0 or 1          9 used fields filled, others not  15 a read, write, commit, open, close, sync of this file
  *   4 record well formed         10 numbers plain and in range      16 every map fits its space
  *   5 the header's six names     11 offset + length                 17 the pieces fit the answer slice
  *   6 row and byte limit         12 sends and recvs in order        18 the text fits its slice from its place on
- * then 21 waits in order, which is asked behind 12; and of a join: 19 no process has rows in both files, 20 a next row can be taken.
+ * then 21 waits in order, which is asked behind 12, and 22 barriers in order, once every row has passed the others; and of a join: 19 no process has
+ * rows in both files, 20 a next row can be taken.
  *
  * 12: a send's message is unsent so far and not posted by this process, and a recv's is not posted so far and not sent by this process. 21: a
- * wait's message was posted earlier by this process, sent earlier, and not yet waited for.
+ * wait's message was posted earlier by this process, sent earlier, and not yet waited for. 22: no process repeats a barrier's number, none goes on
+ * from a barrier before every process that has a row in the trace has arrived there, and no barrier is unfinished at the trace's end. Its place is
+ * the first row that repeats or goes on, and without one the last row.
  */
 #ifndef KIQSARYN_H
 #define KIQSARYN_H
@@ -38,7 +43,7 @@ extern "C" {
 /* Reads a trace into `rows`, six numbers each. `header` is 1 where the first record is the header and 0 where it is row 1; no byte past
  * `byte_limit` is looked at (SIZE_MAX for none). The answer is the row count, below 2^32, or a refusal's number times 2^32 plus the record's
  * place (0 for the header, rows from 1). `rows` takes 6 * row_limit numbers and `counts` row_limit * process_limit. Refusals 1 to 3 keep both;
- * 4 to 12 and 21 fill them with 0; an accepted trace clears what lies behind its rows, and the counts. */
+ * any other fills them with 0; an accepted trace clears what lies behind its rows, and the counts. */
 uint64_t kiqsaryn_check_trace(const uint8_t *text, size_t text_len, uint32_t header, uint32_t model, uint32_t row_limit, uint32_t process_limit,
                               size_t byte_limit, uint32_t *rows, size_t rows_len, uint16_t *counts, size_t counts_len);
 
@@ -86,27 +91,28 @@ size_t kiqsaryn_report(const uint8_t *text, size_t text_len, uint8_t *out, size_
  * same rows again under the same header word and process limit. The answer is the text's length, below 2^32 (at most 41 bytes for the header
  * and 36 for each row), or a refusal's number times 2^32 plus the row's number (0 for none). The first No decides: 1 where `rows` has fewer
  * than 6 * n numbers, 2 for more than 4,096 rows or a process limit that is not 1 to 64, 3; then row by row 8, 9 for an unused field that is
- * not 0, 10, 11, 12 and 21; and 18 where `place` lies past the end of `out` or too few bytes follow it. Bytes before the place and behind the
- * text keep their values, and a refusal changes nothing. */
+ * not 0, 10, 11, 12 and 21; then 22 of all rows; and 18 where `place` lies past the end of `out` or too few bytes follow it. Bytes before the place
+ * and behind the text keep their values, and a refusal changes nothing. */
 uint64_t kiqsaryn_write(const uint32_t *rows, size_t rows_len, uint32_t n, uint32_t header, uint32_t process_limit, uint8_t *out,
                         size_t out_len, size_t place);
 
 /* Reads one file of a join by itself into `rows`, six numbers each. It asks as kiqsaryn_check_trace does, without a byte limit and without the
- * questions 12 and 21, since a message may be sent in the other file. The answer is the row count, below 2^32, or a refusal's number times 2^32
- * plus the record's place. `rows` takes 6 * row_limit numbers. Refusals 1 to 3 keep it; later ones fill it with 0; an accepted file clears what
- * lies behind its rows. */
+ * questions 12, 21 and 22, since a message may be sent in the other file and a barrier finished there. The answer is the row count, below 2^32, or a
+ * refusal's number times 2^32 plus the record's place. `rows` takes 6 * row_limit numbers. Refusals 1 to 3 keep it; later ones fill it with 0; an
+ * accepted file clears what lies behind its rows. */
 uint64_t kiqsaryn_read_file(const uint8_t *text, size_t text_len, uint32_t header, uint32_t row_limit, uint32_t process_limit, uint32_t *rows,
                             size_t rows_len);
 
 /* Joins the files of two controllers into one trace, fills its counts and judges it under the model. The next record comes from the first file,
- * unless that file is at its end or its next row is a wait whose message no joined row has sent. Then it comes from the second on the same
- * condition. The verdict is free exactly where that on every other allowed merging of the two files is.
+ * unless that file is at its end or its next row is held back: it is a wait whose message no joined row has sent, or its process has a joined row
+ * of a barrier at which not every process with a row in either file has one. Then it comes from the second on the same condition. The verdict is
+ * free exactly where that on every other allowed merging of the two files is.
  *
  * `rows` takes 6 * row_limit numbers, `counts` row_limit * process_limit, and `parts` 3 * row_limit: for each joined row the file that holds its
  * record, 1 or 2, where the record starts in that file, and where it ends, before its line end. Behind the joined rows an accepted join clears
  * all three. The first No decides: 1 to 3 (1 also of `parts`, 3 of both header words); 4 to 11 of the first file, then of the second; 19 where
- * a process has rows in both; then of each joined row 6, 12 and 21, or 20 where both next rows are such waits, or one is and the other file is at
- * its end. Refusals 1 to 3 keep the three slices; any other fills them with 0.
+ * a process has rows in both; then of each joined row 6, 12 and 21, or 20 where both next rows are held back, or one is and the other file is at its
+ * end; and 22 behind the last joined row. Refusals 1 to 3 keep the three slices; any other fills them with 0.
  *
  * The answer is four words of 16 bits. Of an accepted join, from the lowest: the row count, the later and the earlier row of the first race,
  * both 0 for free, and 0. Of a refusal: its place, the file whose place it is (0 for the place of a joined row, and for none), 0, and its

@@ -43,7 +43,7 @@ impl Model {
 }
 
 /// The kinds of rows, by their numbers.
-pub const KINDS: [&str; 9] = ["read", "write", "commit", "open", "close", "sync", "send", "recv", "wait"];
+pub const KINDS: [&str; 10] = ["read", "write", "commit", "open", "close", "sync", "send", "recv", "wait", "barrier"];
 pub const READ: u32 = 0;
 pub const WRITE: u32 = 1;
 pub const COMMIT: u32 = 2;
@@ -56,6 +56,9 @@ pub const SEND: u32 = 6;
 pub const RECV: u32 = 7;
 /// A process waits for a message for which it has posted a receive. The receive is over at its wait.
 pub const WAIT: u32 = 8;
+/// A process arrives at a barrier; the row's message field holds the barrier's number, which has nothing to do with a message of that number. Each
+/// row of a barrier happens before every row behind a row of that barrier in any process.
+pub const BARRIER: u32 = 9;
 
 /// A row of a trace. A field that its kind does not use is 0.
 #[derive(Clone, Copy, Debug, PartialEq, Eq, Default)]
@@ -105,7 +108,7 @@ pub struct Settings {
 
 /// The refusal of a number that the library answers; it answers no other.
 fn refused(number: u32) -> Refusal {
-    Refusal::from_number(number).expect("the library's refusals have a number from 1 to 21")
+    Refusal::from_number(number).expect("the library's refusals have a number from 1 to 22")
 }
 
 /// The row count, or a refusal's number times 2^32 plus its place.
@@ -121,7 +124,8 @@ fn words(answer: u64) -> [u32; 4] {
     [0, 16, 32, 48].map(|bits| (answer >> bits) as u32 & 0xffff)
 }
 
-/// Reads a trace into the lent rows, six numbers each. Refusals 1 to 3 keep both slices, 4 to 12 and 21 fill them with 0.
+/// Reads a trace into the lent rows, six numbers each. Refusals 1 to 3 keep both slices, any other fills them with 0. Question 22 is
+/// about all rows and comes last, once every record has passed the others.
 pub fn check_trace(text: &[u8], s: Settings, rows: &mut [u32], counts: &mut [u16]) -> Checked {
     // The three slices are live for the call, and the two lent for writing are borrowed by it alone.
     checked(unsafe {
@@ -244,8 +248,8 @@ pub enum Written {
 /// is quoted, fields that a kind does not use are empty, and every record ends in CR LF. `check_trace` reads the same rows again under the
 /// same header word and process limit. Bytes before the place and behind the text keep their values, and a refusal changes nothing: 1 where
 /// `rows` has fewer than six numbers a row, 2 for more than 4,096 rows or a process limit that is not 1 to 64, 3 for a header word past 1, then
-/// row by row 8 to 12 and 21 as `check_trace` asks them (9 for an unused field that is not 0), and 18 last, where the place lies past the end of
-/// `out` or too few bytes follow it.
+/// row by row 8 to 12 and 21 as `check_trace` asks them (9 for an unused field that is not 0), then 22 of all rows, and 18 last, where the place lies
+/// past the end of `out` or too few bytes follow it.
 pub fn write(rows: &[u32], n: u32, header: u32, process_limit: u32, out: &mut [u8], place: usize) -> Written {
     // Both slices are live for the call, and the one lent for writing is borrowed by it alone.
     let answer = unsafe { ffi::kiqsaryn_write(rows.as_ptr(), rows.len(), n, header, process_limit, out.as_mut_ptr(), out.len(), place) };
@@ -268,7 +272,8 @@ pub struct JoinSettings {
 }
 
 /// Reads one file of a join by itself into the lent rows, six numbers each. It asks as `check_trace` does, without a byte limit and without the
-/// questions 12 and 21, since a message may be sent in the other file. Refusals 1 to 3 keep the slice, and later ones fill it with 0.
+/// questions 12, 21 and 22, since a message may be sent in the other file and a barrier finished there. Refusals 1 to 3 keep the slice, and later
+/// ones fill it with 0.
 pub fn read_file(text: &[u8], header: u32, row_limit: u32, process_limit: u32, rows: &mut [u32]) -> Checked {
     // Both slices are live for the call, and the one lent for writing is borrowed by it alone.
     checked(unsafe { ffi::kiqsaryn_read_file(text.as_ptr(), text.len(), header, row_limit, process_limit, rows.as_mut_ptr(), rows.len()) })
@@ -306,12 +311,14 @@ pub enum Joined {
     Refused { refusal: Refusal, place: u32, file: u32 },
 }
 
-/// Joins two files into one trace, fills its counts and judges it under the model. The next record comes from the first file, unless that
-/// file is at its end or its next row is a wait whose message no joined row has sent. Then it comes from the second on the same condition.
+/// Joins two files into one trace, fills its counts and judges it under the model. The next record comes from the first file, unless that file is at
+/// its end or its next row is held back: it is a wait whose message no joined row has sent, or its process has a joined row of a barrier at which not
+/// every process with a row in either file has one. Then it comes from the second on the same condition.
+///
 /// `rows` takes the joined rows, six numbers each, `counts` their counts, and `parts` for each where its record stands, three numbers; behind
 /// them all three are cleared. The questions: 1 to 3 (1 also asks for three numbers a row in `parts`), 4 to 11 of the first file, then of the
-/// second, 19, then 6, 12 and 21 of each joined row, and 20 where no next row can be taken: each is such a wait, or one is and the other file is
-/// at its end. Refusals 1 to 3 keep the slices, and any other fills them with 0.
+/// second, 19, then 6, 12 and 21 of each joined row, 20 where no next row can be taken: each is held back, or one is and the other file is at its
+/// end, and 22 behind the last joined row. Refusals 1 to 3 keep the slices, and any other fills them with 0.
 pub fn join(first: &[u8], second: &[u8], s: JoinSettings, rows: &mut [u32], counts: &mut [u16], parts: &mut [u64]) -> Joined {
     // The five slices are live for the call, and the three lent for writing are borrowed by it alone.
     let answer = unsafe {

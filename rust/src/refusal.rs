@@ -24,10 +24,11 @@ pub enum Refusal {
     SharedProcess,
     Stuck,
     WaitOrder,
+    BarrierOrder,
 }
 
 impl Refusal {
-    pub const ALL: [Refusal; 21] = [
+    pub const ALL: [Refusal; 22] = [
         Refusal::ShortSlice,
         Refusal::Limits,
         Refusal::HeaderWord,
@@ -49,6 +50,7 @@ impl Refusal {
         Refusal::SharedProcess,
         Refusal::Stuck,
         Refusal::WaitOrder,
+        Refusal::BarrierOrder,
     ];
 
     /// The number that the documents give it, from 1.
@@ -73,7 +75,7 @@ impl Refusal {
             Refusal::Header => "Is the first record the header process,kind,file,offset,length,message?",
             Refusal::TooManyRows => "Is the row within the row limit, and its record within the byte limit?",
             Refusal::NotSixFields => "Has the record six fields?",
-            Refusal::UnknownKind => "Is the kind read, write, commit, open, close, sync, send, recv or wait?",
+            Refusal::UnknownKind => "Is the kind read, write, commit, open, close, sync, send, recv, wait or barrier?",
             Refusal::FieldsUsed => "Are the fields that the kind uses filled, and the others empty?",
             Refusal::NumberRange => "Is each number plain (digits, no leading zero) and within its range?",
             Refusal::RangeEnd => "Is offset + length at most 4,294,967,295?",
@@ -87,8 +89,13 @@ impl Refusal {
             Refusal::AnswerSpace => "Does the read's list of pieces fit the lent answer slice?",
             Refusal::TextSpace => "Does the text fit the lent slice from its place on?",
             Refusal::SharedProcess => "Does every process have its rows in one of the two files alone?",
-            Refusal::Stuck => "Can one of the next rows be taken: is it no wait, or a wait for a message that a taken row has sent?",
+            Refusal::Stuck => {
+                "Can one of the next rows be taken: if it is a wait, has a taken row sent its message, and is every barrier finished at which its process stands?"
+            },
             Refusal::WaitOrder => "Was the wait's message posted earlier by this process, sent earlier, and not yet waited for?",
+            Refusal::BarrierOrder => {
+                "Does no process arrive at a barrier twice, or go on before all have arrived, and is every barrier finished at the trace's end?"
+            }
         }
     }
 }
