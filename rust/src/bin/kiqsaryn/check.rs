@@ -5,7 +5,7 @@ use crate::input::{short_names, Join, Recorded, Trace};
 use crate::recording::Recording;
 use crate::text::{counted, describe, escape, labelled, size};
 use crate::words::words;
-use kiqsaryn::{verdict, Model, Row, Verdict, RECV, SEND, WAIT};
+use kiqsaryn::{verdict, Model, Row, Verdict, BARRIER, RECV, SEND, WAIT};
 use std::collections::{BTreeMap, BTreeSet};
 
 /// The verdicts under the models, in their order. An error is a sentence.
@@ -60,14 +60,18 @@ fn not_waited_for(recording: &Recording) -> usize {
     of(RECV).filter(|message| !waited.contains(message)).count()
 }
 
-/// How many rows each process has, each file, and the messages, and how many receives no row waits for.
+/// How many rows each process has, each file, the messages and the barriers, how many receives no row waits for, and how many barriers there are.
 fn tallies(recording: &Recording) -> String {
     let (mut processes, mut files) = (BTreeMap::new(), BTreeMap::new());
-    let mut messages = 0;
+    let (mut messages, mut arrivals, mut barriers) = (0, 0, BTreeSet::new());
     for (_, row) in recording.all() {
         *processes.entry(row.process).or_insert(0) += 1;
         match row.kind {
             SEND | RECV | WAIT => messages += 1,
+            BARRIER => {
+                arrivals += 1;
+                barriers.insert(row.message);
+            }
             _ => *files.entry(row.file).or_insert(0) += 1,
         }
     }
@@ -84,6 +88,9 @@ fn tallies(recording: &Recording) -> String {
     let posted_only = not_waited_for(recording);
     if posted_only > 0 {
         s.push_str(&format!("  recv without a wait: {}\n", counted(posted_only as u64, "row")));
+    }
+    if arrivals > 0 {
+        s.push_str(&format!("  barrier, of no file: {} ({})\n", counted(arrivals, "row"), counted(barriers.len() as u64, "barrier")));
     }
     s
 }

@@ -7,7 +7,7 @@ use crate::input::{Recorded, Trace};
 use crate::recording::Recording;
 use crate::text::{counted, describe, wrap};
 use crate::words::words;
-use kiqsaryn::{Model, Row, Verdict, KINDS, READ, RECV, SEND, WAIT, WRITE};
+use kiqsaryn::{Model, Row, Verdict, BARRIER, KINDS, READ, RECV, SEND, WAIT, WRITE};
 use std::collections::BTreeMap;
 
 /// Sizes in pixels: the margin, a row's line and its box, the gap between lanes, and the line of lane heads, which comes again behind so
@@ -20,7 +20,7 @@ const HEAD: usize = 34;
 const HEAD_EVERY: usize = 40;
 /// Bytes in a line of text above the lanes, and in the longest line of the legend.
 const TEXT: usize = 100;
-const LEGEND: usize = TEXT + 6;
+const LEGEND: usize = TEXT + 18;
 
 const STYLE: &str = "text{font-family:monospace;font-size:12px;fill:#111}
 .big{font-size:15px;font-weight:bold}
@@ -34,9 +34,11 @@ rect{stroke:#555;stroke-width:1}
 .share{fill:#d5efd8}
 .message{fill:#ececec}
 .posted{fill:#fff;stroke-dasharray:4 3}
+.barrier{fill:#e4d7f5;stroke:#5b2a9d}
 .racing{stroke:#b00020;stroke-width:3}
 .lane{stroke:#bbb;stroke-width:1}
 .arrow{stroke:#333;stroke-width:1.3;fill:none;marker-end:url(#tip)}
+.meet{stroke:#5b2a9d;stroke-width:3;fill:none}
 .note{paint-order:stroke;stroke:#fff;stroke-width:5px}
 .pair{stroke:#b00020;stroke-width:1.5;stroke-dasharray:5 4;fill:none}
 ";
@@ -118,6 +120,7 @@ fn label(trace: &Trace, messages: &Messages, number: u32, row: Row) -> String {
             n => format!("f{} {}-{}", row.file, row.offset, u64::from(row.offset) + u64::from(n) - 1),
         },
         SEND | RECV | WAIT => format!("m{}{}", row.message, messages.lack(row)),
+        BARRIER => format!("b{}", row.message),
         _ => format!("f{}", row.file),
     };
     match letter(trace, number) {
@@ -132,6 +135,7 @@ fn class(kind: u32) -> &'static str {
         WRITE => "write",
         SEND | WAIT => "message",
         RECV => "posted",
+        BARRIER => "barrier",
         _ => "share",
     }
 }
@@ -223,15 +227,26 @@ const MESSAGE: &str = "message, send to wait";
 /// What stands in a box.
 fn in_a_box(trace: &Trace) -> &'static str {
     match &trace.source {
-        Recorded::Alone(_) => "In a box: row number, kind, f file, first-last byte, m message. Rows go down in the order of the trace.",
-        Recorded::Joined(_) => "In a box: row, A or B and the row there, kind, f file, first-last byte, m message. Rows go down as joined.",
+        Recorded::Alone(_) => {
+            "In a box: row number, kind, f file, first-last byte, m message, b barrier. Rows go down in the order of the trace."
+        }
+        Recorded::Joined(_) => {
+            "In a box: row, A or B and the row there, kind, f file, first-last byte, m message, b barrier. Rows go down as joined."
+        }
     }
 }
 
 /// The legend, from a height on.
 fn legend(s: &mut String, trace: &Trace, y: usize) {
     let mut x = MARGIN;
-    let samples = [("read", "read"), ("write", "write"), ("share", "commit open close sync"), ("message", "send wait"), ("posted", "recv")];
+    let samples = [
+        ("read", "read"),
+        ("write", "write"),
+        ("share", "commit open close sync"),
+        ("message", "send wait"),
+        ("posted", "recv"),
+        ("barrier", "barrier"),
+    ];
     for (class, words) in samples {
         let width = wide(words.len()) + 12;
         s.push_str(&format!("<rect class=\"{class}\" x=\"{x}\" y=\"{y}\" width=\"{width}\" height=\"{BOX}\" rx=\"3\"/>\n"));
@@ -274,6 +289,18 @@ fn arrows(s: &mut String, shapes: &[Shape], messages: &Messages) {
         if let Some(b) = messages.waited.get(&a.row.message).and_then(|k| shape(shapes, *k)) {
             let (x, end) = if a.x < b.x { (a.right(), b.x) } else { (a.x, b.right()) };
             s.push_str(&format!("<path class=\"arrow\" d=\"M{x} {}L{end} {}\"/>\n", a.middle(), b.middle()));
+        }
+    }
+}
+
+/// The barriers, each as a line through its rows across their lanes: from box to box, from left to right. In an accepted trace every lane has one.
+fn barriers(s: &mut String, shapes: &[Shape]) {
+    let mut all: BTreeMap<u32, Vec<&Shape>> = BTreeMap::new();
+    shapes.iter().filter(|a| a.row.kind == BARRIER).for_each(|a| all.entry(a.row.message).or_default().push(a));
+    for rows in all.values_mut() {
+        rows.sort_by_key(|a| a.x);
+        for (a, b) in rows.iter().zip(rows.iter().skip(1)) {
+            s.push_str(&format!("<path class=\"meet\" d=\"M{} {}L{} {}\"/>\n", a.right(), a.middle(), b.x, b.middle()));
         }
     }
 }
@@ -361,6 +388,7 @@ pub fn svg(trace: &Trace, model: Model) -> Result<String, String> {
         let x = lane.x + lane.width / 2;
         s.push_str(&format!("<path class=\"lane\" d=\"M{x} {top}L{x} {bottom}\"/>\n"));
     }
+    barriers(&mut s, &shapes);
     arrows(&mut s, &shapes, &messages);
     if let Some(((a, b), text)) = pair {
         bracket(&mut s, trace, a, b, text);

@@ -54,10 +54,11 @@ then shown with its own trace and its number there.
 A verdict names the first race: the one with the smallest later row, then the
 smallest earlier row. There may be more behind it; check again after a repair.
 
-\"Row 2 happens before row 7\" means: both are of one process, or messages lead
-from the one to the other, each from its send to the wait for it. The place in
-the trace alone orders nothing, nor does a recv: it says where the receive was
-posted, and the message has arrived at the wait.
+\"Row 2 happens before row 7\" means: both are of one process, or messages and
+barriers lead from the one to the other: a message from its send to the wait
+for it, a barrier from each of its rows to all rows behind its rows. The place
+in the trace alone orders nothing, nor does a recv: it says where the receive
+was posted, and the message has arrived at the wait.
 
 Exit status: 0 free, 1 race, 2 refused, 3 wrong command line or file error.
 
@@ -99,10 +100,10 @@ kiqsaryn diagram FIRST SECOND --headers yes|no,yes|no [--model M]
 
 Draws the trace as an SVG picture for a browser: a lane for each process, the
 rows from top to bottom in the order of the trace, each message as an arrow
-from its send to the wait for it; a recv is a hollow box. The first race under
-the model is framed in red, with the bytes that both rows touch and what is
-missing between them. Two traces are joined first; A and B then tell the trace
-of each row.
+from its send to the wait for it, each barrier as a line through its rows,
+across the lanes; a recv is a hollow box. The first race under the model is
+framed in red, with the bytes that both rows touch and what is missing between
+them. Two traces are joined first; A and B then tell the trace of each row.
 
   --header yes|no   the first record holds the names (yes) or is row 1 (no)
   --headers A,B     the same for two traces: A for the first, B for the second
@@ -158,11 +159,12 @@ Says what was read of each, to hold against the recorders, then the verdict on
 the join under each model; each row of a race is shown with its own trace and
 its number there.
 
-The next row comes from FIRST, unless FIRST is at its end or its next row is a
-wait whose message no row taken so far has sent; then it comes from SECOND on
-the same condition. The verdict is free exactly where it is free for every
-other order that keeps the rows of each trace in order and each wait after its
-send.
+The next row comes from FIRST, unless FIRST is at its end or its next row is
+held back; then it comes from SECOND on the same condition. A row is held back
+if it is a wait whose message no row taken so far has sent, or if its process
+stands at a barrier where not all processes of both traces have arrived. The
+verdict is free exactly where it is free for every other order that keeps the
+rows of each trace in order and holds back the same way.
 
   --headers A,B        the first record holds the names (yes) or is row 1 (no):
                        A for FIRST, B for SECOND
@@ -175,8 +177,10 @@ send.
                        them if left out
 
 FIRST or SECOND, not both, can be - for standard input. Refused are also: two
-traces of which both have rows of one process (19), and two that wait for each
-other, or for a message that none sends (20). The join has at most 4096 rows.
+traces of which both have rows of one process (19), two that wait for each
+other, for a message that none sends or at a barrier where a process is missing
+(20), and a join that ends with a barrier unfinished (22). The join has at most
+4096 rows.
 
 With -o, what is said comes once all is written: on standard output, or on
 standard error where the text went to standard output. FILE is replaced as by

@@ -138,7 +138,7 @@ pub struct TraceRefused {
     pub bytes: usize,
     pub stopped: bool,
     pub record: Vec<u8>,
-    /// The rows up to the first that cannot be read, where one of them is refused for its message; else none.
+    /// The rows up to the first that cannot be read, where one of them is refused for its message or for a barrier; else none.
     pub rows: Vec<Row>,
     /// Whether the trace starts with a byte order mark.
     pub mark: bool,
@@ -165,13 +165,13 @@ struct Unasked<'a> {
     processes: u32,
 }
 
-/// Whether the refusal is about messages and their order.
-fn is_of_messages(refusal: Refusal) -> bool {
-    [Refusal::MessageOrder, Refusal::WaitOrder].contains(&refusal)
+/// Whether the refusal is about messages or barriers and their order, so that other rows tell what is wrong.
+fn is_of_order(refusal: Refusal) -> bool {
+    [Refusal::MessageOrder, Refusal::WaitOrder, Refusal::BarrierOrder].contains(&refusal)
 }
 
 impl Unasked<'_> {
-    /// The rows up to the first that cannot be read; the order of messages is not asked.
+    /// The rows up to the first that cannot be read; the order of messages and barriers is not asked.
     fn readable(&self) -> Vec<Row> {
         let header = self.input.header;
         let mut rows = vec![0; ROWS as usize * 6];
@@ -192,7 +192,7 @@ impl Unasked<'_> {
 
     fn refused(self, refusal: Refusal, place: u32) -> TraceRefused {
         let (header, limit) = (self.input.header, byte_limit(self.input.header));
-        let rows = if is_of_messages(refusal) { self.readable() } else { Vec::new() };
+        let rows = if is_of_order(refusal) { self.readable() } else { Vec::new() };
         TraceRefused {
             name: name_of(&self.input.source),
             which: self.which,

@@ -1,6 +1,7 @@
 //! The command `kiqsaryn`: reads a trace, or two that it joins, asks the proved library, and prints its answers in words.
 
 mod args;
+mod barriers;
 mod check;
 mod diagram;
 mod explain;

@@ -1,4 +1,7 @@
 //! Receives that are posted and not waited for in time, where waits for them would bring one row before another.
+//!
+//! Barriers need no look: a process goes on from a barrier only when all have arrived, so that a barrier which leads away from the earlier row leads
+//! to the later one too, or no process goes on from it before the later row.
 
 use crate::explain::Rows;
 use kiqsaryn::{RECV, SEND, WAIT};

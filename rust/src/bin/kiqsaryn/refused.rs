@@ -1,5 +1,6 @@
 //! A refused trace in words, and two traces whose join is refused.
 
+use crate::barriers::{self, is_arrival, listed};
 use crate::check::what_was_read_of_two;
 use crate::input::{row_of, short_names, JoinRefused, Refused, TraceRefused, Which};
 use crate::messages::{Around, Numbered};
@@ -50,7 +51,10 @@ fn trace_report(r: &TraceRefused) -> String {
     s.push_str(&format!("  read:        {}, header {}\n", counted(r.bytes as u64, "byte"), if r.header { "yes" } else { "no" }));
     s.push_str(&labelled("  answered No: ", r.refusal.question()));
     s.push_str(&format!("  the record:  {}\n", shown(r)));
-    s.push_str(&around(r).map_or(String::new(), |around| around.report()));
+    s.push_str(&match r.refusal {
+        Refusal::BarrierOrder => barriers_of(r).report(),
+        _ => around(r).map_or(String::new(), |around| around.report()),
+    });
     for note in notes(r) {
         s.push_str(&labelled("  note:        ", &note));
     }
@@ -73,6 +77,12 @@ fn around(r: &TraceRefused) -> Option<Around> {
     let before = r.rows.iter().zip(1..).take(at).map(numbered).collect();
     let behind = r.rows.iter().zip(1..).skip(at + 1).map(|(row, number): (&Row, u32)| (format!("row {number}"), *row)).collect();
     Some(Around { row, before, behind })
+}
+
+/// The rows of a trace that is refused for a barrier.
+fn barriers_of(r: &TraceRefused) -> barriers::Refused {
+    let numbered = |(row, number): (&Row, u32)| Numbered { number, own: String::new(), row: *row };
+    barriers::Refused { rows: r.rows.iter().zip(1..).map(numbered).collect(), place: r.place as usize }
 }
 
 /// Facts about the record that help to repair it.
@@ -120,6 +130,7 @@ fn join_report(r: &JoinRefused) -> String {
     s.push_str(&match r.refusal {
         Refusal::SharedProcess => in_both(&r.recordings),
         Refusal::Stuck => waiting(&r.recordings),
+        Refusal::BarrierOrder => joined_barriers(r),
         _ => joined_row(r),
     });
     s
@@ -156,7 +167,7 @@ fn in_both(recordings: &[Recording; 2]) -> String {
     s
 }
 
-/// 20: how many rows were taken, and of each trace the next row, a wait, and its message, or that the trace is at its end.
+/// 20: how many rows were taken, and of each trace the next row and what it waits for, or that the trace is at its end.
 fn waiting(recordings: &[Recording; 2]) -> String {
     let (turns, names) = (turns(recordings, usize::MAX), short_names(recordings));
     let [first, second] = [0, 1].map(|k| {
@@ -167,23 +178,58 @@ fn waiting(recordings: &[Recording; 2]) -> String {
     for (k, label) in [(0, "  first:       "), (1, "  second:      ")] {
         s.push_str(&match &turns.next[k] {
             None => labelled(label, &format!("{} is at its end.", names[k])),
-            Some(own) => waiting_row(recordings, label, own),
+            Some(own) => waiting_row(recordings, &turns, label, own),
         });
     }
     s
 }
 
-/// A row that waits, and where its message is sent, if anywhere.
-fn waiting_row(recordings: &[Recording; 2], label: &str, own: &Own) -> String {
-    let message = own.row.message;
+/// The first row of the two recordings that fits, and where it stands: it waits itself, or stands behind a row that does.
+fn not_taken_row(recordings: &[Recording; 2], turns: &Turns, fits: impl Fn(Row) -> bool) -> Option<(String, &'static str)> {
+    let find = |k: usize| recordings[k].all().find(|(_, r)| fits(*r)).map(|(number, _)| (k, number));
+    find(0).or(find(1)).map(|(k, number)| {
+        let waits = turns.next[k].is_some_and(|next| next.number == number);
+        (row_of(recordings, k, number), if waits { "itself a row that waits" } else { "behind a row that waits" })
+    })
+}
+
+/// A row that waits, and for what: where its message is sent, if anywhere, and who has not arrived at the barrier where its process stands.
+fn waiting_row(recordings: &[Recording; 2], turns: &Turns, label: &str, own: &Own) -> String {
+    let Row { process, message, .. } = own.row;
     let mut s = labelled(label, &own_record(recordings, own));
-    let sends = |k: usize| recordings[k].all().find(|(_, r)| r.kind == SEND && r.message == message).map(|(number, _)| (k, number));
-    let sent = match sends(0).or(sends(1)) {
-        None => "no row of the two traces sends".to_string(),
-        Some((k, number)) => format!("{} sends, behind a row that waits", row_of(recordings, k, number)),
-    };
-    s.push_str(&labelled(&" ".repeat(label.len()), &format!("It waits for message {message}, which {sent}.")));
+    let mut say = |sentence: String| s.push_str(&labelled(&" ".repeat(label.len()), &sentence));
+    if turns.lacks_send(own.row) {
+        let sent = match not_taken_row(recordings, turns, |r| r.kind == SEND && r.message == message) {
+            None => "no row of the two traces sends".to_string(),
+            Some((name, place)) => format!("{name} sends, {place}"),
+        };
+        say(format!("It waits for message {message}, which {sent}."));
+    }
+    if let Some((barrier, missing)) = turns.held(own.row) {
+        let missing = listed(&missing, |p| match not_taken_row(recordings, turns, |r| is_arrival(r, p, barrier)) {
+            None => "no row of the two traces".to_string(),
+            Some((name, place)) => format!("{name}, {place}"),
+        });
+        let since = turns.taken.iter().rev().find(|o| o.row.process == process);
+        let since = since.map_or(String::new(), |o| format!(" ({})", row_of(recordings, o.recording, o.number)));
+        say(format!("Process {process} stands at barrier {barrier}{since}. Not arrived: {missing}."));
+    }
     s
+}
+
+/// 22: the record, where it comes from, and what is wrong with the barriers of the join.
+fn joined_barriers(r: &JoinRefused) -> String {
+    let (turns, place) = (turns(&r.recordings, usize::MAX), r.place as usize);
+    let Some(at) = place.checked_sub(1).and_then(|at| turns.taken.get(at)) else {
+        return String::new();
+    };
+    let rows = turns.taken.iter().zip(1..).map(|(own, number)| numbered(&r.recordings, own, number)).collect();
+    labelled("  the record:  ", &own_record(&r.recordings, at)) + &barriers::Refused { rows, place }.report()
+}
+
+/// A joined row with its number in the join and its own name behind it.
+fn numbered(recordings: &[Recording; 2], own: &Own, number: u32) -> Numbered {
+    Numbered { number, own: format!(" ({})", row_of(recordings, own.recording, own.number)), row: own.row }
 }
 
 /// 6, 12 and 21: the record, where it comes from, and the rows before it with its message.
@@ -199,10 +245,8 @@ fn joined_row(r: &JoinRefused) -> String {
         s.push_str(&labelled("  note:        ", &format!("a trace has at most {ROWS} rows, and so has a join. {first}, {second}.")));
         return s;
     }
-    let name = |own: &Own| row_of(&r.recordings, own.recording, own.number);
-    let numbered = |(own, number): (&Own, u32)| Numbered { number, own: format!(" ({})", name(own)), row: own.row };
-    let before = before.iter().zip(1..).map(numbered).collect();
-    let behind = not_taken(&r.recordings, &turns).map(|own| (name(&own), own.row)).collect();
+    let before = before.iter().zip(1..).map(|(own, number)| numbered(&r.recordings, own, number)).collect();
+    let behind = not_taken(&r.recordings, &turns).map(|own| (row_of(&r.recordings, own.recording, own.number), own.row)).collect();
     s + &Around { row: last.row, before, behind }.report()
 }
 

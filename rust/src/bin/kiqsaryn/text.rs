@@ -1,6 +1,6 @@
 //! Rows and bytes in words.
 
-use kiqsaryn::{Refusal, Row, CLOSE, COMMIT, OPEN, READ, RECV, SEND, SYNC, WAIT, WRITE};
+use kiqsaryn::{Refusal, Row, BARRIER, CLOSE, COMMIT, OPEN, READ, RECV, SEND, SYNC, WAIT, WRITE};
 use std::path::Path;
 
 /// Lines of a report are no wider, save for records shown as they stand.
@@ -52,6 +52,7 @@ pub fn describe(row: Row) -> String {
         SEND => format!("process {p} sends message {}", row.message),
         RECV => format!("process {p} posts a receive for message {}", row.message),
         WAIT => format!("process {p} waits for message {}", row.message),
+        BARRIER => format!("process {p} arrives at barrier {}", row.message),
         _ => format!("process {p}"),
     }
 }

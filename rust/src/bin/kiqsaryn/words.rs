@@ -2,7 +2,7 @@
 
 use crate::explain::{publishing, refreshing, Claim, Explanation, Rows};
 use crate::posted::Posted;
-use kiqsaryn::{Model, Row, KINDS, READ, SEND};
+use kiqsaryn::{Model, Row, BARRIER, KINDS, READ, SEND};
 
 /// The bytes that both rows touch, and the sentences of an explanation, each behind its label: what the pair would need to be in order,
 /// what is found of it, what is missing, which receives are posted and not waited for in time, and how far the order reaches.
@@ -58,7 +58,7 @@ fn not_before(from: u32, to: u32, rows: &Rows, name: &mut Naming) -> Option<Stri
         return Some(format!("{no}: it stands behind it in the trace."));
     }
     let (p, q) = (rows.row(from)?.process, rows.row(to)?.process);
-    let path = format!("no message that process {p} sends after {} reaches a wait of process {q} before {}", name(from), name(to));
+    let path = format!("no message or barrier leads from process {p} after {} to process {q} before {}", name(from), name(to));
     Some(format!("{no}: {path}, directly or through other processes."))
 }
 
@@ -99,7 +99,11 @@ fn sentence(claim: &Claim, e: &Explanation, rows: &Rows, name: &mut Naming) -> O
         Claim::LastBefore { process, row, last: None } => ("Order", format!("no row of process {process} happens before {}.", name(row))),
         Claim::LastBefore { process, row, last: Some(last) } => {
             let r = rows.row(last)?;
-            let what = if r.kind == SEND { format!("send of message {}", r.message) } else { kind_name(r).to_string() };
+            let what = match r.kind {
+                SEND => format!("send of message {}", r.message),
+                BARRIER => format!("arrival at barrier {}", r.message),
+                _ => kind_name(r).to_string(),
+            };
             let (row, last) = (name(row), name(last));
             ("Order", format!("the last row of process {process} that happens before {row} is {last} ({what})."))
         }
