@@ -4,6 +4,8 @@
 //!     rt staticlib kiqsaryn
 //!     cd rust/csv-core && cargo run --release --offline
 
+#[path = "../../src/bin/bench/barriers.rs"]
+mod barriers;
 #[path = "../../src/bin/bench/harness.rs"]
 mod harness;
 #[allow(dead_code)]

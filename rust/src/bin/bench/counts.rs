@@ -2,15 +2,15 @@
 
 use crate::harness::{timed, Case, Timed, SIZES};
 use crate::reading::{text, PROCESSES};
-use kiqsaryn::{check_trace, fill_counts, Checked, Settings, SEND, WAIT};
+use kiqsaryn::{check_trace, fill_counts, Checked, Settings, BARRIER, SEND, WAIT};
 use std::hint::black_box;
 
-/// Fills the counts of the first n rows. Two tables find earlier rows: the last row of each process, and the last send of each message with
-/// a chain of the sends before it.
+/// Fills the counts of the first n rows. Tables find earlier rows: the last row of each process, the last send of each message with a chain of the
+/// sends before it, and the last row of each barrier likewise.
 #[inline(never)]
 pub fn plain(rows: &[u32], n: usize, processes: usize, counts: &mut [u16]) {
     let mut last = [0usize; PROCESSES];
-    let mut sent = vec![0u16; 65_536];
+    let (mut sent, mut arrived) = (vec![0u16; 65_536], vec![0u16; 65_536]);
     let mut earlier = vec![0u16; n];
     counts.fill(0);
     for j in 0..n {
@@ -23,22 +23,30 @@ pub fn plain(rows: &[u32], n: usize, processes: usize, counts: &mut [u16]) {
                 *a = (*a).max(*b);
             }
         };
-        if last[process] > 0 {
-            join(last[process] - 1);
+        if let Some(k) = last[process].checked_sub(1) {
+            join(k);
+            if rows[k * 6 + 1] == BARRIER {
+                join_all(&mut join, arrived[rows[k * 6 + 5] as usize], &earlier);
+            }
         }
         if row[1] == WAIT {
-            let mut next = sent[message];
-            while next > 0 {
-                join(next as usize - 1);
-                next = earlier[next as usize - 1];
-            }
+            join_all(&mut join, sent[message], &earlier);
         }
         own[process] += 1;
         last[process] = j + 1;
-        if row[1] == SEND {
-            earlier[j] = sent[message];
-            sent[message] = j as u16 + 1;
+        if row[1] == SEND || row[1] == BARRIER {
+            let chain = if row[1] == SEND { &mut sent[message] } else { &mut arrived[message] };
+            earlier[j] = std::mem::replace(chain, j as u16 + 1);
         }
+    }
+}
+
+/// Joins every row of a chain, from its last on.
+fn join_all(join: &mut impl FnMut(usize), last: u16, earlier: &[u16]) {
+    let mut next = last;
+    while next > 0 {
+        join(next as usize - 1);
+        next = earlier[next as usize - 1];
     }
 }
 
@@ -70,7 +78,7 @@ fn case(shape: &'static str, n: usize) -> Timed {
 
 pub fn cases() -> Vec<Case> {
     let mut all = Vec::new();
-    for shape in ["data rows", "messages", "mixed"] {
+    for shape in ["data rows", "messages", "mixed", "barriers", "barriers alone"] {
         all.extend(SIZES.map(|rows| Case { name: shape.to_string(), rows, make: Box::new(move || case(shape, rows)) }));
     }
     all

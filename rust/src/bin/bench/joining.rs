@@ -1,7 +1,8 @@
 //! Joining two files of half the rows each and judging the join under commit, next to plain Rust with the same steps: every record is read once for
-//! the questions and once to be taken, and a table by message tells which waits can be taken. Of messages alone there is nothing to judge, and the
-//! time is that of reading, joining and counts. Then one file by itself.
+//! the questions and once to be taken, and tables by message and by barrier tell which rows can be taken. Of messages alone there is nothing to judge,
+//! and the time is that of reading, joining and counts. Then one file by itself.
 
+use crate::barriers::{self, Barriers};
 use crate::harness::{timed, Case, Timed, SIZES};
 use crate::messages::{ask, is_sent, Unasked, MESSAGES};
 use crate::reading::{plain_file, read_rows, record, row, text, Field, PROCESSES};
@@ -38,26 +39,41 @@ fn next_at(text: &[u8], start: usize, s: Settings) -> Option<Next> {
 /// Where the rows of a file start, and a bit for each process that has some; or the number and the place of its refusal.
 fn asked(text: &[u8], s: Settings, rows: &mut [u32]) -> Result<(usize, u64), (u32, usize)> {
     let n = read_rows(text, s, rows, &mut Unasked)?;
-    let processes = rows[..6 * n].chunks_exact(6).fold(0, |bits, row| bits | 1u64 << row[0]);
+    let processes = barriers::processes(&rows[..6 * n]);
     let start = if s.header == 1 { record(text, false, 0, &mut [Field::default(); 6]).map_err(|number| (number, 0))?.1 } else { 0 };
     Ok((start, processes))
 }
 
-/// Joins the records of both files from these places on: how many there are, or the number and the place of the refusal.
-fn join_records(texts: [&[u8]; 2], starts: [usize; 2], s: Settings, rows: &mut [u32], parts: &mut [u64]) -> Result<usize, (u32, usize)> {
+/// Where both files' rows start, and a bit for each process that has some.
+struct Files {
+    starts: [usize; 2],
+    processes: u64,
+}
+
+/// Joins the records of both files: how many there are, or the number and the place of the refusal.
+fn join_records(texts: [&[u8]; 2], files: Files, s: Settings, rows: &mut [u32], parts: &mut [u64]) -> Result<usize, (u32, usize)> {
+    let Files { starts, processes } = files;
     let mut marks = [0; MESSAGES];
+    let (mut barriers, mut repeated) = (Barriers::new(processes), None);
     let mut next = [0, 1].map(|k| next_at(texts[k], starts[k], s));
     let mut n = 0;
     loop {
-        let ready = |k: &usize| next[*k].is_some_and(|next| next.row[1] != WAIT || is_sent(marks[next.row[5] as usize]));
+        let is_ready = |row: [u32; 6]| (row[1] != WAIT || is_sent(marks[row[5] as usize])) && !barriers.holds(row[0]);
+        let ready = |k: &usize| next[*k].is_some_and(|next| is_ready(next.row));
         let Some((k, Next { row, start, end, behind })) = [0, 1].into_iter().find(ready).and_then(|k| Some((k, next[k]?))) else {
-            return if next.iter().all(Option::is_none) { Ok(n) } else { Err((20, 0)) };
+            if next.iter().any(Option::is_some) {
+                return Err((20, 0));
+            }
+            return repeated.or(barriers.is_unfinished().then_some(n)).map_or(Ok(n), |place| Err((22, place)));
         };
         if n >= s.row_limit as usize {
             return Err((6, n + 1));
         }
         if matches!(row[1], SEND | RECV | WAIT) {
             ask(&row, &mut marks).map_err(|number| (number, n + 1))?;
+        }
+        if barriers.note(&row) {
+            repeated = repeated.or(Some(n + 1));
         }
         rows[6 * n..6 * n + 6].copy_from_slice(&row);
         parts[3 * n..3 * n + 3].copy_from_slice(&[k as u64 + 1, start as u64, end as u64]);
@@ -88,7 +104,8 @@ fn joined(texts: [&[u8]; 2], headers: [u32; 2], s: Settings, rows: &mut [u32], p
     if first.1 & second.1 != 0 {
         return Err((19, 0, 0));
     }
-    join_records(texts, [first.0, second.0], s, rows, parts).map_err(|(number, place)| (number, place, 0))
+    let files = Files { starts: [first.0, second.0], processes: first.1 | second.1 };
+    join_records(texts, files, s, rows, parts).map_err(|(number, place)| (number, place, 0))
 }
 
 /// The joined rows' number and the first race; or the number, the place and the file of the refusal.
@@ -156,7 +173,7 @@ fn files(shape: &str, rows: usize) -> [Vec<u8>; 2] {
         "to and fro" => (0..rows).map(to_and_fro).collect(),
         "messages alone" => (0..rows).map(messages_alone).collect(),
         "no messages" => (0..rows).map(alone).collect(),
-        _ => String::from_utf8(text("mixed", rows)).expect("plain text").lines().skip(1).map(|line| format!("{line}\r\n")).collect(),
+        _ => String::from_utf8(text(shape, rows)).expect("plain text").lines().skip(1).map(|line| format!("{line}\r\n")).collect(),
     };
     let of = |parity: usize| {
         let mine = |line: &&String| line.split(',').next().and_then(|p| p.parse::<usize>().ok()).is_some_and(|p| p % 2 == parity);
@@ -214,7 +231,7 @@ fn one_file(n: usize) -> Timed {
 
 pub fn cases() -> Vec<Case> {
     let mut all = Vec::new();
-    for shape in ["messages alone", "to and fro", "no messages", "mixed"] {
+    for shape in ["messages alone", "to and fro", "no messages", "mixed", "barriers"] {
         all.extend(SIZES.map(|rows| Case { name: format!("two files, {shape}"), rows, make: Box::new(move || whole(shape, rows)) }));
     }
     all.extend(SIZES.map(|rows| Case { name: "one file, mixed".to_string(), rows, make: Box::new(move || one_file(rows)) }));

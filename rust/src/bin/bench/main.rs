@@ -6,6 +6,7 @@
 #[path = "../../../tests/naive/mod.rs"]
 mod naive;
 
+mod barriers;
 mod counts;
 mod harness;
 mod joining;

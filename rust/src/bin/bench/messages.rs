@@ -1,5 +1,6 @@
 //! Questions 12 and 21 in plain Rust: by a table with a byte for each message, as the library has one with 16 bits, or by a scan of the rows before.
 
+use crate::barriers;
 use kiqsaryn::{RECV, SEND, WAIT};
 
 /// How many messages there can be.
@@ -33,10 +34,13 @@ pub fn is_sent(mark: u8) -> bool {
     mark & SENT != 0 || mark == OVER
 }
 
-/// How a reader asks about messages.
+/// How a reader asks about messages and barriers.
 pub trait Messages {
     /// Asks a send, recv or wait behind these rows, and notes it.
     fn ask(&mut self, row: &[u32; 6], rows: &[u32]) -> Result<(), u32>;
+
+    /// The place that question 22 names in all rows.
+    fn barriers(&self, rows: &[u32]) -> Option<usize>;
 }
 
 /// By the table, which is made at the first message.
@@ -47,6 +51,10 @@ impl Messages for Table {
         self.0.resize(MESSAGES, 0);
         let table = self.0.first_chunk_mut().expect("a byte for each message");
         ask(row, table)
+    }
+
+    fn barriers(&self, rows: &[u32]) -> Option<usize> {
+        barriers::place(rows)
     }
 }
 
@@ -65,6 +73,10 @@ impl Messages for Scan {
             _ => Ok(()),
         }
     }
+
+    fn barriers(&self, rows: &[u32]) -> Option<usize> {
+        barriers::place_by_scans(rows)
+    }
 }
 
 /// Not at all: a file of a join by itself.
@@ -73,5 +85,9 @@ pub struct Unasked;
 impl Messages for Unasked {
     fn ask(&mut self, _: &[u32; 6], _: &[u32]) -> Result<(), u32> {
         Ok(())
+    }
+
+    fn barriers(&self, _: &[u32]) -> Option<usize> {
+        None
     }
 }

@@ -2,7 +2,7 @@
 
 use crate::harness::{timed, Case, Timed, SIZES};
 use crate::messages::{Messages, Scan, Table, Unasked, MESSAGES};
-use kiqsaryn::{check_trace, Checked, Settings, CLOSE, COMMIT, KINDS, OPEN, READ, RECV, SEND, SYNC, WAIT, WRITE};
+use kiqsaryn::{check_trace, Checked, Settings, BARRIER, CLOSE, COMMIT, KINDS, OPEN, READ, RECV, SEND, SYNC, WAIT, WRITE};
 use std::hint::black_box;
 
 // ---- The plain version
@@ -100,6 +100,7 @@ fn kind(word: Field) -> Result<u32, u32> {
         b"send" => Ok(SEND),
         b"recv" => Ok(RECV),
         b"wait" => Ok(WAIT),
+        b"barrier" => Ok(BARRIER),
         _ => Err(8),
     }
 }
@@ -119,13 +120,15 @@ pub fn row(f: &[Field; 6], s: Settings, rows: &[u32], messages: &mut impl Messag
             row[4] = number(f[4], u32::MAX)?;
             row[3].checked_add(row[4]).ok_or(11u32)?;
         }
-        SEND | RECV | WAIT => {
+        SEND | RECV | WAIT | BARRIER => {
             if !filled(0) || filled(2) || filled(3) || filled(4) || !filled(5) {
                 return Err(9);
             }
             row[0] = number(f[0], s.process_limit - 1)?;
             row[5] = number(f[5], 65_535)?;
-            messages.ask(&row, rows)?;
+            if kind != BARRIER {
+                messages.ask(&row, rows)?;
+            }
         }
         _ => {
             if !filled(0) || !filled(2) || filled(3) || filled(4) || filled(5) {
@@ -167,7 +170,7 @@ pub fn read_rows(text: &[u8], s: Settings, rows: &mut [u32], messages: &mut impl
         n += 1;
         i = behind;
     }
-    Ok(n)
+    messages.barriers(&rows[..6 * n]).map_or(Ok(n), |place| Err((22, place)))
 }
 
 #[inline(never)]
@@ -230,12 +233,12 @@ impl Random {
     }
 }
 
-/// The line of a send, recv or wait.
+/// The line of a send, recv, wait or barrier.
 fn talk(process: usize, kind: u32, message: usize) -> String {
     line(process, kind, [None, None, None, Some(message)], false)
 }
 
-/// Rows of random kinds and processes. A wait is for any message that is posted, by the process that has posted it, and where there is none the row
+/// Rows of random kinds, save barriers, and of random processes. A wait is for any message that is posted, by the process that has posted it, and where there is none the row
 /// posts. A recv posts a receive for a message that another process has sent, and where there is none the row sends.
 fn mixed(rows: usize) -> String {
     let mut random = Random(1);
@@ -243,7 +246,7 @@ fn mixed(rows: usize) -> String {
     let mut messages: Vec<usize> = (0..MESSAGES).collect();
     let mut text = String::new();
     for _ in 0..rows {
-        let (p, kind, file) = (random.below(PROCESSES), random.below(KINDS.len()) as u32, Some(random.below(64)));
+        let (p, kind, file) = (random.below(PROCESSES), random.below(BARRIER as usize) as u32, Some(random.below(64)));
         let due = random.below(sent.len().max(1));
         text += &match kind {
             READ | WRITE => line(p, kind, [file, Some(random.below(1 << 31)), Some(random.below(1 << 20)), None], false),
@@ -296,11 +299,34 @@ fn data_row(i: usize, quoted: bool) -> String {
     }
 }
 
+/// How many processes write, commit, meet at a barrier and read, in turn.
+const MEETING: usize = 16;
+
+/// Row i of a trace whose processes meet: all write, all commit, all arrive at a barrier, and all read what another has written.
+fn meeting_row(i: usize) -> String {
+    let (turn, p) = (i / (4 * MEETING), i % MEETING);
+    let clip = |owner: usize| [Some(1), Some(100 * owner), Some(90), None];
+    match i / MEETING % 4 {
+        0 => line(p, WRITE, clip(p), false),
+        1 => line(p, COMMIT, [Some(1), None, None, None], false),
+        2 => talk((p + turn) % MEETING, BARRIER, turn),
+        _ => line(p, READ, clip((p + 1) % MEETING), false),
+    }
+}
+
+/// Row i of a trace whose processes do nothing but arrive at barriers, all at one and then all at the next.
+fn arrival_row(i: usize) -> String {
+    let turn = i / PROCESSES;
+    talk((i + turn) % PROCESSES, BARRIER, turn)
+}
+
 /// A trace of a shape, with its header.
 pub fn text(shape: &str, rows: usize) -> Vec<u8> {
     let rows: String = match shape {
         "mixed" => mixed(rows),
         "messages" => (0..rows).map(message_row).collect(),
+        "barriers" => (0..rows).map(meeting_row).collect(),
+        "barriers alone" => (0..rows).map(arrival_row).collect(),
         _ => (0..rows).map(|i| data_row(i, shape == "quoted fields")).collect(),
     };
     format!("process,kind,file,offset,length,message\r\n{rows}").into_bytes()
@@ -320,7 +346,7 @@ fn case(shape: &'static str, n: usize) -> Timed {
                 Box::new(move || timed(|| plain(black_box(&table), s, &mut table_rows, &mut table_counts, &mut Table(Vec::new())))),
             ),
             (
-                "one pass, messages scanned",
+                "one pass, messages and barriers scanned",
                 Box::new(move || timed(|| plain(black_box(&scan), s, &mut scan_rows, &mut scan_counts, &mut Scan))),
             ),
         ],
@@ -338,7 +364,7 @@ fn case(shape: &'static str, n: usize) -> Timed {
 
 pub fn cases() -> Vec<Case> {
     let mut all = Vec::new();
-    for shape in ["data rows", "quoted fields", "messages", "mixed"] {
+    for shape in ["data rows", "quoted fields", "messages", "mixed", "barriers", "barriers alone"] {
         all.extend(SIZES.map(|rows| Case { name: shape.to_string(), rows, make: Box::new(move || case(shape, rows)) }));
     }
     all

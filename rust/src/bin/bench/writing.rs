@@ -1,10 +1,11 @@
 //! Writing rows as text, next to plain Rust that asks the same questions in one pass and writes in a second.
 
+use crate::barriers;
 use crate::counts::rows;
 use crate::harness::{timed, Case, Timed, SIZES};
 use crate::messages::{self, MESSAGES};
 use crate::reading::PROCESSES;
-use kiqsaryn::{write, Written, HEADER_LINE, KINDS, LONGEST_LINE, READ, RECV, SEND, WAIT, WRITE};
+use kiqsaryn::{write, Written, BARRIER, HEADER_LINE, KINDS, LONGEST_LINE, READ, RECV, SEND, WAIT, WRITE};
 use std::hint::black_box;
 
 // ---- The plain version
@@ -41,14 +42,16 @@ fn ask(row: &[u32], process_limit: u32, marks: &mut [u8; MESSAGES]) -> Result<us
             row[3].checked_add(row[4]).ok_or(11u32)?;
             digits(row[2]) + digits(row[3]) + digits(row[4])
         }
-        SEND | RECV | WAIT => {
+        SEND | RECV | WAIT | BARRIER => {
             if row[2] | row[3] | row[4] != 0 {
                 return Err(9);
             }
             if row[0] >= process_limit || row[5] > 65_535 {
                 return Err(10);
             }
-            messages::ask(row, marks)?;
+            if row[1] != BARRIER {
+                messages::ask(row, marks)?;
+            }
             digits(row[5])
         }
         _ => {
@@ -107,7 +110,7 @@ impl Text<'_> {
                 }
                 self.put(b",\r\n");
             }
-            SEND | RECV | WAIT => {
+            SEND | RECV | WAIT | BARRIER => {
                 self.put(b",,,,");
                 self.put_number(row[5]);
                 self.put(b"\r\n");
@@ -138,6 +141,9 @@ fn plain(rows: &[u32], n: u32, header: u32, process_limit: u32, out: &mut [u8], 
     let mut length = if header == 1 { HEADER_LINE } else { 0 };
     for (k, row) in rows.chunks_exact(6).enumerate() {
         length += ask(row, process_limit, &mut marks).map_err(|number| (number, k + 1))?;
+    }
+    if let Some(place) = barriers::place(rows) {
+        return Err((22, place));
     }
     let out = out.get_mut(place..).and_then(|rest| rest.get_mut(..length)).ok_or((18, 0))?;
     let mut text = Text { out, at: 0 };
@@ -191,6 +197,7 @@ pub fn cases() -> Vec<Case> {
         ("messages", "messages", Room::Any),
         ("mixed", "mixed", Room::Any),
         ("mixed, exact room", "mixed", Room::Exact),
+        ("barriers", "barriers", Room::Any),
     ] {
         all.extend(SIZES.map(|rows| Case { name: name.to_string(), rows, make: Box::new(move || case(shape, rows, room)) }));
     }
