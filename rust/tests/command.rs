@@ -4,7 +4,7 @@
 #![allow(dead_code)]
 
 use kiqsaryn::{check_trace, fill_counts, report, verdict, Checked, Model, Row, Settings, Verdict};
-use kiqsaryn::{CLOSE, COMMIT, OPEN, READ, RECV, SEND, SYNC, WAIT, WRITE};
+use kiqsaryn::{BARRIER, CLOSE, COMMIT, OPEN, READ, RECV, SEND, SYNC, WAIT, WRITE};
 use std::io::Write;
 use std::path::PathBuf;
 use std::process::{Command, Stdio};
@@ -31,7 +31,7 @@ mod words;
 
 use explain::{explain, Claim, Explanation, Rows};
 use posted::Posted;
-use running::picture::{nothing_overlaps, row_boxes, well_formed};
+use running::picture::{nothing_overlaps, row_boxes, well_formed, RowBox};
 use running::{err, example_traces, examples, feed, out, run, status, words_of, EXE};
 
 const NAMES: &str = "process,kind,file,offset,length,message\r\n";
@@ -77,10 +77,12 @@ fn replay_prints_what_stands_beside_the_examples() {
 }
 
 #[test]
-fn diagram_draws_what_stands_beside_the_example() {
-    let o = run(&["diagram", "commit_missing.csv", "--header", "yes"], b"");
-    let want = std::fs::read_to_string(examples().join("commit_missing.svg")).expect("the picture beside it");
-    assert_eq!((out(&o), status(&o)), (want, 0));
+fn diagram_draws_what_stands_beside_the_examples() {
+    for name in ["commit_missing", "barrier_commit_too_late"] {
+        let o = run(&["diagram", &format!("{name}.csv"), "--header", "yes"], b"");
+        let want = std::fs::read_to_string(examples().join(format!("{name}.svg"))).expect("the picture beside it");
+        assert_eq!((out(&o), status(&o)), (want, 0), "{name}");
+    }
 }
 
 // ---- The command line
@@ -212,6 +214,11 @@ fn refusals_name_number_place_question_and_record() {
         ("no", b"0,write,1,4294967295,1,", &["number 11, at row 1", "Is offset + length at most 4,294,967,295?"]),
         ("no", b"0,send,,,,1\r\n0,recv,,,,1\r\n", &["number 12, at row 2", "0,recv,,,,1\n"]),
         ("no", b"0,send,,,,1\r\n1,wait,,,,1\r\n", &["number 21, at row 2", "Was the wait's message posted earlier", "1,wait,,,,1\n"]),
+        (
+            "no",
+            b"0,barrier,,,,1\r\n0,barrier,,,,1",
+            &["number 22, at row 2", "Does no process arrive at a barrier twice", "0,barrier,,,,1\n"],
+        ),
     ];
     for (header, input, parts) in cases {
         for command in [&["check"][..], &["replay", "--file", "1", "--model", "commit"], &["diagram"], &["write"]] {
@@ -270,6 +277,7 @@ fn no_acceptable_record_is_longer() {
         ("", ["63", "close", "63", "", "", ""]),
         ("", ["63", "send", "", "", "", "65535"]),
         ("", ["63", "recv", "", "", "", "65535"]),
+        ("", ["63", "barrier", "", "", "", "65535"]),
         ("0,send,,,,65535\r\n63,recv,,,,65535\r\n", ["63", "wait", "", "", "", "65535"]),
     ] {
         let record = quoted(fields);
@@ -425,7 +433,36 @@ fn hand_over(dice: &mut Dice, messages: &mut Messages, processes: u64, file: u32
     rows
 }
 
-/// Rows that pass every question: messages go once, from one process to another.
+/// Puts a row of a barrier for each process before a place, behind the last row of its process and behind the barriers before.
+fn put_barrier(dice: &mut Dice, rows: &mut Vec<Row>, place: usize, number: u32) {
+    let mut processes: Vec<u32> = rows.iter().map(|r| r.process).collect();
+    processes.sort();
+    processes.dedup();
+    let mut end = place;
+    while !processes.is_empty() {
+        let process = processes.swap_remove(dice.below(processes.len() as u64) as usize);
+        let behind = |r: &Row| r.process == process || (r.kind == BARRIER && r.message != number);
+        let least = rows[..end].iter().rposition(behind).map_or(0, |k| k + 1);
+        let at = least + dice.below((end - least + 1) as u64) as usize;
+        rows.insert(at, Row { process, kind: BARRIER, message: number, ..Row::default() });
+        end += 1;
+    }
+}
+
+/// The most barriers of random rows.
+const BARRIERS: u32 = 3;
+
+/// Now and then a few barriers, the last one first, each before those that are there.
+fn put_barriers(dice: &mut Dice, rows: &mut Vec<Row>) {
+    let n = if dice.below(2) == 0 { 0 } else { dice.below(u64::from(BARRIERS) + 1) };
+    for number in 0..n {
+        let first = rows.iter().position(|r| r.kind == BARRIER).unwrap_or(rows.len());
+        let place = dice.below(first as u64 + 1) as usize;
+        put_barrier(dice, rows, place, number);
+    }
+}
+
+/// Rows that pass every question: messages go once, from one process to another, and barriers are put in at the end.
 fn random_rows(dice: &mut Dice, most: u64, processes: u64) -> Vec<Row> {
     let mut rows: Vec<Row> = Vec::new();
     let mut messages = Messages::default();
@@ -440,6 +477,7 @@ fn random_rows(dice: &mut Dice, most: u64, processes: u64) -> Vec<Row> {
         }
     }
     rows.truncate(n);
+    put_barriers(dice, &mut rows);
     rows
 }
 
@@ -449,7 +487,7 @@ fn csv_of(rows: &[Row]) -> String {
         let kind = kiqsaryn::KINDS[r.kind as usize];
         s.push_str(&match r.kind {
             READ | WRITE => format!("{},{kind},{},{},{},\r\n", r.process, r.file, r.offset, r.length),
-            SEND | RECV | WAIT => format!("{},{kind},,,,{}\r\n", r.process, r.message),
+            SEND | RECV | WAIT | BARRIER => format!("{},{kind},,,,{}\r\n", r.process, r.message),
             _ => format!("{},{kind},{},,,\r\n", r.process, r.file),
         });
     }
@@ -534,14 +572,17 @@ fn csv_is_what_the_program_verdict_prints() {
 
 // ---- Explanations against the definitions
 
-/// Happens-before as the transitive closure of its edges, by row numbers from 1.
+/// Happens-before as the transitive closure of its edges, by row numbers from 1. Each row of a barrier comes before every row that follows a row of that
+/// barrier in any process.
 fn closure(rows: &[Row]) -> Vec<Vec<bool>> {
     let n = rows.len();
     let mut hb = vec![vec![false; n + 1]; n + 1];
+    let of_barrier = |r: &Row, a: Row| a.kind == BARRIER && r.kind == BARRIER && r.message == a.message;
     for j in 1..=n {
         for i in 1..j {
             let (a, b) = (rows[i - 1], rows[j - 1]);
-            hb[i][j] = a.process == b.process || (a.kind == SEND && b.kind == WAIT && a.message == b.message);
+            let follows = rows[..j - 1].iter().any(|r| r.process == b.process && of_barrier(r, a));
+            hb[i][j] = a.process == b.process || (a.kind == SEND && b.kind == WAIT && a.message == b.message) || follows;
         }
     }
     for k in 1..=n {
@@ -660,7 +701,7 @@ impl Naive {
             Claim::PostedOnly { posted, wait } => self.is_posted_only(posted, wait),
             Claim::LastBefore { process, row, last } => {
                 let known = self.numbers().rev().find(|k| self.row(*k).process == process && self.before(*k, row));
-                known == last && self.row(row).process != process && last.is_none_or(|k| self.row(k).kind == SEND)
+                known == last && self.row(row).process != process && last.is_none_or(|k| [SEND, BARRIER].contains(&self.row(k).kind))
             }
         }
     }
@@ -696,12 +737,13 @@ impl Naive {
         reaches(&rows, numbers[from as usize], numbers[to as usize])
     }
 
-    /// Every receive whose message is sent, and the first row behind both.
+    /// Every receive whose message is sent, and the first row of its process behind both, if there is one.
     fn all_posted(&self) -> Vec<Posted> {
         let of = |kind: u32| self.numbers().filter(move |k| self.row(*k).kind == kind);
         let pairs = of(RECV).flat_map(|recv| of(SEND).map(move |send| (recv, send)));
         let pairs = pairs.filter(|(recv, send)| self.row(*recv).message == self.row(*send).message);
-        pairs.map(|(recv, send)| Posted { recv, send, before: recv.max(send) + 1 }).collect()
+        let behind = |recv: u32, send: u32| self.numbers().find(|k| *k > recv.max(send) && self.row(*k).process == self.row(recv).process);
+        pairs.filter_map(|(recv, send)| Some(Posted { recv, send, before: behind(recv, send)? })).collect()
     }
 
     /// Fails unless waits for the receives that are claimed to be posted only would bring the order, each of them is needed, and where none is claimed
@@ -747,18 +789,23 @@ impl Naive {
     }
 }
 
-/// Whether a message that the one row's process sends after it reaches a wait of the other row's process before that row, directly or through other
-/// processes: the processes that have it, row by row.
+/// Whether a message or a barrier leads from the one row's process after it to the other row's process before that row, directly or through other
+/// processes: the processes that have it, row by row. A process has it behind its wait for a message that carries it, and where it goes on from a
+/// barrier that does.
 fn reaches(rows: &[Row], from: u32, to: u32) -> bool {
     let row = |k: u32| rows[k as usize - 1];
     let mut has = vec![row(from).process];
     let mut carried = Vec::new();
-    for k in from + 1..to {
+    for k in from + 1..=to {
         let r = row(k);
-        if r.kind == SEND && has.contains(&r.process) {
-            carried.push(r.message);
+        let passed = |b: &Row| b.process == r.process && b.kind == BARRIER && carried.contains(&(BARRIER, b.message));
+        if rows[..k as usize - 1].iter().any(passed) {
+            has.push(r.process);
         }
-        if r.kind == WAIT && carried.contains(&r.message) {
+        if [SEND, BARRIER].contains(&r.kind) && has.contains(&r.process) {
+            carried.push((r.kind, r.message));
+        }
+        if k < to && r.kind == WAIT && carried.contains(&(SEND, r.message)) {
             has.push(r.process);
         }
     }
@@ -767,9 +814,9 @@ fn reaches(rows: &[Row], from: u32, to: u32) -> bool {
 
 /// The rows as the library reads them, with their counts.
 fn read_rows(text: &str, processes: u32) -> (Vec<u32>, u32, Vec<u16>) {
-    let mut rows = vec![0; 64 * 6];
-    let mut counts = vec![0; 64 * processes as usize];
-    let settings = Settings { header: 0, model: 0, row_limit: 64, process_limit: processes, byte_limit: usize::MAX };
+    let mut rows = vec![0; 100 * 6];
+    let mut counts = vec![0; 100 * processes as usize];
+    let settings = Settings { header: 0, model: 0, row_limit: 100, process_limit: processes, byte_limit: usize::MAX };
     let Checked::Accepted(n) = check_trace(text.as_bytes(), settings, &mut rows, &mut counts) else {
         panic!("an accepted trace: {text}");
     };
@@ -877,7 +924,7 @@ fn sentences() {
          and the first of these happens before the second.\n\
          Found: process 0's first close or sync of file 1 after row 2 is row 4 (sync).\n\
          Found: process 2's last open or sync of file 1 before row 7 is row 6 (open).\n\
-         Missing: row 4 does not happen before row 6: no message that process 0 sends after row 4 reaches a wait of process 2 \
+         Missing: row 4 does not happen before row 6: no message or barrier leads from process 0 after row 4 to process 2 \
          before row 6, directly or through other processes.\n\
          Order: the last row of process 0 that happens before row 6 is row 3 (send of message 7)."
     );
@@ -895,7 +942,7 @@ fn sentences() {
 fn receives_that_are_only_posted_are_told() {
     let missing = |from, process, to| {
         format!(
-            "Missing: row {from} does not happen before row {to}: no message that process 0 sends after row {from} reaches a wait of \
+            "Missing: row {from} does not happen before row {to}: no message or barrier leads from process 0 after row {from} to \
              process {process} before row {to}, directly or through other processes.\n"
         )
     };
@@ -938,6 +985,32 @@ fn receives_that_no_wait_would_help_are_not_told() {
         let told = explained(rows, Model::Posix, number("write"), number("read")).1;
         assert!(told.contains("Missing: ") && !told.contains("Posted:"), "{told}");
     }
+}
+
+/// The order comes through a barrier as far as its rows, and from there through messages, of the same number or of another.
+#[test]
+fn sentences_on_barriers() {
+    let rows = "0,write,1,0,10,\r\n0,barrier,,,,5\r\n2,barrier,,,,5\r\n1,barrier,,,,5\r\n0,commit,1,,,\r\n1,read,1,5,10,\r\n\
+                2,recv,,,,5\r\n0,send,,,,5\r\n2,wait,,,,5\r\n0,close,1,,,\r\n2,read,1,9,1,\r\n";
+    let told = |from: u32, process: u32, to: u32| {
+        format!(
+            "Found: process 0's first commit of file 1 after row 1 is row {from}.\n\
+             Missing: row {from} does not happen before row {to}: no message or barrier leads from process 0 after row {from} to process \
+             {process} before row {to}, directly or through other processes.\n\
+             Order: the last row of process 0 that happens before row {to} is row 2 (arrival at barrier 5)."
+        )
+    };
+    assert!(explained(rows, Model::Commit, 1, 6).1.ends_with(&told(5, 1, 6)), "{}", explained(rows, Model::Commit, 1, 6).1);
+    assert_eq!(
+        explained(rows, Model::Session, 1, 11).1,
+        "Needed: process 0 closes file 1 after row 1, process 2 opens it before row 11, and that close happens before that open.\n\
+         Found: process 0's first close of file 1 after row 1 is row 10.\n\
+         Missing: process 2 has no open of file 1 before row 11.\n\
+         Order: the last row of process 0 that happens before row 11 is row 8 (send of message 5)."
+    );
+    // Rows of one barrier are not ordered among themselves, nor is what stands before it.
+    let before = "1,read,1,5,10,\r\n1,barrier,,,,5\r\n0,write,1,0,10,\r\n0,barrier,,,,5\r\n";
+    assert!(explained(before, Model::Posix, 1, 3).1.ends_with("\nOrder: no row of process 1 happens before row 3."));
 }
 
 // ---- Replays
@@ -1026,6 +1099,18 @@ fn replays_of_many_pieces() {
 
 // ---- Pictures
 
+/// The lines of all barriers, from each box to the box of the same barrier in the next lane.
+fn barrier_lines(rows: &[Row], boxes: &[RowBox]) -> Vec<String> {
+    let mut lines = Vec::new();
+    for number in 0..BARRIERS {
+        let of_this = rows.iter().zip(boxes).filter(|(r, _)| r.kind == BARRIER && r.message == number);
+        let mut boxes: Vec<&RowBox> = of_this.map(|(_, b)| b).collect();
+        boxes.sort_by_key(|b| b.area.left);
+        lines.extend(boxes.windows(2).map(|two| format!("<path class=\"meet\" d=\"{}\"/>", two[0].arrow_to(two[1]))));
+    }
+    lines
+}
+
 #[test]
 fn a_picture_shows_every_row_and_message() {
     let mut dice = Dice(4_242);
@@ -1037,13 +1122,19 @@ fn a_picture_shows_every_row_and_message() {
         nothing_overlaps(&picture);
         let boxes = row_boxes(&picture);
         assert_eq!((boxes.len(), picture.matches("<g><title>row ").count()), (rows.len(), rows.len()));
+        let lines = barrier_lines(&rows, &boxes);
+        assert!(lines.iter().all(|line| picture.contains(line)), "{lines:?} in {picture}");
+        assert_eq!(picture.matches("<path class=\"meet\"").count(), lines.len());
         let at = |kind: u32, message: u32| rows.iter().position(|r| r.kind == kind && r.message == message);
         let waits = rows.iter().enumerate().filter(|(_, r)| r.kind == WAIT);
         let arrows = waits.map(|(k, r)| boxes[at(SEND, r.message).expect("its send")].arrow_to(&boxes[k]));
         let arrows: Vec<String> = arrows.map(|path| format!("<path class=\"arrow\" d=\"{path}\"/>")).collect();
         assert!(arrows.iter().all(|arrow| picture.contains(arrow)), "{arrows:?} in {picture}");
         assert_eq!(picture.matches("<path class=\"arrow\"").count(), arrows.len() + 1, "messages and the legend's");
-        for (r, b) in rows.iter().zip(&boxes).filter(|(r, _)| r.kind >= SEND) {
+        for (r, b) in rows.iter().zip(&boxes).filter(|(r, _)| r.kind == BARRIER) {
+            assert!(b.text.ends_with(&format!(" barrier b{}", r.message)) && b.class == "barrier", "{b:?}");
+        }
+        for (r, b) in rows.iter().zip(&boxes).filter(|(r, _)| [SEND, RECV, WAIT].contains(&r.kind)) {
             let lack = match r.kind {
                 RECV if at(SEND, r.message).is_none() => ", not sent",
                 _ if at(WAIT, r.message).is_none() => ", not waited for",

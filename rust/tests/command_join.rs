@@ -365,8 +365,9 @@ fn refused_join(pair: &Pair, number_and_place: &str) -> String {
 const SHARED: &str =
     "Refused: number 19. There is no verdict.\n  answered No: Does every process have its rows in one of the two files alone?\n";
 const STUCK: &str = "Refused: number 20. There is no verdict.\n\
-                     \x20 answered No: Can one of the next rows be taken: is it no wait, or a wait for\n\
-                     \x20              a message that a taken row has sent?\n";
+                     \x20 answered No: Can one of the next rows be taken: if it is a wait, has a taken\n\
+                     \x20              row sent its message, and is every barrier finished at which\n\
+                     \x20              its process stands?\n";
 const ORDER: &str = "  answered No: Is a send's message unsent so far, and any receive posted\n\
                      \x20              before it another process's; is a recv's not posted before, and\n\
                      \x20              not sent by this process?\n";

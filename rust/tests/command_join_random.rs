@@ -7,8 +7,9 @@ mod naive;
 #[allow(dead_code)]
 mod running;
 
-use kiqsaryn::{JoinSettings, Model, Row, PROCESSES, ROWS};
-use naive::joining::{read_file, rows_of, taken, turn, Taken, Turn};
+use kiqsaryn::{JoinSettings, Model, Row, BARRIER, PROCESSES, ROWS};
+use naive::barriers::{self, is_held, processes, Wrong};
+use naive::joining::{lacks_send, read_file, rows_of, taken, turn, Taken, Turn};
 use naive::order::{first_race, Order};
 use naive::pairs::{some_files, Files};
 use naive::random::Random;
@@ -157,6 +158,15 @@ fn follow(case: &Case, most: usize) -> (Vec<Taken>, [Option<Taken>; 2]) {
     (taken, next)
 }
 
+/// How many barriers have rows, and not of every process.
+fn unfinished(rows: &[Row]) -> usize {
+    let mut numbers: Vec<u32> = rows.iter().filter(|r| r.kind == BARRIER).map(|r| r.message).collect();
+    numbers.sort();
+    numbers.dedup();
+    let arrived = |number: u32, process: u32| rows.iter().any(|r| (r.kind, r.message, r.process) == (BARRIER, number, process));
+    numbers.into_iter().filter(|number| processes(rows).into_iter().any(|p| !arrived(*number, p))).count()
+}
+
 /// A pair whose join is refused: the line of `--csv`, and the rows that are shown.
 fn compare_refused(pair: &Pair, case: &Case, (number, place, file): (u32, u32, u32)) {
     let headers = case.words();
@@ -182,6 +192,23 @@ fn compare_refused(pair: &Pair, case: &Case, (number, place, file): (u32, u32, u
                 let shown = next[k].map_or(format!("{} is at its end.", NAMES[k]), |t| case.own(&t, at));
                 assert!(told.contains(&format!("{label}{shown}\n")), "{label}{shown} in\n{told}");
             }
+            let (rows, all) = (rows_of(&taken), processes(&case.entries().concat().iter().map(|e| e.row).collect::<Vec<Row>>()));
+            let count = |waits: &dyn Fn(Row) -> bool| next.iter().flatten().filter(|t| waits(t.entry.row)).count();
+            assert_eq!(told.matches("  It waits for message ").count(), count(&|row| lacks_send(row, &rows)), "{told}");
+            assert_eq!(told.matches(" stands at barrier ").count(), count(&|row| is_held(row, &rows, &all)), "{told}");
+        }
+        22 => {
+            let (taken, _) = follow(case, usize::MAX);
+            let shown = case.own(&taken[place as usize - 1], origins(&taken)[place as usize - 1].1);
+            assert!(told.contains(&format!("  the record:  {shown}\n")), "{shown} in\n{told}");
+            let (rows, count) = (rows_of(&taken), |part: &str| told.matches(part).count());
+            match barriers::wrong(&rows) {
+                Some((_, wrong)) if wrong == [Wrong::Repeats] => assert_eq!((count(" already: "), count("  note: ")), (1, 1), "{told}"),
+                Some((_, wrong)) if wrong == [Wrong::Unfinished] => {
+                    assert_eq!(count(" is unfinished at the "), unfinished(&rows), "{told}")
+                }
+                wrong => panic!("{wrong:?}"),
+            }
         }
         _ => {
             let (taken, _) = follow(case, place as usize);
@@ -199,7 +226,7 @@ fn compare_refused(pair: &Pair, case: &Case, (number, place, file): (u32, u32, u
 struct Seen {
     accepted: usize,
     names: usize,
-    refused: [usize; 22],
+    refused: [usize; 23],
 }
 
 #[test]
@@ -223,7 +250,7 @@ fn random_pairs_are_told_as_the_rules_say() {
         }
     }
     assert!(seen.accepted > 200 && seen.names > 1_000, "{seen:?}");
-    assert!([12, 19, 20, 21].iter().all(|k| seen.refused[*k] > 10), "{seen:?}");
+    assert!([12, 19, 20, 21].iter().all(|k| seen.refused[*k] > 10) && seen.refused[22] > 3, "{seen:?}");
 }
 
 // ---- Any input

@@ -21,7 +21,7 @@ mod text;
 #[path = "../src/bin/kiqsaryn/write.rs"]
 mod write;
 
-use kiqsaryn::{Settings, COMMIT, PROCESSES, ROWS, WAIT};
+use kiqsaryn::{Settings, BARRIER, COMMIT, PROCESSES, ROWS, WAIT};
 use naive::reading;
 use running::folder::{failed, silent, Folder};
 use running::{err, example_traces, out, run, status};
@@ -160,8 +160,9 @@ fn a_refusal_of_the_writer_is_told_as_an_error() {
     };
     for (n, rows, words) in [
         (2, &[0, COMMIT, 1, 0, 0, 0][..], "the text cannot be written: refusal 1, Are the lent slices long enough?"),
-        (1, &[0, 9, 1, 0, 0, 0], "row 1 cannot be written: refusal 8, Is the kind "),
+        (1, &[0, BARRIER + 1, 1, 0, 0, 0], "row 1 cannot be written: refusal 8, Is the kind "),
         (1, &[0, WAIT, 0, 0, 0, 7], "row 1 cannot be written: refusal 21, Was the wait's message posted "),
+        (2, &[0, BARRIER, 0, 0, 0, 7, 1, COMMIT, 1, 0, 0, 0], "row 2 cannot be written: refusal 22, Does no process arrive "),
         (2, &[0, COMMIT, 1, 0, 0, 0, 2, COMMIT, 1, 0, 0, 0], "row 2 cannot be written: refusal 10, "),
     ] {
         let e = write::text(&trace(n, rows), false).expect_err("a refusal");

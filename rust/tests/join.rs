@@ -1,5 +1,6 @@
-//! Every vector of `vectors/join.txt`: the answer and the three lent slices whole, by the library and by the naive version. Then calls whose
-//! numbers do not fit, which row is taken next, which question comes first, and the limits; and one file of a join by itself.
+//! Every vector of `vectors/join.txt`, and the joins of `vectors/barrier.txt` and `vectors/aimed_joins.txt`: the answer and the three lent slices whole,
+//! by the library and by the naive version. Then calls whose numbers do not fit, which row is taken next, which question comes first, and the limits;
+//! and one file of a join by itself.
 
 #[allow(dead_code)]
 mod naive;
@@ -45,10 +46,13 @@ fn answer_of(line: &vectors::Line) -> Joined {
 /// Joins two files as the library does.
 type Join = fn([&[u8]; 2], JoinSettings, &mut Lent) -> Joined;
 
-/// Runs every vector through one version.
-fn every_vector(version: Join) {
-    let text = vectors::text("join.txt");
-    let mut lines = vectors::lines(&text);
+/// The files of vectors that have joins.
+const FILES: [&str; 3] = ["join.txt", "barrier.txt", "aimed_joins.txt"];
+
+/// Runs every vector of a file through one version.
+fn every_vector(file: &str, version: Join) {
+    let text = vectors::text(file);
+    let mut lines = vectors::calls(file, &text, "J");
     let mut run = 0;
     while let Some(line) = lines.next() {
         line.kind(&[("J", 12)]);
@@ -78,17 +82,17 @@ fn every_vector(version: Join) {
         }
         run += 1;
     }
-    vectors::all_run("join.txt", &text, &["J"], run);
+    vectors::all_run(file, &text, &["J"], run);
 }
 
 #[test]
 fn every_join_vector() {
-    every_vector(call);
+    FILES.iter().for_each(|file| every_vector(file, call));
 }
 
 #[test]
 fn every_join_vector_through_the_naive_version() {
-    every_vector(joining::join);
+    FILES.iter().for_each(|file| every_vector(file, joining::join));
 }
 
 // ---- Calls whose numbers do not fit
@@ -173,8 +177,8 @@ fn turns(first: &str, second: &str) -> Result<Vec<(u64, usize)>, Joined> {
     Ok((0..n).map(|k| (part(k).file, (0..=k).filter(|i| part(*i).file == part(k).file).count())).collect())
 }
 
-/// One file from short words: `0w` is a write of process 0, `1s7` the send of message 7 by process 1, `1r7` its recv, and `1a7` its wait, by which
-/// it awaits the message.
+/// One file from short words: `0w` is a write of process 0, `1s7` the send of message 7 by process 1, `1r7` its recv, `1a7` its wait, by which it
+/// awaits the message, and `1b7` its arrival at barrier 7.
 fn file(words: &str) -> String {
     let record = |word: &str| {
         let (process, rest) = word.split_at(1);
@@ -182,6 +186,7 @@ fn file(words: &str) -> String {
             ("s", message) => format!("{process},send,,,,{message}\r\n"),
             ("r", message) => format!("{process},recv,,,,{message}\r\n"),
             ("a", message) => format!("{process},wait,,,,{message}\r\n"),
+            ("b", number) => format!("{process},barrier,,,,{number}\r\n"),
             _ => format!("{process},write,{process},0,1,\r\n"),
         }
     };
@@ -223,6 +228,26 @@ const TURNS: &[Turns] = &[
     // a wait without its recv waits as well
     ("0a7", "1w", None),
     ("0w", "1r7 3a7", None),
+    // to arrive at a barrier is free, and to go on is not before all have arrived
+    ("0b7", "1b7", Some("a b")),
+    ("0b7 0w", "1w 1b7 1w", Some("a b b a b")),
+    ("0w 0b7 0b8 0w", "1b7 1b8 1w", Some("a a b a b a b")),
+    ("0b7 0w 2b7 2w", "1b7 1w", None), // row 2 of the first waits for process 2, which stands behind it
+    ("0b7 2b7 0w 2w", "1b7 1w", Some("a a b a a b")),
+    ("0b7 2w 2b7 0w", "1w 3w 1b7 3b7", Some("a a a b b b b a")),
+    // a barrier of one file alone, and processes of the other that have no row of it
+    ("0b7 0w", "", Some("a a")),
+    ("", "1b7 1w 1b8", Some("b b b")),
+    ("0b7 0w", "1w", None),
+    ("0w", "1b7 1w", None),
+    // they meet at different barriers, and two that stand at the same one in another order
+    ("0b7 0b8", "1b8 1b7", None),
+    ("0b7 0w", "1b8 1w", None),
+    // messages and barriers: a send behind a barrier, and a wait before one
+    ("0r7 0a7 0b1 0w", "1s7 1b1", Some("a b a a b a")),
+    ("0b1 0s7", "1r7 1a7 1b1", None),
+    ("0r7 0a7 0b7 0w", "1b7 1s7", None),
+    ("0b7 0s7 0w", "1b7 1r7 1a7 1w", Some("a b a a b b b")),
 ];
 
 #[test]
@@ -269,6 +294,17 @@ fn the_first_question_that_is_answered_no_decides() {
         (&file("0r7 0r7"), &file("1a7"), 12, 2, 0),
         (&file("0a7"), &file("1a7"), 20, 0, 0),
         (&file("0a7"), &file("1s7"), 21, 2, 0),
+        // 22 behind the last joined row: 6, 12, 20 and 21 come first, wherever they are
+        (&file("0b7 0b7 0w"), &file(""), 22, 2, 0),
+        (&file("0b7 0b7 0w 0w"), &file(""), 6, 4, 1),
+        (&file("0b7 0b7"), &file("1b7 1w"), 6, 4, 0),
+        (&file("0b7 0b7"), &file("1b7"), 22, 3, 0),
+        (&file("0b7 0b7 0s7"), &file("1w"), 20, 0, 0),
+        (&file("0b7 0b7"), &file("0w"), 19, 0, 0),
+        (&file("0s7 0b7"), &file("1s7"), 12, 3, 0),
+        (&file("0b7"), &file("1w 1w"), 22, 3, 0),
+        (&file("0b7"), &file("1b8"), 22, 2, 0),
+        (&file("0b7"), &file("1b8 1w"), 20, 0, 0),
     ] {
         let s = JoinSettings { row_limit: 3, process_limit: 3, ..PLAIN };
         let mut slices = lent([20, 11, 10], 7);

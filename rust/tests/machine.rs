@@ -8,7 +8,7 @@ mod state;
 #[allow(dead_code)]
 mod vectors;
 
-use kiqsaryn::{Header, Model, Refusal, Row, READ, RECV, SEND, WAIT, WRITE};
+use kiqsaryn::{Header, Model, Refusal, Row, BARRIER, READ, RECV, SEND, WAIT, WRITE};
 use state::State;
 
 /// Runs the sequences of a file, from the first that is made on.
@@ -100,7 +100,7 @@ fn rows_of_messages_are_refused() {
         let write = Row { process: 1, kind: WRITE, offset: 2, length: 3, ..Row::default() };
         assert_eq!(s.step(write, 1, &mut []), Ok(0), "model {model:?}");
         let maps = s.maps.clone();
-        for kind in [SEND, RECV, WAIT, WAIT + 1, u32::MAX] {
+        for kind in [SEND, RECV, WAIT, BARRIER, BARRIER + 1, u32::MAX] {
             let mut out = [5; 6];
             let row = Row { process: 1, kind, message: 7, ..Row::default() };
             for number in [2, 0, 4097] {

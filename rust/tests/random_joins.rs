@@ -7,8 +7,9 @@
 #[allow(dead_code)]
 mod naive;
 
-use kiqsaryn::{join, read_file, Checked, JoinSettings, Joined, Model, Refusal, Row, SEND, WAIT};
-use naive::joining::{self, mergings, rows_of, turn, Lent, Taken, Turn};
+use kiqsaryn::{join, read_file, Checked, JoinSettings, Joined, Model, Refusal, Row, BARRIER, SEND, WAIT};
+use naive::barriers::{self, Wrong, WRONGS};
+use naive::joining::{self, lacks_send, mergings, rows_of, turn, Lent, Taken, Turn};
 use naive::order::{first_race, Order};
 use naive::pairs::{some_files, Files};
 use naive::random::{setting, Random};
@@ -128,20 +129,27 @@ fn case(r: &mut Random, seed: u64) -> Case {
 #[derive(Default, Debug)]
 struct Seen {
     /// By number and file.
-    refused: [[u64; 3]; 22],
+    refused: [[u64; 3]; 23],
     /// Files by themselves, by number.
     file_refused: [u64; 12],
     file_read: u64,
     /// Joins refused with 12 or 21 for one fault alone.
     faults: [u64; FAULTS],
+    /// Joins refused with 22 for one thing alone.
+    wrongs: [u64; WRONGS],
     /// Joins refused with 20: the first file waits and the second is at its end, the other way round, both wait.
     stuck: [u64; 3],
+    /// Joins refused with 20 in which all rows that wait lack their sends, some are held at barriers, and all are.
+    held: [u64; 3],
     free: [u64; 4],
     races: [u64; 4],
     /// Accepted joins in which the first file waits for the second, and those with a message from the one to the other.
     waited: u64,
     across: u64,
     empty: u64,
+    /// Accepted joins with barriers, and those in which the first file has rows held back there alone.
+    barriers: u64,
+    held_back: u64,
 }
 
 /// The entries of both files, which are accepted by themselves.
@@ -185,7 +193,27 @@ fn count_refused(case: &Case, number: u32, place: u32, file: u32, seen: &mut See
             [true, true] => seen.stuck[2] += 1,
             [false, false] => panic!("no row waits\n{}", case.told()),
         }
+        let rows = rows_of(&taken);
+        let at = |file: u32| taken.iter().filter(|t| t.file == file).count();
+        let next: Vec<Row> = [1, 2].iter().filter_map(|file| files[*file as usize - 1].get(at(*file))).map(|e| e.row).collect();
+        let held = next.iter().filter(|row| !lacks_send(**row, &rows)).count();
+        seen.held[if held == next.len() { 2 } else { held }] += 1;
     }
+    if number == 22 {
+        let rows = rows_of(&first_taken(&entries(case), usize::MAX));
+        match barriers::wrong(&rows).as_ref().map(|(_, wrong)| &wrong[..]) {
+            Some([wrong]) => seen.wrongs[*wrong as usize] += 1,
+            wrong => panic!("{wrong:?} is wrong\n{}", case.told()),
+        }
+    }
+}
+
+/// Whether the second file goes on before the first is at its end at a row of the first that lacks no send.
+fn is_held_back(files: &[Vec<Entry>; 2], taken: &[Taken]) -> bool {
+    let rows = rows_of(taken);
+    let of_first = |k: usize| taken[..k].iter().filter(|t| t.file == 1).count();
+    let ready = |k: usize| files[0].get(of_first(k)).is_some_and(|next| !lacks_send(next.row, &rows[..k]));
+    (0..taken.len()).any(|k| taken[k].file == 2 && ready(k))
 }
 
 fn count_accepted(case: &Case, race: bool, seen: &mut Seen) {
@@ -198,6 +226,8 @@ fn count_accepted(case: &Case, race: bool, seen: &mut Seen) {
     seen.waited += u64::from(!in_order);
     seen.across += u64::from(taken.iter().any(from_other));
     seen.empty += u64::from(taken.is_empty());
+    seen.barriers += u64::from(taken.iter().any(|t| t.entry.row.kind == BARRIER));
+    seen.held_back += u64::from(is_held_back(&entries(case), &taken));
     let count = if race { &mut seen.races } else { &mut seen.free };
     count[case.s.model as usize] += 1;
 }
@@ -249,7 +279,7 @@ fn all_met(joins: u64, seen: &Seen) {
     assert!(seen.waited * 10 > joins && seen.across * 10 > joins, "many wait, and many have messages across: {seen:?}");
     assert!(seen.free.iter().chain(&seen.races).all(|n| n * 80 > joins), "many are free, and many race: {seen:?}");
     assert!(seen.empty * 4000 > joins, "some have no row: {seen:?}");
-    assert!([1, 2, 3, 6, 12, 19, 20, 21].iter().all(|k| seen.refused[*k][0] * 400 > joins), "every refusal of a join is met: {seen:?}");
+    assert!([1, 2, 3, 6, 12, 19, 20, 21, 22].iter().all(|k| seen.refused[*k][0] * 400 > joins), "every refusal of a join is met: {seen:?}");
     let of_files = (4..12).flat_map(|k| [seen.refused[k][1], seen.refused[k][2]]);
     assert!(of_files.into_iter().all(|n| n * 8000 > joins), "every refusal of either file is met: {seen:?}");
     assert!(seen.file_refused[1..].iter().all(|n| n * 1000 > joins) && seen.file_read > joins, "and of files by themselves: {seen:?}");
@@ -258,6 +288,11 @@ fn all_met(joins: u64, seen: &Seen) {
     assert!(alone.iter().all(|n| n * 800 > joins), "every other fault is met alone: {seen:?}");
     assert!(not_sent == 0, "a wait whose message is not sent is not taken: {seen:?}");
     assert!(seen.stuck.iter().all(|n| n * 400 > joins), "either file waits, and both: {seen:?}");
+    assert!(seen.held.iter().all(|n| n * 2000 > joins), "rows wait for messages, and at barriers: {seen:?}");
+    let mut alone = seen.wrongs;
+    let gone_on = std::mem::replace(&mut alone[Wrong::GoesOn as usize], joins);
+    assert!(gone_on == 0 && alone.iter().all(|n| n * 1000 > joins), "no row goes on, and barriers are wrong in the other ways: {seen:?}");
+    assert!(seen.barriers * 8 > joins && seen.held_back * 20 > joins, "many have barriers, and many hold rows back: {seen:?}");
 }
 
 #[test]
@@ -286,6 +321,8 @@ struct Merged {
     accepted: u64,
     refused: u64,
     stuck: u64,
+    /// Accepted pairs with barriers.
+    barriers: u64,
     /// Pairs with more than one allowed merging, and all mergings tried.
     several: u64,
     tried: u64,
@@ -294,9 +331,9 @@ struct Merged {
     races: [u64; 4],
 }
 
-/// Whether a trace has a row that question 12 or 21 refuses.
+/// Whether question 12, 21 or 22 refuses a trace.
 fn is_faulty(rows: &[Row]) -> bool {
-    (0..rows.len()).any(|k| !faults(rows[k], &rows[..k]).is_empty())
+    (0..rows.len()).any(|k| !faults(rows[k], &rows[..k]).is_empty()) || barriers::wrong(rows).is_some()
 }
 
 /// The library's answers under each model, and the joined rows.
@@ -310,7 +347,7 @@ fn joined(texts: [&[u8]; 2], process_limit: u32) -> ([Joined; 4], Vec<u32>) {
     (answers, rows)
 }
 
-/// Fails unless the join is accepted exactly where some allowed merging passes the questions 12 and 21, and is then one of these mergings, all of
+/// Fails unless the join is accepted exactly where some allowed merging passes the questions 12, 21 and 22, and is then one of these mergings, all of
 /// which pass and have its verdict under every model.
 fn compare_mergings(files: &Files, process_limit: u32, told: &str, merged: &mut Merged) {
     let texts = files.each_ref().map(|rows| text(&mut Random::new(0), &rows.iter().map(|row| record(*row)).collect::<Vec<Record>>()));
@@ -342,6 +379,7 @@ fn compare_mergings(files: &Files, process_limit: u32, told: &str, merged: &mut 
         }
     }
     merged.accepted += 1;
+    merged.barriers += u64::from(files.concat().iter().any(|row| row.kind == BARRIER));
     merged.several += u64::from(all.len() > 1);
 }
 
@@ -362,6 +400,7 @@ fn every_allowed_merging_has_the_verdict_of_the_join() {
     println!("{pairs} pairs, seed {seed}: {merged:?}");
     if pairs >= 2_000 {
         assert!(merged.accepted * 2 > pairs && merged.several * 4 > pairs, "many are accepted, with several mergings: {merged:?}");
+        assert!(merged.barriers * 10 > pairs, "many have barriers: {merged:?}");
         assert!(merged.refused * 40 > pairs && merged.stuck * 80 > pairs, "some are refused, and some are stuck: {merged:?}");
         assert!(merged.free.iter().chain(&merged.races).all(|n| n * 20 > merged.tried), "many free, and many race: {merged:?}");
     }

@@ -8,7 +8,7 @@
 mod naive;
 mod state;
 
-use kiqsaryn::{Header, Refusal, Replayed, Row, COMMIT, READ, RECV, SEND, SYNC, WAIT, WRITE};
+use kiqsaryn::{Header, Refusal, Replayed, Row, BARRIER, COMMIT, READ, RECV, SEND, SYNC, WAIT, WRITE};
 use naive::machine::{self, encode, numbers, Cell, Lent};
 use naive::random::{setting, Random};
 use state::State;
@@ -135,7 +135,7 @@ fn ranges(r: &mut Random, h: Header) -> Ranges {
 fn row(r: &mut Random, h: Header, ranges: &Ranges) -> Row {
     let process = if r.once_in(60) { r.pick(&[h.process_limit, u32::MAX, 64]) } else { r.below(h.process_limit.clamp(1, 64)) };
     let kind = match r.below(60) {
-        0 => r.pick(&[SEND, RECV, WAIT, WAIT + 1, u32::MAX]),
+        0 => r.pick(&[SEND, RECV, WAIT, BARRIER, BARRIER + 1, u32::MAX]),
         1..=22 => WRITE,
         23..=36 => READ,
         _ => r.between(COMMIT, SYNC),
@@ -291,7 +291,7 @@ fn resumed(r: &mut Random, seed: u64, ours: &mut State, seen: &mut Seen) {
         at = done.rows;
         if done.refusal.is_some_and(|refusal| refusal != Refusal::AnswerSpace || r.once_in(3)) {
             // the refused row becomes one of no file
-            slices.rows[6 * at as usize + 1] = r.pick(&[SEND, RECV, WAIT]);
+            slices.rows[6 * at as usize + 1] = r.pick(&[SEND, RECV, WAIT, BARRIER]);
         }
     }
     let counts = slices.counts.clone();

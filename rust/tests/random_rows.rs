@@ -7,10 +7,12 @@
 #[allow(dead_code)]
 mod naive;
 
-use kiqsaryn::{check_trace, write, Checked, Refusal, Row, Settings, Written, HEADER_LINE, LONGEST_LINE, READ, RECV, SEND, WAIT, WRITE};
+use kiqsaryn::{check_trace, write, Checked, Refusal, Row, Settings, Written, HEADER_LINE, LONGEST_LINE};
+use kiqsaryn::{BARRIER, READ, RECV, SEND, WAIT, WRITE};
+use naive::barriers::{self, WRONGS};
 use naive::random::{setting, Random};
 use naive::reading::{self, faults, FAULTS};
-use naive::rows::{numbers, some_rows};
+use naive::rows::{damage_barrier, numbers, some_rows};
 use naive::writing;
 
 const LISTS: u64 = 40_000;
@@ -58,8 +60,9 @@ fn damage_number(r: &mut Random, row: &mut Row) {
     }
 }
 
+/// Whether a row has a message, or the number of a barrier in its place.
 fn is_talk(row: Row) -> bool {
-    [SEND, RECV, WAIT].contains(&row.kind)
+    [SEND, RECV, WAIT, BARRIER].contains(&row.kind)
 }
 
 /// A send, recv or wait more behind the row at a place, right behind it or later: of its message by its own process, or of any message by any
@@ -132,6 +135,9 @@ fn case(r: &mut Random, seed: u64) -> Case {
         rows.truncate(r.place(3));
     }
     let damage = r.below(100);
+    if (38..45).contains(&damage) {
+        damage_barrier(r, &mut rows);
+    }
     if (45..85).contains(&damage) && !rows.is_empty() {
         damage_rows(r, &mut rows);
         if r.once_in(3) && !rows.is_empty() {
@@ -147,7 +153,11 @@ fn case(r: &mut Random, seed: u64) -> Case {
         damage_call(r, &mut case);
     }
     let mut whole = vec![0; HEADER_LINE + LONGEST_LINE * case.n.min(4096) as usize];
-    let length = writing::write(&case.rows, case.n, case.header, case.process_limit, &mut whole, 0).unwrap_or(r.place(200));
+    let length = match writing::write(&case.rows, case.n, case.header, case.process_limit, &mut whole, 0) {
+        Ok(length) => length,
+        Err((22, _)) if r.once_in(2) => writing::text(case.header, &writing::rows_in(&case.rows, case.n)).len(),
+        Err(_) => r.place(200),
+    };
     lend(r, &mut case, length);
     case
 }
@@ -161,13 +171,17 @@ const PAIRS: [[u32; 2]; 7] = [[9, 10], [9, 11], [9, 12], [9, 21], [10, 11], [10,
 /// How often each answer came.
 #[derive(Default, Debug)]
 struct Seen {
-    refused: [u64; 22],
+    refused: [u64; 23],
     /// Rows refused with 9 for one number alone: file, offset, length, message.
     unused: [u64; 4],
     /// Rows refused with 10 for one number alone: process, file, message.
     past: [u64; 3],
-    /// Rows refused with 12 or 21 for one fault alone.
+    /// Rows refused with 12 or 21 for one fault alone, and with 22 for one thing alone.
     faults: [u64; FAULTS],
+    wrongs: [u64; WRONGS],
+    /// Lists refused with 22 that would not fit the slice either, and lists written that have barriers.
+    both: u64,
+    barriers: u64,
     /// Rows whose first No is the first of a pair of questions, and that answer No to the second too.
     pairs: [u64; PAIRS.len()],
     /// Texts that have a byte too few, and places past the slice's end.
@@ -197,6 +211,15 @@ fn count_refused(case: &Case, number: u32, place: u32, seen: &mut Seen) {
         let length = writing::text(case.header, &writing::rows_in(&case.rows, case.n)).len();
         seen.far += u64::from(case.place > case.out.len());
         seen.short += u64::from(case.out.len().checked_sub(case.place).is_some_and(|space| space + 1 == length));
+        return;
+    }
+    if number == 22 {
+        let rows = writing::rows_in(&case.rows, case.n);
+        let room = case.out.len().checked_sub(case.place);
+        seen.both += u64::from(room.is_none_or(|room| room < writing::text(case.header, &rows).len()));
+        if let Some([wrong]) = barriers::wrong(&rows).as_ref().map(|(_, wrong)| &wrong[..]) {
+            seen.wrongs[*wrong as usize] += 1;
+        }
         return;
     }
     let Some(earlier) = place.checked_sub(1) else {
@@ -281,6 +304,7 @@ fn compare(r: &mut Random, case: &mut Case, seen: &mut Seen) {
             seen.written[case.header as usize] += 1;
             seen.exact += u64::from(case.place + length == want.len());
             seen.empty += u64::from(length == 0);
+            seen.barriers += u64::from(writing::rows_in(&case.rows, case.n).iter().any(|row| row.kind == BARRIER));
         }
     }
 }
@@ -299,11 +323,13 @@ fn random_rows() {
     if lists >= 20_000 {
         assert!(seen.written.iter().all(|n| n * 8 > lists), "many are written, with the header and without: {seen:?}");
         assert!(seen.exact * 8 > lists && seen.empty * 1000 > lists, "into what is just enough, and without a byte: {seen:?}");
-        assert!([1, 2, 3, 8, 9, 10, 11, 12, 18, 21].iter().all(|k| seen.refused[*k] * 400 > lists), "every refusal is met: {seen:?}");
+        assert!([1, 2, 3, 8, 9, 10, 11, 12, 18, 21, 22].iter().all(|k| seen.refused[*k] * 400 > lists), "every refusal is met: {seen:?}");
         assert!(seen.unused.iter().all(|n| n * 1000 > lists), "each unused number is met alone: {seen:?}");
         assert!(seen.past.iter().all(|n| n * 1000 > lists), "each number past its range is met alone: {seen:?}");
         assert!(seen.pairs.iter().all(|n| n * 4000 > lists), "each pair of questions is met in one row: {seen:?}");
         assert!(seen.faults.iter().all(|n| n * 1000 > lists), "every fault of a message is met alone: {seen:?}");
+        assert!(seen.wrongs.iter().all(|n| n * 1000 > lists), "barriers are wrong in each way: {seen:?}");
+        assert!(seen.both * 400 > lists && seen.barriers * 10 > lists, "22 comes before 18, and barriers are written: {seen:?}");
         assert!(seen.short * 20 > lists && seen.far * 20 > lists, "a byte is missing, and places are past the end: {seen:?}");
         assert!(seen.others * 20 > lists, "many rows with another number are written: {seen:?}");
     }

@@ -7,11 +7,14 @@
 #[allow(dead_code)]
 mod naive;
 
-use kiqsaryn::{check_trace, fill_counts, report, verdict, Checked, Model, Refusal, Row, Settings, Verdict, KINDS, RECV, SEND, WAIT};
+use kiqsaryn::{
+    check_trace, fill_counts, report, verdict, Checked, Model, Refusal, Row, Settings, Verdict, BARRIER, KINDS, RECV, SEND, WAIT,
+};
+use naive::barriers::WRONGS;
 use naive::order::{counts, first_race, Order};
 use naive::random::{setting, Random};
 use naive::reading::{self, FAULTS};
-use naive::rows::{numbers, some_rows};
+use naive::rows::{damage_barrier, numbers, some_rows};
 use naive::texts::{damage_bytes, damage_records, header, record, text, Record};
 
 const TRACES: u64 = 60_000;
@@ -67,13 +70,16 @@ fn damage_settings(r: &mut Random, s: &mut Settings, text_len: usize) {
 
 /// A text, sound or damaged, with settings and slices that suit it, or not.
 fn case(r: &mut Random, seed: u64) -> Case {
-    let (rows, process_limit) = some_rows(r);
+    let (mut rows, process_limit) = some_rows(r);
     let header_word = r.below(2);
+    let damage = r.below(100);
+    if (25..40).contains(&damage) {
+        damage_barrier(r, &mut rows);
+    }
     let mut records: Vec<Record> = rows.iter().map(|row| record(*row)).collect();
     if header_word == 1 {
         records.insert(0, header());
     }
-    let damage = r.below(100);
     if (40..65).contains(&damage) {
         damage_records(r, &mut records);
     }
@@ -105,9 +111,10 @@ fn case(r: &mut Random, seed: u64) -> Case {
 /// How often each answer came.
 #[derive(Default, Debug)]
 struct Seen {
-    refused: [u64; 22],
-    /// Traces refused with 12 or 21 for one fault alone.
+    refused: [u64; 23],
+    /// Traces refused with 12 or 21 for one fault alone, and with 22 for one thing alone.
     faults: [u64; FAULTS],
+    wrongs: [u64; WRONGS],
     accepted: u64,
     free: [u64; 4],
     races: [u64; 4],
@@ -117,6 +124,9 @@ struct Seen {
     /// Traces with a recv before its send, and traces whose verdict under some model would be another without their waits.
     posted_early: u64,
     decided_by_waits: u64,
+    /// Accepted traces with barriers, and those whose verdict under some model would be another without their barriers.
+    barriers: u64,
+    decided_by_barriers: u64,
     wild: [u64; 2],
 }
 
@@ -181,14 +191,25 @@ fn judge(r: &mut Random, told: &dyn Fn() -> String, rows: &[Row], lent: &[u32], 
     assert!(got == fill, "counts of a refused verdict\n{}", told());
 }
 
-/// Counts what the messages of an accepted trace do.
-fn count_messages(rows: &[Row], seen: &mut Seen) {
-    let early = |k: usize| rows[k].kind == RECV && rows[k..].iter().any(|r| r.kind == SEND && r.message == rows[k].message);
-    seen.posted_early += u64::from((0..rows.len()).any(early));
-    let without: Vec<Row> = rows.iter().map(|r| Row { kind: if r.kind == WAIT { RECV } else { r.kind }, ..*r }).collect();
+/// Whether a verdict would be another if rows of one kind gave no order.
+fn is_decided_by(rows: &[Row], kind: u32) -> bool {
+    let without: Vec<Row> = rows.iter().map(|r| Row { kind: if r.kind == kind { RECV } else { r.kind }, ..*r }).collect();
     let (order, other) = (Order::of(rows), Order::of(&without));
     let differs = |model: u32| first_race(rows, &order, model) != first_race(rows, &other, model);
-    seen.decided_by_waits += u64::from(Model::ALL.map(Model::number).into_iter().any(differs));
+    Model::ALL.map(Model::number).into_iter().any(differs)
+}
+
+/// Counts what the messages and barriers of an accepted trace do. Its order is the one that document 02's sentence on barriers gives.
+fn count_order(rows: &[Row], told: &str, seen: &mut Seen) {
+    let early = |k: usize| rows[k].kind == RECV && rows[k..].iter().any(|r| r.kind == SEND && r.message == rows[k].message);
+    seen.posted_early += u64::from((0..rows.len()).any(early));
+    seen.decided_by_waits += u64::from(is_decided_by(rows, WAIT));
+    if rows.iter().any(|r| r.kind == BARRIER) {
+        seen.barriers += 1;
+        seen.decided_by_barriers += u64::from(is_decided_by(rows, BARRIER));
+        let same = rows.len() > 500 || Order::by_sentence(rows).is_some_and(|order| order == Order::of(rows));
+        assert!(same, "the order by the sentence on barriers\n{told}");
+    }
 }
 
 fn compare(r: &mut Random, case: &mut Case, seen: &mut Seen) {
@@ -203,7 +224,7 @@ fn compare(r: &mut Random, case: &mut Case, seen: &mut Seen) {
             assert!(case.rows == padded(numbers(&rows), rows_len), "rows {:?}\n{told}", case.rows);
             assert!(case.counts.iter().all(|c| *c == 0), "counts {:?}\n{told}", case.counts);
             seen.accepted += 1;
-            count_messages(&rows, seen);
+            count_order(&rows, &told, seen);
             judge(r, &|| told.clone(), &rows, &case.rows, case.s.process_limit, counts_len, seen);
         }
         Err((number, place)) => {
@@ -221,6 +242,13 @@ fn compare(r: &mut Random, case: &mut Case, seen: &mut Seen) {
                     _ => {}
                 }
             }
+            if number == 22 {
+                match reading::wrongs(&case.text, case.s)[..] {
+                    [wrong] => seen.wrongs[wrong as usize] += 1,
+                    [] => panic!("nothing is wrong\n{told}"),
+                    _ => {}
+                }
+            }
         }
     }
     assert_eq!(String::from_utf8_lossy(&report(&case.text)), reading::report(&case.text), "report\n{told}");
@@ -229,7 +257,7 @@ fn compare(r: &mut Random, case: &mut Case, seen: &mut Seen) {
 /// Messages so far apart share a chain of sends when counts are filled.
 const SAME_CHAIN: u32 = 4096;
 
-/// Rows that no text gives: any kinds, processes past the limit, messages sent twice and waited for early, ranges past the end.
+/// Rows that no text gives: any kinds, processes past the limit, messages sent twice and waited for early, barriers gone past, ranges past the end.
 fn wild_rows(r: &mut Random, n: u32, process_limit: u32) -> Vec<Row> {
     let kinds = r.pick(&[KINDS.len() as u32, KINDS.len() as u32 + 2]);
     let processes = if r.once_in(2) { process_limit.max(1) } else { process_limit + 2 };
@@ -302,12 +330,14 @@ fn random_traces() {
     println!("{traces} traces, seed {seed}: {seen:?}");
     if traces >= 20_000 {
         assert!(seen.accepted * 3 > traces, "a third is accepted: {seen:?}");
-        assert!((1..=12).chain([21]).all(|k| seen.refused[k] >= 20), "every refusal is met: {seen:?}");
+        assert!((1..=12).chain([21, 22]).all(|k| seen.refused[k] >= 20), "every refusal is met: {seen:?}");
         assert!(seen.faults.iter().all(|n| *n * 400 >= traces), "every fault of a message is met alone: {seen:?}");
         assert!(seen.free.iter().all(|n| *n >= 500), "many are free: {seen:?}");
         assert!(seen.races.iter().all(|n| *n >= 500) && seen.late_races >= 500, "many race: {seen:?}");
         assert!(seen.posted_early * 8 > traces, "many have a recv before its send: {seen:?}");
         assert!(seen.decided_by_waits * 20 > traces, "waits decide many verdicts: {seen:?}");
+        assert!(seen.wrongs.iter().all(|n| *n * 400 >= traces), "barriers are wrong in each way: {seen:?}");
+        assert!(seen.barriers * 8 > traces && seen.decided_by_barriers * 20 > traces, "barriers decide many verdicts: {seen:?}");
         assert!(seen.wild.iter().all(|n| *n >= 1000), "many wild rows are judged, and many refused: {seen:?}");
     }
 }

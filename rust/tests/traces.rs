@@ -1,5 +1,5 @@
-//! Every vector of `vectors/traces.txt` and `vectors/aimed.txt`, call by call and in one call: the answer and both slices whole, by the library
-//! and by the naive version. Then what a recv and a wait mean, and calls whose numbers do not fit.
+//! Every vector of `vectors/traces.txt` and `vectors/aimed.txt`, and the traces of `vectors/barrier.txt`, call by call and in one call: the answer and
+//! both slices whole, by the library and by the naive version. Then what a recv, a wait and a barrier mean, and calls whose numbers do not fit.
 
 #[allow(dead_code)]
 mod naive;
@@ -122,7 +122,7 @@ impl Call {
 /// Runs every vector of a file.
 fn every_vector(file: &str, run_one: fn(&Call)) {
     let text = vectors::text(file);
-    let mut lines = vectors::lines(&text);
+    let mut lines = vectors::calls(file, &text, "T");
     let mut run = 0;
     while let Some(line) = lines.next() {
         run_one(&Call::new(line, &mut lines));
@@ -144,9 +144,16 @@ fn every_aimed_vector() {
 }
 
 #[test]
+fn every_barrier_vector() {
+    every_vector("barrier.txt", Call::run_parts);
+    every_vector("barrier.txt", Call::run_whole);
+}
+
+#[test]
 fn every_vector_through_the_naive_version() {
     every_vector("traces.txt", Call::run_naive);
     every_vector("aimed.txt", Call::run_naive);
+    every_vector("barrier.txt", Call::run_naive);
 }
 
 // ---- What a recv and a wait mean
@@ -251,6 +258,97 @@ fn messages_out_of_order_are_refused() {
         let before = talks(&rows[..rows.len() - 1]);
         let got = check_trace(before.as_bytes(), settings(Model::Posix), &mut lent, &mut counts);
         assert_eq!(got, Checked::Accepted(place - 1), "the rows before, {text}");
+    }
+}
+
+// ---- What a barrier means
+
+/// Each row of a barrier comes before every row behind a row of that barrier, in any process; the place in the trace alone orders nothing.
+#[test]
+fn a_barrier_orders_what_is_before_it_and_what_is_behind_it() {
+    let all = |race: (u32, u32)| [Some(race); 4];
+    let published_by_commit = |race: (u32, u32)| [None, None, Some(race), Some(race)];
+    let (own, other, third) = ("0,barrier,,,,7\r\n", "1,barrier,,,,7\r\n", "2,barrier,,,,7\r\n");
+    assert_eq!(races(&[WRITE, COMMIT, own, other, READ]), published_by_commit((1, 5)));
+    assert_eq!(races(&[WRITE, COMMIT, other, own, READ]), published_by_commit((1, 5)));
+    assert_eq!(races(&[other, WRITE, COMMIT, own, READ]), published_by_commit((2, 5)));
+    // committed behind the barrier, and written there
+    assert_eq!(races(&[WRITE, own, other, COMMIT, READ]), [None, Some((1, 5)), Some((1, 5)), Some((1, 5))]);
+    assert_eq!(races(&[own, other, WRITE, COMMIT, READ]), all((3, 5)));
+    // read before the barrier: before the write is not ordered, behind it is
+    assert_eq!(races(&[READ, other, WRITE, own]), all((1, 3)));
+    assert_eq!(races(&[READ, other, own, WRITE]), [None; 4]);
+    assert_eq!(races(&[WRITE, COMMIT, READ, own, other]), all((1, 3)));
+    // a third process that only arrives
+    assert_eq!(races(&[WRITE, COMMIT, own, other, third, READ]), published_by_commit((1, 6)));
+    // session: the close before the barrier, the open behind it
+    assert_eq!(races(&[WRITE, "0,close,1,,,\r\n", own, other, "1,open,1,,,\r\n", READ]), [None, Some((1, 6)), None, None]);
+    assert_eq!(races(&[WRITE, "0,close,1,,,\r\n", own, "1,open,1,,,\r\n", other, READ]), [None, Some((1, 6)), Some((1, 6)), Some((1, 6))]);
+}
+
+#[test]
+fn the_counts_of_barrier_rows() {
+    let (mut rows, mut counts) = ([7; 48], [7; 24]);
+    let text = "0,open,1,,,\r\n1,barrier,,,,65535\r\n0,barrier,,,,65535\r\n2,barrier,,,,65535\r\n1,sync,1,,,\r\n0,barrier,,,,0\r\n";
+    let text = text.to_string() + "1,barrier,,,,0\r\n2,barrier,,,,0\r\n";
+    assert_eq!(judge(text.as_bytes(), settings(Model::Posix), &mut rows, &mut counts), Judged::Free { rows: 8 });
+    let first = [[1, 0, 0], [0, 1, 0], [2, 0, 0], [0, 0, 1]].concat();
+    let second = [[2, 2, 1], [3, 1, 1], [2, 3, 1], [2, 1, 2]].concat();
+    assert_eq!(counts[..], [first, second].concat());
+    assert_eq!(rows[6..12], [1, 9, 0, 0, 0, 65_535]);
+}
+
+#[test]
+fn barriers_that_all_pass_are_accepted() {
+    for rows in [
+        &[(0, "barrier", 7)][..],                                                                   // one process alone
+        &[(0, "barrier", 7), (0, "barrier", 8), (0, "barrier", 6)],                                 // it passes each at once
+        &[(0, "barrier", 7), (1, "barrier", 7)],                                                    // nobody goes on
+        &[(0, "send", 7), (1, "recv", 7), (1, "wait", 7), (0, "barrier", 7), (1, "barrier", 7)],    // a message of the same number
+        &[(1, "recv", 7), (0, "barrier", 7), (1, "barrier", 7), (0, "send", 7), (1, "wait", 7)],    // which is sent behind the barrier
+        &[(0, "barrier", 7), (1, "send", 1), (2, "recv", 1), (2, "barrier", 7), (1, "barrier", 7)], // the others go on before they arrive
+        &[(0, "barrier", 7), (1, "barrier", 7), (1, "barrier", 8), (0, "barrier", 8)],              // two, one behind the other
+    ] {
+        let (mut lent, mut counts) = ([7; 48], [7; 24]);
+        let got = check_trace(talks(rows).as_bytes(), settings(Model::Posix), &mut lent, &mut counts);
+        assert_eq!(got, Checked::Accepted(rows.len() as u32), "{rows:?}");
+    }
+}
+
+/// The first row that repeats a barrier's number or goes on before all have arrived is refused, and without one the last row where a barrier is
+/// unfinished. All processes with a row anywhere in the trace count.
+#[test]
+fn barriers_out_of_order_are_refused() {
+    for (rows, place) in [
+        (&[(0, "barrier", 7), (0, "barrier", 7)][..], 2), // repeated
+        (&[(0, "barrier", 7), (1, "barrier", 7), (0, "barrier", 8), (1, "barrier", 8), (1, "barrier", 7)], 5), // repeated later
+        (&[(0, "barrier", 7), (1, "barrier", 7), (1, "barrier", 7), (0, "barrier", 7)], 3), // the first that repeats
+        (&[(0, "barrier", 7), (0, "send", 1), (1, "barrier", 7)], 2), // goes on before process 1 has arrived
+        (&[(0, "barrier", 7), (0, "barrier", 8), (1, "barrier", 7), (1, "barrier", 8)], 2), // goes on to the next barrier
+        (&[(0, "barrier", 7), (1, "barrier", 7), (0, "send", 1), (2, "recv", 1), (2, "barrier", 7)], 3), // a process that comes later
+        (&[(2, "recv", 1), (0, "barrier", 7), (1, "barrier", 7), (0, "send", 1)], 4), // a process that does not arrive
+        (&[(0, "barrier", 7), (1, "barrier", 8), (1, "barrier", 7), (0, "barrier", 8)], 3), // they meet at different barriers
+        (&[(0, "barrier", 7), (1, "send", 1)], 2),        // unfinished
+        (&[(1, "send", 1), (0, "barrier", 7)], 2),        // unfinished, at its own row
+        (&[(0, "barrier", 7), (1, "barrier", 8)], 2),     // two unfinished
+        (&[(0, "barrier", 7), (1, "send", 1), (1, "send", 2), (1, "send", 3)], 4), // unfinished: the last row, not the last arrival
+        (&[(0, "send", 7), (1, "recv", 7), (1, "barrier", 7), (1, "wait", 7)], 4), // a send is no arrival
+    ] {
+        let (text, refusal) = (talks(rows), Refusal::from_number(22).expect("a refusal"));
+        let (mut lent, mut counts) = ([7; 48], [7; 24]);
+        let want = Checked::Refused { refusal, place };
+        assert_eq!(check_trace(text.as_bytes(), settings(Model::Posix), &mut lent, &mut counts), want, "{text}");
+        assert!(lent == [0; 48] && counts == [0; 24], "{text}");
+        let want = Judged::Refused { refusal, place };
+        assert_eq!(judge(text.as_bytes(), settings(Model::Commit), &mut [7; 48], &mut [7; 24]), want, "{text}");
+        // A record behind that is refused for itself comes first.
+        for (more, number) in
+            [("0,barrier,,,,\r\n", 9), ("2,wait,,,,9\r\n", 21), ("0,barrier,1,,,7\r\n", 9), ("0,barrier,,,,65536\r\n", 10)]
+        {
+            let want = Checked::Refused { refusal: Refusal::from_number(number).expect("a refusal"), place: rows.len() as u32 + 1 };
+            let text = text.clone() + more;
+            assert_eq!(check_trace(text.as_bytes(), settings(Model::Posix), &mut lent, &mut counts), want, "{text}");
+        }
     }
 }
 

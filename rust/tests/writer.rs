@@ -1,12 +1,14 @@
-//! Every vector of `vectors/writer.txt`: the answer, and every byte of the lent slice, by the library and by the naive version. Then calls whose
-//! numbers do not fit the slices, messages in order and out of order, and the longest lines.
+//! Every vector of `vectors/writer.txt`, and the writings of `vectors/barrier.txt` and `vectors/aimed_joins.txt`: the answer, and every byte of the lent
+//! slice, by the library and by the naive version. Then calls whose numbers do not fit the slices, messages and barriers in order and out of order,
+//! and the longest lines.
 
 #[allow(dead_code)]
 mod naive;
 #[allow(dead_code)]
 mod vectors;
 
-use kiqsaryn::{check_trace, write, Checked, Refusal, Settings, Written, HEADER_LINE, KINDS, LONGEST_LINE, RECV, ROWS, SEND, WAIT, WRITE};
+use kiqsaryn::{check_trace, write, Checked, Refusal, Settings, Written, HEADER_LINE, KINDS, LONGEST_LINE, ROWS};
+use kiqsaryn::{BARRIER, RECV, SEND, WAIT, WRITE};
 use naive::writing;
 
 /// The words of a line `W` before its rows.
@@ -26,10 +28,13 @@ fn refused(number: u32, place: u32) -> Written {
 /// Writes rows as the library does.
 type Write = fn(&[u32], u32, u32, u32, &mut [u8], usize) -> Written;
 
-/// Runs every vector through one version.
-fn every_vector(version: Write) {
-    let text = vectors::text("writer.txt");
-    let mut lines = vectors::lines(&text);
+/// The files of vectors that have writings.
+const FILES: [&str; 3] = ["writer.txt", "barrier.txt", "aimed_joins.txt"];
+
+/// Runs every vector of a file through one version.
+fn every_vector(file: &str, version: Write) {
+    let text = vectors::text(file);
+    let mut lines = vectors::calls(file, &text, "W");
     let mut run = 0;
     while let Some(line) = lines.next() {
         assert!(line.words[0] == "W" && line.words.len() > BEFORE_ROWS, "{line}: no call");
@@ -49,20 +54,21 @@ fn every_vector(version: Write) {
         assert!(out == left, "the slice after {line}: {}", out.escape_ascii());
         run += 1;
     }
-    vectors::all_run("writer.txt", &text, &["W"], run);
+    vectors::all_run(file, &text, &["W"], run);
 }
 
 #[test]
 fn every_writer_vector() {
-    every_vector(write);
+    FILES.iter().for_each(|file| every_vector(file, write));
 }
 
 #[test]
 fn every_writer_vector_through_the_naive_version() {
-    every_vector(|rows, n, header, process_limit, out, place| match writing::write(rows, n, header, process_limit, out, place) {
+    let naive: Write = |rows, n, header, process_limit, out, place| match writing::write(rows, n, header, process_limit, out, place) {
         Ok(length) => Written::Length(length),
         Err((number, place)) => refused(number, place),
-    });
+    };
+    FILES.iter().for_each(|file| every_vector(file, naive));
 }
 
 // ---- Calls whose numbers do not fit
@@ -158,14 +164,16 @@ fn talks(rows: &[(u32, u32, u32)]) -> Vec<u32> {
     rows.iter().flat_map(|(process, kind, message)| [*process, *kind, 0, 0, 0, *message]).collect()
 }
 
-/// Rows of messages in each order that is accepted are written, and read again as the same rows.
+/// Rows of messages and barriers in each order that is accepted are written, and read again as the same rows.
 #[test]
-fn messages_in_order_are_written() {
+fn messages_and_barriers_in_order_are_written() {
     for rows in [
         &[(0, SEND, 7), (1, RECV, 7), (1, WAIT, 7)][..],
         &[(1, RECV, 7), (0, SEND, 7), (1, WAIT, 7)], // posted before it is sent
         &[(1, RECV, 7), (0, SEND, 7)],               // never waited for
         &[(1, RECV, 7), (0, SEND, 8)],               // never sent
+        &[(1, BARRIER, 7), (1, BARRIER, 65_535)],    // one process alone
+        &[(1, RECV, 7), (1, BARRIER, 7), (0, SEND, 7), (0, BARRIER, 7), (1, WAIT, 7)],
     ] {
         let n = rows.len();
         let text: String =
@@ -205,14 +213,37 @@ fn messages_out_of_order_are_refused() {
     }
 }
 
+/// Barriers out of order are refused once every row has passed the other questions, and before the text is fitted in.
+#[test]
+fn barriers_out_of_order_are_refused() {
+    for (rows, place) in [
+        (&[(0, BARRIER, 7), (0, BARRIER, 7), (0, SEND, 1)][..], 2),           // repeated
+        (&[(0, BARRIER, 7), (0, SEND, 1), (1, BARRIER, 7)], 2),               // goes on before process 1 has arrived
+        (&[(0, BARRIER, 7), (1, BARRIER, 7), (0, SEND, 1), (2, RECV, 1)], 3), // and before process 2 has, which comes later
+        (&[(0, BARRIER, 7), (1, SEND, 1), (1, SEND, 2)], 3),                  // unfinished at the end
+        (&[(0, BARRIER, 7), (1, BARRIER, 8)], 2),                             // two unfinished
+    ] {
+        let (numbers, n) = (talks(rows), rows.len() as u32);
+        for place_in_out in [0, OUT - 1, OUT + 1, usize::MAX] {
+            let mut out = [7; OUT];
+            assert_eq!(write(&numbers, n, 1, 3, &mut out, place_in_out), refused(22, place), "{rows:?}");
+            assert!(out == [7; OUT], "{rows:?}");
+        }
+        for (more, number) in [([0, BARRIER, 1, 0, 0, 7], 9), ([0, BARRIER, 0, 0, 0, 65_536], 10), ([2, WAIT, 0, 0, 0, 7], 21)] {
+            let numbers = [&numbers[..], &more].concat();
+            assert_eq!(write(&numbers, n + 1, 0, 3, &mut [7; OUT], 0), refused(number, n + 1), "{rows:?}");
+        }
+    }
+}
+
 /// The largest kind is written, and the number behind it gets 8.
 #[test]
 fn kinds_behind_the_last_are_unknown() {
-    for kind in [WAIT + 1, WAIT + 2, u32::MAX] {
-        let rows = [talks(&[(0, SEND, 7), (1, RECV, 7), (1, WAIT, 7)]), vec![1, kind, 0, 0, 0, 7]].concat();
+    for kind in [BARRIER + 1, BARRIER + 2, u32::MAX] {
+        let rows = [talks(&[(0, SEND, 7), (1, BARRIER, 7), (0, BARRIER, 7)]), vec![1, kind, 0, 0, 0, 7]].concat();
         let mut out = [7; OUT];
         assert_eq!(write(&rows, 4, 0, 2, &mut out, 0), refused(8, 4), "kind {kind}");
-        assert_eq!(write(&rows, 3, 0, 2, &mut out, 0), Written::Length(39), "kind {kind}");
+        assert_eq!(write(&rows, 3, 0, 2, &mut out, 0), Written::Length(45), "kind {kind}");
     }
 }
 
