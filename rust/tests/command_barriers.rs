@@ -216,7 +216,7 @@ fn rows_that_are_held_at_a_barrier_are_named() {
     let pair = Pair::new("barrier-stuck", b"0,barrier,,,,7\r\n0,sync,1,,,\r\n", b"1,open,1,,,\r\n2,barrier,,,,7\r\n");
     let first = "  taken:       1 row of a.csv, 2 rows of b.csv\n  first:       row 2 of a.csv: 0,sync,1,,,\n\
                  \x20              Process 0 stands at barrier 7 (row 1 of a.csv). Not arrived:\n\
-                 \x20              process 1 (no row of the two traces).\n  second:      b.csv is at its end.\n";
+                 \x20              process 1 (it arrives in neither trace).\n  second:      b.csv is at its end.\n";
     assert_eq!(refused_join(&pair, "20,0"), [STUCK, first].concat());
 
     // Each stands at a barrier where the other arrives next.
@@ -243,7 +243,7 @@ fn rows_that_are_held_at_a_barrier_are_named() {
     let twice = "  taken:       1 row of a.csv, 1 row of b.csv\n  first:       row 2 of a.csv: 0,wait,,,,9\n\
                  \x20              It waits for message 9, which no row of the two traces sends.\n\
                  \x20              Process 0 stands at barrier 7 (row 1 of a.csv). Not arrived:\n\
-                 \x20              process 1 (no row of the two traces).\n  second:      b.csv is at its end.\n";
+                 \x20              process 1 (it arrives in neither trace).\n  second:      b.csv is at its end.\n";
     assert_eq!(refused_join(&pair, "20,0"), [STUCK, twice].concat());
 }
 

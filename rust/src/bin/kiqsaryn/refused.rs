@@ -207,7 +207,7 @@ fn waiting_row(recordings: &[Recording; 2], turns: &Turns, label: &str, own: &Ow
     }
     if let Some((barrier, missing)) = turns.held(own.row) {
         let missing = listed(&missing, |p| match not_taken_row(recordings, turns, |r| is_arrival(r, p, barrier)) {
-            None => "no row of the two traces".to_string(),
+            None => "it arrives in neither trace".to_string(),
             Some((name, place)) => format!("{name}, {place}"),
         });
         let since = turns.taken.iter().rev().find(|o| o.row.process == process);
