@@ -11,8 +11,9 @@ use borrow.Author.Tests.{lt-ltb, le-ltb, ltb-true, le-leb, lt-leb, leb-true, ne-
 use Rattle.rows.specs.Refusals.{SHORT-SLICE, LIMITS, RANGE}
 use Rattle.rows.specs.Limits.{ROWS, PROCESSES}
 use Rattle.rows.specs.Rows.{rowsIn, rowIn}
-use Rattle.rows.specs.Questions.{longEnough, firstNo}
+use Rattle.rows.specs.Questions.{longEnough, isProcessLimit, firstNo}
 use Rattle.rows.proofs.Asking.{all-yes}
+use Rattle.rows.proofs.Limits.{limit-of, limit-told}
 use Rattle.happens_before.specs.Order.{countsOf}
 use Rattle.happens_before.specs.Filling.{countLimits, processesIn, fillQuestions, filledOf, filledLeft}
 use Rattle.happens_before.specs.declared.Filled.the-variants.{Done, Refused}
@@ -81,28 +82,23 @@ module _ (n P : ℕ) (xs : List ℕ) (L : ℕ) where
     many-rows h = out (rw (lt-leb n ROWS h))
 
     module _ (r : n ≤ ROWS) where
-      -- The process limit is 0.
-      pub no-processes : P < 1 → LIMITS ≡ first
-      no-processes h = out (rw (le-leb n ROWS r, lt-leb 1 P h))
+      -- The process limit is out of its range.
+      pub bad-processes : isProcessLimit P ≡ false → LIMITS ≡ first
+      bad-processes e = out (rw (le-leb n ROWS r, e))
 
-      module _ (o : 1 ≤ P) where
-        -- The process limit is above the largest.
-        pub many-processes : PROCESSES < P → LIMITS ≡ first
-        many-processes h = out (rw (le-leb n ROWS r, le-leb 1 P o, lt-leb P PROCESSES h))
+      module _ (p : isProcessLimit P ≡ true) where
+        -- After Yes to 1 and 2, question 10 decides.
+        third : first ≡ cond (processesIn n P xs) 0 RANGE
+        unfolding firstNo fillQuestions
+        third = rw (s, le-leb n ROWS r, p)
 
-        module _ (q : P ≤ PROCESSES) where
-          -- After Yes to 1 and 2, question 10 decides.
-          third : first ≡ cond (processesIn n P xs) 0 RANGE
-          unfolding firstNo fillQuestions
-          third = rw (s, le-leb n ROWS r, le-leb 1 P o, le-leb P PROCESSES q)
+        -- A process is not below the limit.
+        pub process-out : processesIn n P xs ≡ false → RANGE ≡ first
+        process-out e = sym (third ∙ rw e)
 
-          -- A process is not below the limit.
-          pub process-out : processesIn n P xs ≡ false → RANGE ≡ first
-          process-out e = sym (third ∙ rw e)
-
-          -- Every process is below the limit.
-          pub all-in : processesIn n P xs ≡ true → 0 ≡ first
-          all-in e = sym (third ∙ rw e)
+        -- Every process is below the limit.
+        pub all-in : processesIn n P xs ≡ true → 0 ≡ first
+        all-in e = sym (third ∙ rw e)
 
 -- ---- What follows from Yes to all three
 
@@ -121,14 +117,14 @@ unfolding fillQuestions
 asked n P xs L e =
     let yes = all-yes (fillQuestions n P xs L) (omega arith) e in
     let slices = and-out (leb (6 * n) (length xs)) (leb (n * P) L) (yes .0) in
-    let rows = and-out (leb n ROWS) (leb 1 P && leb P PROCESSES) (yes .1 .0) in
-    let processes = and-out (leb 1 P) (leb P PROCESSES) (rows .1) in
+    let rows = and-out (leb n ROWS) (isProcessLimit P) (yes .1 .0) in
+    let processes = limit-told P (rows .1) in
     record {
       rows-fit = leb-true _ _ (slices .0);
       counts-fit = leb-true _ _ (slices .1);
       few-rows = leb-true _ _ (rows .0);
-      some-processes = leb-true _ _ (processes .0);
-      few-processes = leb-true _ _ (processes .1);
+      some-processes = processes .0;
+      few-processes = processes .1;
       below = processes-told n P xs (yes .1 .1 .0);
     }
 
@@ -136,7 +132,7 @@ asked n P xs L e =
 pub all-asked : {n P : ℕ} {xs : List ℕ} {L : ℕ} → Asked n P xs L → first n P xs L ≡ 0
 all-asked {n} {P} {xs} {L} a =
     sym (all-in n P xs L (λ i. le-leb (6 * n) (length xs) (a .rows-fit) i && le-leb (n * P) L (a .counts-fit) i)
-    (a .few-rows) (a .some-processes) (a .few-processes) (processes-pass n P xs (a .below)))
+    (a .few-rows) (limit-of P (a .some-processes) (a .few-processes)) (processes-pass n P xs (a .below)))
 
 -- ---- What is answered and left
 

@@ -4,17 +4,17 @@ use mathlib.Core.Bool.{Bool, true, cond, _&&_}
 use mathlib.Core.List.{List, [], _∷_, _++_}
 use lib.ListN.{length, replicate}
 use lib.Dec.{leb, ltb, eqb}
-use Rattle.rows.specs.Limits.{ROWS, PROCESSES}
+use Rattle.rows.specs.Limits.{ROWS}
 use Rattle.rows.specs.Refusals.{SHORT-SLICE, LIMITS, RANGE}
 use Rattle.rows.specs.Rows.{rowsIn, rowIn}
-use Rattle.rows.specs.Questions.{longEnough, Question}
+use Rattle.rows.specs.Questions.{longEnough, isProcessLimit, Question}
 use Rattle.happens_before.specs.Order.{countsOf}
 use Rattle.happens_before.specs.declared.Filled.{Filled}
 use Rattle.happens_before.specs.declared.Filled.the-variants.{Done, Refused}
 
--- 2. Are there at most 4,096 rows, and is the process limit 1 to 64?
+-- 2. Are there at most 4,096 rows, and is the process limit within its range?
 abbrev pub countLimits : ℕ → ℕ → Bool
-countLimits n processLimit = leb n ROWS && (leb 1 processLimit && leb processLimit PROCESSES)
+countLimits n processLimit = leb n ROWS && isProcessLimit processLimit
 
 -- 10. Is the process of each of the first n rows below the limit?
 unfoldable pub processesIn : ℕ → ℕ → List ℕ → Bool

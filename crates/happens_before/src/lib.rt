@@ -55,10 +55,7 @@ fn ask_rows(rows: &[u32], n: u32, process_limit: u32, counts_len: usize) -> u32
     if rows::ROWS < n {
         return refusal::LIMITS;
     }
-    if process_limit < 1 {
-        return refusal::LIMITS;
-    }
-    if rows::PROCESSES < process_limit {
+    if !rows::is_process_limit(process_limit) {
         return refusal::LIMITS;
     }
     if !processes_in(rows, n as usize, process_limit) {

@@ -9,9 +9,10 @@ use lib.Dec.{leb, eqb}
 use borrow.Author.Tests.{eqb-true, le-leb, lt-ltb}
 use Rattle.csv.specs.Reading.{Records, records, recordsFrom, onFound, readAt, Ending, all-read, at-malformed, at-limit}
 use Rattle.rows.specs.declared.Row.{Row}
-use Rattle.rows.specs.Limits.{MODELS, ROWS, PROCESSES}
+use Rattle.rows.specs.Limits.{MODELS, ROWS}
 use Rattle.rows.specs.Questions.{firstNo, longEnough}
 use Rattle.rows.proofs.Asking.{none-no, none-appended}
+use Rattle.rows.proofs.Limits.{limit-of}
 use Rattle.messages.specs.Questions.{any}
 use Rattle.trace.specs.Rows.{rowOf}
 use Rattle.trace.specs.Questions.{Outcome, refused, accepted, inLimits, headerWord, recordQuestions, rowQuestions, fieldQuestions, messageQuestions, isHeader, judgeRows, judgeHeader, readRecords, readTrace, checkTrace}
@@ -136,8 +137,7 @@ join-alone text header model R P rl cl pl rows h e =
       lt-ltb model MODELS (l .known-model),
       le-leb 1 R (l .some-rows),
       le-leb R ROWS (l .few-rows),
-      le-leb 1 P (l .some-processes),
-      le-leb P PROCESSES (l .few-processes),
+      limit-of P (l .some-processes) (l .few-processes),
     ) in
     let words : headerWord header && headerWord 0 ≡ true = rw (le-leb header 1 (l .header-word)) in
     let all : firstNo (joinQuestions header 0 model R P rl cl pl) ≡ 0 =

@@ -9,6 +9,7 @@ use lib.Dec.{leb}
 use borrow.Author.Tests.{le-leb}
 use Rattle.rows.specs.Limits.{PROCESSES, ROWS}
 use Rattle.rows.specs.Questions.{firstNo}
+use Rattle.rows.proofs.Limits.{limit-of}
 use Rattle.trace.specs.Questions.{callQuestions}
 use Rattle.trace.proofs.Laws.{Legal, legal}
 use Rattle.trace.proofs.Asking as trace
@@ -35,7 +36,7 @@ module _ (header rowLimit processLimit rowsLength : ℕ) where
 
   -- Where the limits, the slice and the header word are within their ranges, every answer is Yes.
   pub all-asked : rowLimit * 6 ≤ rowsLength → 1 ≤ rowLimit → rowLimit ≤ ROWS → 1 ≤ processLimit → processLimit ≤ PROCESSES → header ≤ 1 → 0 ≡ firstOf
-  all-asked r o w p q h = trace.all-asked header 0 rowLimit processLimit rowsLength counts r enough (omega arith) o w p q h ∙ as-trace
+  all-asked r o w p q h = trace.all-asked header 0 rowLimit processLimit rowsLength counts r enough (omega arith) o w (limit-of processLimit p q) h ∙ as-trace
 
   module _ {k : ℕ} (e : k ≡ firstOf) where
     -- The number of a No is at most 3.

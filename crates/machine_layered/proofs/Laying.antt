@@ -14,14 +14,15 @@ use Rattle.rows.specs.Limits.{MODELS, PROCESSES, FILES, ROWS, OFFSET-MAX}
 use Rattle.rows.specs.Kinds.{READ, WRITE}
 use Rattle.models.specs.Table.{publishes, refreshes}
 use Rattle.rows.specs.declared.Row.{Row}
-use Rattle.rows.specs.Questions.{Question, firstNo}
+use Rattle.rows.specs.Questions.{Question, firstNo, isProcessLimit}
 use Rattle.extents_meaning.specs.Cells.{Bytes, cellOf, overwrite, published, asPublished, refreshed}
 use Rattle.extents_meaning.specs.Runs.{Run, runsOf, piecesOf}
 use Rattle.extents_meaning.specs.Maps.{mapFor, threes, bytesOf, lawful, lawfulPublished, mapAt, withMap, listedIn}
 use Rattle.rows.proofs.Bools.{and-out}
+use Rattle.rows.proofs.Limits.{limit-told}
 use Rattle.extents_meaning.proofs.Sides.{with-same}
 use Rattle.machine_meaning.specs.Layers.{Layers, afterRow, piecesRead}
-use Rattle.machine_meaning.specs.States.{Header, mapsLength, processLimit, lawfulState, layersIn, layersTo, layersFit, plainFits}
+use Rattle.machine_meaning.specs.States.{Header, mapsLength, lawfulState, layersIn, layersTo, layersFit, plainFits}
 use Rattle.rows.specs.Counting.{allBelow}
 use Rattle.machine_meaning.specs.Steps.{StepAnswer, done, listed, rowAsked, roomAsked, answered, decided, stepOf}
 use Rattle.machine_meaning.proofs.Slices.{Alike, alike-fit, alike-to}
@@ -44,10 +45,9 @@ pub next-in : (size n len p : ℕ) → (n + 1) * size ≤ len → p < n → (p +
 next-in size n len p h l = let m : p + 1 + 1 ≤ n + 1 = omega arith in omega (arith, mul-le-mul-right size m)
 
 -- The space of all maps is a number of 64 bits.
-pub limit-fits : (space n : ℕ) → space < 4294967296 → processLimit n ≡ true → space * (n + 1) < 18446744073709551616
+pub limit-fits : (space n : ℕ) → space < 4294967296 → isProcessLimit n ≡ true → space * (n + 1) < 18446744073709551616
 limit-fits space n h e =
-    let b = and-out (leb 1 n) (leb n PROCESSES) e in
-    let m : n + 1 ≤ 65 = omega (arith, leb-true n PROCESSES (b .1)) in
+    let m : n + 1 ≤ PROCESSES + 1 = omega (arith, limit-told n e .1) in
     omega (arith, mul-le-mul-left space m)
 
 -- The answer for the lent part of the slice is the answer for the map.
@@ -70,11 +70,11 @@ module _ (h : Header) (xs : List ℕ) where
 
   module _ (a : h .model < MODELS) where
     -- No process limit: the state is not lawful.
-    pub no-limit : processLimit (h .processes) ≡ false → false ≡ lawfulState h xs
+    pub no-limit : isProcessLimit (h .processes) ≡ false → false ≡ lawfulState h xs
     unfolding lawfulState
     no-limit b = sym (λ i. lt-ltb (h .model) MODELS a i && (b i && (ltb (h .file) FILES && (leb (mapsLength h) (length xs) && mapsLaw))))
 
-    module _ (b : processLimit (h .processes) ≡ true) where
+    module _ (b : isProcessLimit (h .processes) ≡ true) where
       -- A file past the files: the state is not lawful.
       pub no-file : FILES ≤ h .file → false ≡ lawfulState h xs
       unfolding lawfulState

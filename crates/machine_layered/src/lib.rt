@@ -30,7 +30,7 @@ pub fn is_state(machine: Machine, maps: &[u32]) -> bool
     if Machine::MODELS <= model {
         return false;
     }
-    if !machine_state::is_process_limit(limit) {
+    if !rows::is_process_limit(limit) {
         return false;
     }
     if Machine::FILES <= file {
@@ -77,7 +77,7 @@ pub fn make(machine: Machine, maps: &mut [u32]) -> Made
     if Machine::MODELS <= model {
         return Made::Refused(refusal::LIMITS);
     }
-    if !machine_state::is_process_limit(limit) {
+    if !rows::is_process_limit(limit) {
         return Made::Refused(refusal::LIMITS);
     }
     if Machine::FILES <= file {

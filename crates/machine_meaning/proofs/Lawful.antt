@@ -12,13 +12,14 @@ use lib.Dec.{leb, ltb}
 use borrow.Author.Tests.{leb-true}
 use Rattle.rows.specs.Limits.{MODELS, FILES}
 use Rattle.rows.specs.Counting.{blocks, allBelow}
+use Rattle.rows.specs.Questions.{isProcessLimit}
 use Rattle.extents_meaning.specs.Runs.{Run, runsOf}
 use Rattle.extents_meaning.specs.Maps.{mapOf, runs, spaceIn, bytesOf, lawful, lawfulPublished}
 use Rattle.extents_meaning.proofs.Longest.{runs-back}
 use Rattle.extents_meaning.proofs.Trips.{lawful-map}
 use Rattle.rows.proofs.Bools.{and-out}
 use Rattle.machine_meaning.specs.Layers.{Layers}
-use Rattle.machine_meaning.specs.States.{Header, mapAt, mapFor, mapsLength, processLimit, lawfulState, layersIn, layersTo}
+use Rattle.machine_meaning.specs.States.{Header, mapAt, mapFor, mapsLength, lawfulState, layersIn, layersTo}
 use Rattle.machine_meaning.proofs.Slices.{all-out, blocks-same}
 
 -- ---- Maps of a slice
@@ -74,13 +75,13 @@ module _ (space k : ℕ) (xs : List ℕ) (law : lawful (mapAt space k xs) ≡ tr
 
 module _ (h : Header) (xs : List ℕ) (law : lawfulState h xs ≡ true) where
   -- A lawful state passes every test: model, process limit, file, slice, published map and views.
-  pub state-told : (ltb (h .model) MODELS ≡ true) × (processLimit (h .processes) ≡ true) × (ltb (h .file) FILES ≡ true)
+  pub state-told : (ltb (h .model) MODELS ≡ true) × (isProcessLimit (h .processes) ≡ true) × (ltb (h .file) FILES ≡ true)
       × (leb (mapsLength h) (length xs) ≡ true) × (lawfulPublished (mapAt (h .space) 0 xs) ≡ true)
       × (allBelow (h .processes) (λ p. lawful (mapAt (h .space) (suc p) xs)) ≡ true)
   unfolding lawfulState
   state-told =
       let e1 = and-out (ltb (h .model) MODELS) _ law in
-      let e2 = and-out (processLimit (h .processes)) _ (e1 .1) in
+      let e2 = and-out (isProcessLimit (h .processes)) _ (e1 .1) in
       let e3 = and-out (ltb (h .file) FILES) _ (e2 .1) in
       let e4 = and-out (leb (mapsLength h) (length xs)) _ (e3 .1) in
       let e5 = and-out (lawfulPublished (mapAt (h .space) 0 xs)) _ (e4 .1) in

@@ -17,8 +17,9 @@ use Rattle.extents_meaning.specs.Runs.{Run}
 use Rattle.extents_meaning.specs.Maps.{lawful, lawfulPublished}
 use Rattle.rows.proofs.Bools.{and-out}
 use Rattle.machine_meaning.specs.Layers.{Layers, withView, written, publishing, refreshing, afterRow, afterPlain, piecesRead}
-use Rattle.machine_meaning.specs.States.{Header, mapAt, mapsLength, processLimit, lawfulState, layersIn, layersTo, layersFit, lawfulPlain, plainIn, plainTo, plainFits}
+use Rattle.machine_meaning.specs.States.{Header, mapAt, mapsLength, lawfulState, layersIn, layersTo, layersFit, lawfulPlain, plainIn, plainTo, plainFits}
 use Rattle.rows.specs.Counting.{allBelow}
+use Rattle.rows.specs.Questions.{isProcessLimit}
 use Rattle.machine_meaning.specs.Steps.{makingQuestions, plainMakingQuestions, rowAsked, Step, answered, decided, stepOf, plainStepOf}
 use Rattle.machine_meaning.proofs.Slices.{all-in, held-lawful, held-published, LayersHeld, Alike, alike-fit, alike-to, to-length, to-again, to-shared, to-view, to-in, PlainHeld, plain-first, plain-length, plain-again, plain-in}
 
@@ -86,7 +87,7 @@ module _ (h : Header) {s : Layers} (held : LayersHeld h s) (xs : List ℕ) (maki
   pub to-lawful : lawfulState h (layersTo h s xs) ≡ true
   unfolding lawfulState makingQuestions
   to-lawful =
-      let limits = and-out (ltb (h .model) MODELS) (processLimit (h .processes)) (making .1 .0) in
+      let limits = and-out (ltb (h .model) MODELS) (isProcessLimit (h .processes)) (making .1 .0) in
       let room : leb (mapsLength h) (length (layersTo h s xs)) ≡ true =
       ap (leb (mapsLength h)) (to-length h held xs (leb-true _ _ (making .0))) ∙ making .0 in
       let first : lawfulPublished (mapAt (h .space) 0 (layersTo h s xs)) ≡ true =

@@ -4,8 +4,9 @@ use mathlib.Core.Bool.{Bool, true, _&&_}
 use mathlib.Core.List.{List, _++_}
 use lib.ListN.{length, drop}
 use lib.Dec.{leb, ltb}
-use Rattle.rows.specs.Limits.{MODELS, PROCESSES, FILES}
+use Rattle.rows.specs.Limits.{MODELS, FILES}
 use Rattle.rows.specs.Counting.{blocks, allBelow}
+use Rattle.rows.specs.Questions.{isProcessLimit}
 use Rattle.extents_meaning.specs.Cells.{Bytes}
 use Rattle.extents_meaning.specs.Runs.{runsOf}
 pub use Rattle.extents_meaning.specs.Maps.{mapFor, mapAt}
@@ -27,15 +28,11 @@ mapsLength h = 4 * h .space * (h .processes + 1)
 
 -- ---- Machines
 
--- A process limit is 1 to 64.
-abbrev pub processLimit : ℕ → Bool
-processLimit n = leb 1 n && leb n PROCESSES
-
 -- Is the state one with model, process limit, file and slice as for making, and lawful runs in its maps?
 unfoldable pub lawfulState : Header → List ℕ → Bool
 lawfulState h xs =
     ltb (h .model) MODELS
-    && (processLimit (h .processes)
+    && (isProcessLimit (h .processes)
     && (ltb (h .file) FILES
     && (leb (mapsLength h) (length xs)
     && (lawfulPublished (mapAt (h .space) 0 xs) && allBelow (h .processes) (λ p. lawful (mapAt (h .space) (suc p) xs))))))
@@ -63,7 +60,7 @@ layersFit h s =
 -- Is the plain file one with process limit, file and slice as for making, and lawful runs without marks in its map?
 unfoldable pub lawfulPlain : Header → List ℕ → Bool
 lawfulPlain h xs =
-    processLimit (h .processes)
+    isProcessLimit (h .processes)
     && (ltb (h .file) FILES && (leb (4 * h .space) (length xs) && lawfulPublished (mapAt (h .space) 0 xs)))
 
 -- The bytes that the map of a slice encodes.

@@ -7,12 +7,12 @@ use lib.Dec.{leb, ltb, eqb}
 use Rattle.rows.specs.Limits.{MODELS, ROWS, FILES, OFFSET-MAX}
 use Rattle.rows.specs.Kinds.{READ, WRITE}
 use Rattle.rows.specs.declared.Row.{Row}
-use Rattle.rows.specs.Questions.{Question, firstNo}
+use Rattle.rows.specs.Questions.{Question, firstNo, isProcessLimit}
 use Rattle.extents_meaning.specs.Cells.{Bytes}
 use Rattle.extents_meaning.specs.Runs.{Run}
 use Rattle.extents_meaning.specs.Maps.{threes}
 use Rattle.machine_meaning.specs.Layers.{Layers, afterRow, afterPlain, piecesRead, ofFile}
-use Rattle.machine_meaning.specs.States.{Header, mapsLength, processLimit, lawfulState, layersIn, layersTo, layersFit, lawfulPlain, plainIn, plainTo, plainFits}
+use Rattle.machine_meaning.specs.States.{Header, mapsLength, lawfulState, layersIn, layersTo, layersFit, lawfulPlain, plainIn, plainTo, plainFits}
 
 -- ---- Making
 
@@ -20,14 +20,14 @@ use Rattle.machine_meaning.specs.States.{Header, mapsLength, processLimi
 unfoldable pub makingQuestions : Header → ℕ → List Question
 makingQuestions h sliceLength =
     record { number = 1; yes = leb (mapsLength h) sliceLength }
-    ∷ (record { number = 2; yes = ltb (h .model) MODELS && processLimit (h .processes) }
+    ∷ (record { number = 2; yes = ltb (h .model) MODELS && isProcessLimit (h .processes) }
     ∷ (record { number = 10; yes = ltb (h .file) FILES } ∷ []))
 
 -- Making a plain file asks 1, 2 and 10: the slice, the process limit, the file.
 unfoldable pub plainMakingQuestions : Header → ℕ → List Question
 plainMakingQuestions h sliceLength =
     record { number = 1; yes = leb (4 * h .space) sliceLength }
-    ∷ (record { number = 2; yes = processLimit (h .processes) } ∷ (record { number = 10; yes = ltb (h .file) FILES } ∷ []))
+    ∷ (record { number = 2; yes = isProcessLimit (h .processes) } ∷ (record { number = 10; yes = ltb (h .file) FILES } ∷ []))
 
 -- Making leaves 0 everywhere in the maps. A refusal changes nothing.
 abbrev pub madeTo : ℕ → ℕ → List ℕ → List ℕ

@@ -11,13 +11,13 @@ use borrow.Author.Tests.{le-leb, lt-leb, leb-true, lt-ltb, le-ltb, ne-eqb}
 use Rattle.rows.specs.Limits.{ROWS, FILES, OFFSET-MAX}
 use Rattle.rows.specs.Kinds.{READ, WRITE}
 use Rattle.rows.specs.declared.Row.{Row}
-use Rattle.rows.specs.Questions.{firstNo}
+use Rattle.rows.specs.Questions.{firstNo, isProcessLimit}
 use Rattle.extents_meaning.specs.Cells.{Bytes, cellOf, overwrite}
 use Rattle.extents_meaning.specs.Runs.{Run, runsOf, piecesOf}
 use Rattle.extents_meaning.specs.Maps.{mapFor, threes, spaceIn, bytesOf, lawful, lawfulPublished, mapAt, listedIn}
 use Rattle.rows.proofs.Bools.{and-out}
 use Rattle.machine_meaning.specs.Layers.{afterPlain, piecesRead}
-use Rattle.machine_meaning.specs.States.{Header, processLimit, lawfulPlain, plainIn, plainTo, plainFits}
+use Rattle.machine_meaning.specs.States.{Header, lawfulPlain, plainIn, plainTo, plainFits}
 use Rattle.machine_meaning.specs.Steps.{StepAnswer, done, listed, plainMakingQuestions, rowAsked, roomAsked, plainStepOf}
 use Rattle.machine_meaning.proofs.Lawful.{here-fit, here-again}
 use Rattle.rows.proofs.Asking.{AllYes, first-no, yes-behind}
@@ -33,11 +33,11 @@ use Rattle.machine_state.proofs.Answering.{same-kept, kept-append, carried, ref
 
 module _ (h : Header) (xs : List ℕ) where
   -- No process limit: the plain file is not lawful.
-  pub no-limit : processLimit (h .processes) ≡ false → false ≡ lawfulPlain h xs
+  pub no-limit : isProcessLimit (h .processes) ≡ false → false ≡ lawfulPlain h xs
   unfolding lawfulPlain
   no-limit e = rw e
 
-  module _ (limit : processLimit (h .processes) ≡ true) where
+  module _ (limit : isProcessLimit (h .processes) ≡ true) where
     -- A file past the files: the plain file is not lawful.
     pub no-file : FILES ≤ h .file → false ≡ lawfulPlain h xs
     unfolding lawfulPlain

@@ -23,7 +23,7 @@ pub fn is_plain(plain: Machine, map: &[u32]) -> bool
     let limit = plain.process_limit;
     let file = plain.file;
     let space = plain.map_space as usize;
-    if !machine_state::is_process_limit(limit) {
+    if !rows::is_process_limit(limit) {
         return false;
     }
     if Machine::FILES <= file {
@@ -47,7 +47,7 @@ pub fn make(plain: Machine, map: &mut [u32]) -> Made
     if map.len() / 4 < space {
         return Made::Refused(refusal::SHORT_SLICE);
     }
-    if !machine_state::is_process_limit(limit) {
+    if !rows::is_process_limit(limit) {
         return Made::Refused(refusal::LIMITS);
     }
     if Machine::FILES <= file {

@@ -8,8 +8,8 @@ use lib.ListN.{length, drop, replicate}
 use lib.Dec.{leb, ltb}
 use borrow.Author.Tests.{le-leb, lt-leb, lt-ltb, le-ltb, ne-eqb}
 use Rattle.rows.specs.Limits.{MODELS, FILES}
-use Rattle.rows.specs.Questions.{firstNo}
-use Rattle.machine_meaning.specs.States.{Header, mapsLength, processLimit}
+use Rattle.rows.specs.Questions.{firstNo, isProcessLimit}
+use Rattle.machine_meaning.specs.States.{Header, mapsLength}
 use Rattle.machine_meaning.specs.Steps.{makingQuestions, plainMakingQuestions, madeTo}
 use Rattle.machine_state.specs.Makes.{madeOf}
 use Rattle.machine_state.specs.declared.Made.the-variants.{Made, Refused}
@@ -20,13 +20,13 @@ pub record Making (size : ℕ) (limits : Bool) (file answer : ℕ) (xs : List �
 
 -- Making the layered file asks for every map, and its limits are those of the model and of the processes.
 pub making-layered : (h : Header) (xs : List ℕ) →
-    Making (mapsLength h) (ltb (h .model) MODELS && processLimit (h .processes)) (h .file) (firstNo (makingQuestions h (length xs))) xs
+    Making (mapsLength h) (ltb (h .model) MODELS && isProcessLimit (h .processes)) (h .file) (firstNo (makingQuestions h (length xs))) xs
 unfolding makingQuestions firstNo
 making-layered h xs = record { asks = refl }
 
 -- Making the plain file asks for one map, and its limit is that of the processes.
 pub making-plain : (h : Header) (xs : List ℕ) →
-    Making (4 * h .space) (processLimit (h .processes)) (h .file) (firstNo (plainMakingQuestions h (length xs))) xs
+    Making (4 * h .space) (isProcessLimit (h .processes)) (h .file) (firstNo (plainMakingQuestions h (length xs))) xs
 unfolding plainMakingQuestions firstNo
 making-plain h xs = record { asks = refl }
 
@@ -68,13 +68,13 @@ module _ {size : ℕ} {limits : Bool} {file answer : ℕ} {xs : List ℕ} (m : M
 
 module _ (h : Header) where
   -- A model past the models is past the limits.
-  pub model-past : MODELS ≤ h .model → ltb (h .model) MODELS && processLimit (h .processes) ≡ false
+  pub model-past : MODELS ≤ h .model → ltb (h .model) MODELS && isProcessLimit (h .processes) ≡ false
   model-past l = rw (le-ltb (h .model) MODELS l)
 
   -- A number of processes that is no process limit is past the limits.
-  pub processes-past : processLimit (h .processes) ≡ false → ltb (h .model) MODELS && processLimit (h .processes) ≡ false
+  pub processes-past : isProcessLimit (h .processes) ≡ false → ltb (h .model) MODELS && isProcessLimit (h .processes) ≡ false
   processes-past e = rw (e, and-false)
 
   -- A model and a process limit are within the limits.
-  pub within-limits : h .model < MODELS → processLimit (h .processes) ≡ true → ltb (h .model) MODELS && processLimit (h .processes) ≡ true
+  pub within-limits : h .model < MODELS → isProcessLimit (h .processes) ≡ true → ltb (h .model) MODELS && isProcessLimit (h .processes) ≡ true
   within-limits l e = rw (lt-ltb (h .model) MODELS l, e)

@@ -20,8 +20,9 @@ use Rattle.extents_meaning.specs.Cells.{Bytes, cellOf, overwrite, published, as
 use Rattle.extents_meaning.specs.Runs.{runsOf}
 use Rattle.extents_meaning.specs.Maps.{mapFor, lawful, lawfulPublished, mapAt, withMap}
 use Rattle.machine_meaning.specs.Layers.{Layers, withView, publishing, refreshing, afterRow}
-use Rattle.machine_meaning.specs.States.{Header, mapsLength, processLimit, lawfulState, layersIn, layersTo, layersFit, lawfulPlain}
+use Rattle.machine_meaning.specs.States.{Header, mapsLength, lawfulState, layersIn, layersTo, layersFit, lawfulPlain}
 use Rattle.rows.specs.Counting.{allBelow}
+use Rattle.rows.specs.Questions.{isProcessLimit}
 use Rattle.machine_meaning.specs.Steps.{makingQuestions, plainMakingQuestions}
 use Rattle.rows.proofs.Asking.{AllYes}
 use Rattle.machine_meaning.proofs.Slices.{all-in, all-out}
@@ -88,7 +89,7 @@ module _ (h : Header) (xs : List ℕ) where
   pub plain-making : lawfulPlain h xs ≡ true → AllYes (plainMakingQuestions h (length xs)) × (lawfulPublished (mapAt (h .space) 0 xs) ≡ true)
   unfolding lawfulPlain plainMakingQuestions
   plain-making law =
-      let e1 = and-out (processLimit (h .processes)) _ law in
+      let e1 = and-out (isProcessLimit (h .processes)) _ law in
       let e2 = and-out (ltb (h .file) FILES) _ (e1 .1) in
       let e3 = and-out (leb (4 * h .space) (length xs)) _ (e2 .1) in
       ((e3 .0, (e1 .0, (e2 .0, tt))), e3 .1)

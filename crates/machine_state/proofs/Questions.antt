@@ -12,21 +12,13 @@ use Rattle.rows.specs.declared.Row.{Row}
 use Rattle.rows.specs.Questions.{firstNo}
 use Rattle.extents_meaning.specs.Runs.{Run}
 use Rattle.machine_meaning.specs.Layers.{ofFile}
-use Rattle.machine_meaning.specs.States.{Header, processLimit}
+use Rattle.machine_meaning.specs.States.{Header}
 use Rattle.machine_meaning.specs.Steps.{usesRange, rowAsked, roomAsked}
 use Rattle.rows.proofs.Asking.{From, AllYes, all-yes, first-no, rest-decides}
 use Rattle.rows.proofs.Bools.{and-out}
 use Rattle.machine_state.specs.Answers.{fileAsked, rangeAsked}
 
 -- ---- Limits and slices
-
--- A process limit is 1 or more.
-pub limit-low : (n : ℕ) → n < 1 → false ≡ processLimit n
-limit-low n h = sym (λ i. lt-leb 1 n h i && leb n 64)
-
--- A process limit is at most 64.
-pub limit-high : (n : ℕ) → 1 ≤ n → leb n 64 ≡ processLimit n
-limit-high n h = sym (λ i. le-leb 1 n h i && leb n 64)
 
 module _ (n rows counts : ℕ) where
   -- The rows do not fit.

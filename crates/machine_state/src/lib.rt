@@ -8,7 +8,6 @@ ghost use lib.Dec.{leb};
 ghost use Rattle.rows.specs.Questions.{firstNo};
 ghost use Rattle.rows.specs.Rows.{rowIn};
 ghost use Rattle.machine_meaning.specs.Layers.{ofFile};
-ghost use Rattle.machine_meaning.specs.States.{processLimit};
 ghost use Rattle.machine_meaning.specs.Steps.{rowAsked};
 ghost use Rattle.machine_state.specs.Answers.{headerOf, fileAsked, rangeAsked, refusalOf, countOf};
 use extents::Answer;
@@ -27,6 +26,7 @@ pub struct Machine {
 impl Machine {
     pub const MODELS: u32 = rows::MODELS;
 
+    // `rows::is_process_limit` asks it.
     pub const PROCESSES: u32 = rows::PROCESSES;
 
     pub const FILES: u32 = rows::FILES;
@@ -44,16 +44,6 @@ impl Machine {
             map_space: map_space,
         }
     }
-}
-
-// Whether the number is a process limit: 1 to 64.
-pub fn is_process_limit(n: u32) -> bool
-    ensures { λ r. ⌜ r ≡ processLimit n ⌝ }
-{
-    if n < 1 {
-        return false;
-    }
-    n <= Machine::PROCESSES
 }
 
 // The first No of the questions 15, 14, 10 and 11, and 0 where there is none. The kind decides which fields are used.

@@ -8,11 +8,11 @@ use mathlib.Core.List.{List, _++_}
 use lib.ListN.{length, replicate}
 use lib.Dec.{leb, ltb}
 use borrow.Author.Tests.{leb-true, ltb-true, lt-ltb, le-ltb, ne-eqb}
-use Rattle.rows.specs.Limits.{MODELS, PROCESSES, ROWS}
+use Rattle.rows.specs.Limits.{MODELS, ROWS}
 use Rattle.rows.specs.Refusals.{SHORT-SLICE, LIMITS}
 use Rattle.rows.specs.declared.Row.{Row}
 use Rattle.rows.specs.Rows.{rowsIn, rowAt}
-use Rattle.rows.specs.Questions.{longEnough, firstNo}
+use Rattle.rows.specs.Questions.{longEnough, isProcessLimit, firstNo}
 use Rattle.rows.proofs.Asking.{all-yes}
 use Rattle.happens_before.specs.declared.Filled.{Filled}
 use Rattle.happens_before.specs.declared.Filled.the-variants as filled
@@ -94,7 +94,7 @@ module _ (n P model : ℕ) (xs : List ℕ) where
   few-judged L e =
       let yes = all-yes (judgeQuestions n P model xs L) (omega arith) e in
       let limits = and-out (ltb model MODELS) (countLimits n P) (yes .1 .0) .1 in
-      leb-true n ROWS (and-out (leb n ROWS) (leb 1 P && leb P PROCESSES) limits .0)
+      leb-true n ROWS (and-out (leb n ROWS) (isProcessLimit P) limits .0)
 
   module _ (counts : List ℕ) where
     abbrev first : ℕ

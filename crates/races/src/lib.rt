@@ -20,7 +20,7 @@ use rows::refusal;
 ghost use Rattle.rows.specs.Limits.{PROCESSES, FIELDS};
 
 // One noted row for each process.
-const NOTES: usize = 64;
+const NOTES: usize = rows::PROCESSES as usize;
 
 // Free, the numbers of the earlier and the later row of the first race, or the number of the question that was answered No.
 pub enum Found {

@@ -1,4 +1,5 @@
 pub mod Bools
+pub mod Limits
 pub mod Zeros
 pub mod Below
 pub mod Lasts

@@ -5,6 +5,7 @@ pub mod refusal;
 ghost use mathlib.Core.Path.{_≡_};
 ghost use lib.ListN.{length, getD, replicate};
 ghost use Rattle.rows.specs.Rows.{rowIn, withRow};
+ghost use Rattle.rows.specs.Questions.{isProcessLimit};
 
 // Models are numbered from 0.
 pub const MODELS: u32 = 4;
@@ -70,6 +71,16 @@ pub struct Row {
     pub offset: u32,
     pub length: u32,
     pub message: u32,
+}
+
+// Answers whether the number is a process limit: 1 to PROCESSES.
+pub fn is_process_limit(n: u32) -> bool
+    ensures { λ r. ⌜ r ≡ isProcessLimit n ⌝ }
+{
+    if n < 1 {
+        return false;
+    }
+    n <= PROCESSES
 }
 
 // Answers the number at an index, and 0 past the end.

@@ -18,6 +18,7 @@ use Rattle.rows.specs.declared.Row.{Row}
 use Rattle.trace.specs.Rows.{headerNames, sameFields, rowOf}
 use Rattle.trace.specs.Questions.{inRowLimit, sixFields, kindKnown, filledAsUsed, numbersInRange, endInRange, messageQuestions, fieldQuestions, recordQuestions, rowQuestions, isHeader, Outcome, refused, accepted, judgeRows, judgeHeader, readRecords, readTrace, checkTrace}
 use Rattle.rows.specs.Questions.{firstNo}
+use Rattle.rows.proofs.Limits.{limit-of}
 use Rattle.barriers.proofs.Kept.{Kept, kept-iff}
 use Rattle.trace.proofs.Barriers.{asked-yes, accepted-records}
 use Rattle.trace.proofs.Laws.{Legal, accepted-passed}
@@ -240,7 +241,7 @@ accepted-iff text word model rowLimit processLimit byteLimit rowsLength countsLe
   λ a. let l = a .call in
       let no-no =
       all-asked word model rowLimit processLimit rowsLength countsLength (omega (arith, l .rows-fit)) (l .counts-fit) (l .known-model) (l .some-rows)
-      (l .few-rows) (l .some-processes) (l .few-processes) (l .header-word) in
+      (l .few-rows) (limit-of processLimit (l .some-processes) (l .few-processes)) (l .header-word) in
       rw (← no-no, all-read-iff text byteLimit (a .all-records) .1 (a .in-byte-limit, a .derived))
       (asked-yes (all-from rowLimit processLimit (a .header-right) (a .all-pass) ∙ ap accepted (sym (a .its-rows))) (kept-iff rows .1 (a .barriers-kept))),
 )

@@ -11,14 +11,14 @@ use borrow.Author.Tests.{lt-ltb, le-ltb, le-leb, lt-leb, eq-eqb, ne-eqb, eqb-tru
 use Rattle.csv_field.specs.FieldReading.{noSpan}
 use Rattle.csv_content.specs.Content.{contentOf, sameBytes}
 use Rattle.csv_field.specs.declared.Span.{Span}
-use Rattle.rows.specs.Limits.{MODELS, PROCESSES, ROWS}
+use Rattle.rows.specs.Limits.{MODELS, ROWS}
 use Rattle.rows.specs.declared.Row.{Row}
 use Rattle.trace_numbers.specs.declared.ReadRow.{ReadRow}
 use Rattle.trace_numbers.specs.declared.ReadRow.the-variants.{Kept, No}
 use Rattle.trace.specs.Rows.{headerNames, sameFields, rowOf}
 use Rattle.trace.specs.Questions.{inLimits, callQuestions, fieldQuestions, recordQuestions}
 use Rattle.messages.specs.Table.{tableQuestions, tableAfter}
-use Rattle.rows.specs.Questions.{Question, firstNo}
+use Rattle.rows.specs.Questions.{Question, firstNo, isProcessLimit}
 use Rattle.rows.proofs.Asking.{From, first-no, rest-decides}
 use Rattle.trace.specs.Reads.{fieldsOf, judgedBy, judgedFields, judgedRow, tableLeft, headed}
 
@@ -64,31 +64,26 @@ module _ (header model rowLimit processLimit rowsLength countsLength : ℕ) wher
           many-rows h = out (rw (lt-ltb model MODELS m, le-leb 1 rowLimit o, lt-leb rowLimit ROWS h))
 
           module _ (w : rowLimit ≤ ROWS) where
-            -- 2: the process limit is 0
-            pub no-processes : processLimit < 1 → 2 ≡ first
-            no-processes h = out (rw (lt-ltb model MODELS m, le-leb 1 rowLimit o, le-leb rowLimit ROWS w, lt-leb 1 processLimit h))
+            within : inLimits model rowLimit processLimit ≡ isProcessLimit processLimit
+            within = rw (lt-ltb model MODELS m, le-leb 1 rowLimit o, le-leb rowLimit ROWS w)
 
-            module _ (p : 1 ≤ processLimit) where
-              within : inLimits model rowLimit processLimit ≡ leb processLimit PROCESSES
-              within = rw (lt-ltb model MODELS m, le-leb 1 rowLimit o, le-leb rowLimit ROWS w, le-leb 1 processLimit p)
+            -- 2: the process limit is out of its range
+            pub bad-processes : isProcessLimit processLimit ≡ false → 2 ≡ first
+            bad-processes e = out (within ∙ e)
 
-              -- 2: the process limit is too large
-              pub many-processes : PROCESSES < processLimit → 2 ≡ first
-              many-processes h = out (within ∙ lt-leb processLimit PROCESSES h)
+            module _ (p : isProcessLimit processLimit ≡ true) where
+              -- 1 and 2 have Yes, and 3 decides
+              third : first ≡ cond (leb header 1) 0 3
+              unfolding firstNo callQuestions
+              third = rw (long-rows, le-leb (rowLimit * processLimit) countsLength k, within, p)
 
-              module _ (q : processLimit ≤ PROCESSES) where
-                -- 1 and 2 have Yes, and 3 decides
-                third : first ≡ cond (leb header 1) 0 3
-                unfolding firstNo callQuestions
-                third = rw (long-rows, le-leb (rowLimit * processLimit) countsLength k, within, le-leb processLimit PROCESSES q)
+              -- 3: the header word is neither 0 nor 1
+              pub bad-header : 1 < header → 3 ≡ first
+              bad-header h = sym (third ∙ rw (lt-leb header 1 h))
 
-                -- 3: the header word is neither 0 nor 1
-                pub bad-header : 1 < header → 3 ≡ first
-                bad-header h = sym (third ∙ rw (lt-leb header 1 h))
-
-                -- every answer is Yes
-                pub all-asked : header ≤ 1 → 0 ≡ first
-                all-asked h = sym (third ∙ rw (le-leb header 1 h))
+              -- every answer is Yes
+              pub all-asked : header ≤ 1 → 0 ≡ first
+              all-asked h = sym (third ∙ rw (le-leb header 1 h))
 
 -- ---- The header
 

@@ -17,6 +17,7 @@ use Rattle.trace.specs.Questions.{callQuestions, isHeader, kindKnown, as
 use Rattle.rows.specs.Questions.{firstNo}
 use Rattle.rows.specs.Refusals.{BARRIER-ORDER}
 use Rattle.rows.proofs.Bools.{and-out}
+use Rattle.rows.proofs.Limits.{limit-told}
 use Rattle.rows.proofs.Asking.{no-from, all-yes, none-appended}
 use Rattle.barriers.specs.Barriers.{barrierPlace}
 use Rattle.barriers.proofs.Kept.{Kept, kept}
@@ -273,14 +274,14 @@ legal header model rowLimit processLimit rowsLength countsLength e =
     let model-in = and-out _ _ (yes .1 .0) in
     let rows-in = and-out _ _ (model-in .1) in
     let rows-up = and-out _ _ (rows-in .1) in
-    let processes = and-out _ _ (rows-up .1) in
+    let processes = limit-told processLimit (rows-up .1) in
     record {
       rows-fit = leb-true _ _ (slices .0);
       counts-fit = leb-true _ _ (slices .1);
       some-rows = leb-true _ _ (rows-in .0);
       few-rows = leb-true _ _ (rows-up .0);
-      some-processes = leb-true _ _ (processes .0);
-      few-processes = leb-true _ _ (processes .1);
+      some-processes = processes .0;
+      few-processes = processes .1;
       known-model = ltb-true _ _ (model-in .0);
       header-word = leb-true _ _ (yes .1 .1 .0);
     }

@@ -8,7 +8,7 @@ use mathlib.Core.Path.{_≡_}
 use lib.ListN.{length, drop, replicate}
 use lib.Dec.{leb, ltb, eqb}
 use Rattle.csv.specs.Reading.{records, Records, Ending, all-read, at-malformed, at-limit}
-use Rattle.rows.specs.Limits.{MODELS, PROCESSES, ROWS}
+use Rattle.rows.specs.Limits.{MODELS, ROWS}
 use Rattle.rows.specs.declared.Row.{Row}
 use Rattle.trace.specs.declared.Checked.{Checked}
 use Rattle.trace.specs.declared.Checked.the-variants.{Accepted, Refused}
@@ -19,16 +19,16 @@ unfoldable pub use Rattle.messages.specs.Questions.{any, messageInOrder, waitIn
 pub use Rattle.trace_numbers.specs.Numbers.{numberIf, OFFSETS}
 pub use Rattle.trace_fields.specs.Questions.{kindKnown, asUsed, endInRange}
 unfoldable pub use Rattle.trace_fields.specs.Questions.{filledAsUsed, numbersInRange, fieldQuestions}
-use Rattle.rows.specs.Questions.{Question, firstNo, longEnough}
+use Rattle.rows.specs.Questions.{Question, firstNo, longEnough, isProcessLimit}
 use Rattle.rows.specs.Refusals.{BARRIER-ORDER}
 use Rattle.barriers.specs.Barriers.{barrierPlace}
 
 -- ---- The questions of the caller's numbers and slices
 
--- 2. Are model 0 to 3, row limit 1 to 4,096, process limit 1 to 64?
+-- 2. Are model 0 to 3, row limit 1 to 4,096, and the process limit within its range?
 abbrev pub inLimits : ℕ → ℕ → ℕ → Bool
 inLimits model rowLimit processLimit =
-    ltb model MODELS && (leb 1 rowLimit && (leb rowLimit ROWS && (leb 1 processLimit && leb processLimit PROCESSES)))
+    ltb model MODELS && (leb 1 rowLimit && (leb rowLimit ROWS && isProcessLimit processLimit))
 
 -- 3. Is the header word 0 (absent) or 1 (present)?
 abbrev pub headerWord : ℕ → Bool

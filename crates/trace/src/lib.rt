@@ -94,10 +94,7 @@ pub fn ask_call(
     if rows::ROWS < row_limit {
         return refusal::LIMITS;
     }
-    if process_limit < 1 {
-        return refusal::LIMITS;
-    }
-    if rows::PROCESSES < process_limit {
+    if !rows::is_process_limit(process_limit) {
         return refusal::LIMITS;
     }
     if 1 < header {

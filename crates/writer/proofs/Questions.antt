@@ -8,9 +8,10 @@ use borrow.Author.Tests.{lt-ltb, le-ltb, le-leb, lt-leb, leb-true}
 use Rattle.rows.specs.declared.Row.{Row}
 use Rattle.rows.specs.Kinds.{KINDS}
 use Rattle.rows.specs.Limits.{ROWS, PROCESSES, FILES, MESSAGES, FIELDS, OFFSET-MAX}
-use Rattle.rows.specs.Questions.{firstNo}
+use Rattle.rows.specs.Questions.{firstNo, isProcessLimit}
 use Rattle.rows.specs.Refusals.{SHORT-SLICE, LIMITS, HEADER-WORD, KNOWN-KIND, USED-FIELDS, RANGE, RANGE-END}
 use Rattle.rows.proofs.Asking.{all-yes}
+use Rattle.rows.proofs.Limits.{limit-told}
 use Rattle.rows.proofs.Bools.{and-out, refused, passed}
 use Rattle.trace_fields.specs.Rows.{usedBy}
 use Rattle.trace_numbers.specs.Numbers.{OFFSETS}
@@ -34,43 +35,36 @@ module _ (n header P rowsLength : ℕ) where
     long : leb (FIELDS * n) rowsLength ≡ true
     long = le-leb (FIELDS * n) rowsLength (omega arith)
 
-    -- 2: the process limit is 0.
-    pub no-processes : P < 1 → LIMITS ≡ first
+    -- 2: the process limit is out of its range.
+    pub bad-processes : isProcessLimit P ≡ false → LIMITS ≡ first
     unfolding firstNo writeQuestions
-    no-processes h = rw (long, lt-leb 1 P h)
+    bad-processes e = rw (long, e)
 
-    module _ (some : 1 ≤ P) where
-      -- 2: the process limit is too large.
-      pub many-processes : PROCESSES < P → LIMITS ≡ first
+    module _ (p : isProcessLimit P ≡ true) where
+      -- 2: there are too many rows.
+      pub many-rows : ROWS < n → LIMITS ≡ first
       unfolding firstNo writeQuestions
-      many-processes h = rw (long, le-leb 1 P some, lt-leb P PROCESSES h)
+      many-rows h = rw (long, p, lt-leb n ROWS h)
 
-      module _ (few : P ≤ PROCESSES) where
-        -- 2: there are too many rows.
-        pub many-rows : ROWS < n → LIMITS ≡ first
+      module _ (rows : n ≤ ROWS) where
+        -- 3: the header word is neither 0 nor 1.
+        pub other-word : 1 < header → HEADER-WORD ≡ first
         unfolding firstNo writeQuestions
-        many-rows h = rw (long, le-leb 1 P some, le-leb P PROCESSES few, lt-leb n ROWS h)
+        other-word h = rw (long, p, le-leb n ROWS rows, lt-leb header 1 h)
 
-        module _ (rows : n ≤ ROWS) where
-          -- 3: the header word is neither 0 nor 1.
-          pub other-word : 1 < header → HEADER-WORD ≡ first
-          unfolding firstNo writeQuestions
-          other-word h = rw (long, le-leb 1 P some, le-leb P PROCESSES few, le-leb n ROWS rows, lt-leb header 1 h)
+        -- Every answer is Yes.
+        pub all-asked : header ≤ 1 → 0 ≡ first
+        unfolding firstNo writeQuestions
+        all-asked h = rw (long, p, le-leb n ROWS rows, le-leb header 1 h)
 
-          -- Every answer is Yes.
-          pub all-asked : header ≤ 1 → 0 ≡ first
-          unfolding firstNo writeQuestions
-          all-asked h = rw (long, le-leb 1 P some, le-leb P PROCESSES few, le-leb n ROWS rows, le-leb header 1 h)
-
-  -- A call that passes has at most 4,096 rows, six numbers for each, and a process limit of at most 64.
+  -- A call that passes has at most 4,096 rows, six numbers for each, and at most the largest process limit.
   pub call-legal : first ≡ 0 → (n ≤ ROWS) × (n * FIELDS ≤ rowsLength) × (P ≤ PROCESSES)
   unfolding writeQuestions
   call-legal e =
       let yes = all-yes (writeQuestions n header P rowsLength) (omega arith) e in
-      let some = and-out (leb 1 P) _ (yes .1 .0) in
-      let rows = and-out (leb P PROCESSES) (leb n ROWS) (some .1) in
+      let limits = and-out (isProcessLimit P) (leb n ROWS) (yes .1 .0) in
       let enough : FIELDS * n ≤ rowsLength = leb-true _ _ (yes .0) in
-      (leb-true _ _ (rows .1), omega arith, leb-true _ _ (rows .0))
+      (leb-true _ _ (limits .1), omega arith, limit-told P (limits .0) .1)
 
 -- ---- Numbers that are not used
 

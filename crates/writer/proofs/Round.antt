@@ -24,6 +24,7 @@ use Rattle.rows.specs.Refusals.{TEXT-SPACE}
 use Rattle.rows.specs.Rows.{rowsIn}
 use Rattle.rows.proofs.Asking.{all-yes}
 use Rattle.rows.proofs.Bools.{and-out}
+use Rattle.rows.proofs.Limits.{limit-of, limit-told}
 use Rattle.rows.proofs.Slices.{length-rows}
 use Rattle.trace.specs.Questions.{fieldQuestions, Outcome, refused, accepted, askBarriers, checkTrace}
 use Rattle.trace.specs.Rows.{headerNames, rowOf}
@@ -149,15 +150,15 @@ wrote xs n header P outLength place text e = go (eqb first 0) refl e
         Wrote xs n header P text
     go true q d =
         let yes = all-yes (writeQuestions n header P (length xs)) (omega arith) (eqb-true first 0 q) in
-        let some = and-out _ _ (yes .1 .0) in
-        let few = and-out _ _ (some .1) in
+        let limits = and-out _ _ (yes .1 .0) in
+        let processes = limit-told P (limits .0) in
         let w = written-asked header outLength place (askBarriers (askRows P [] (rowsIn n xs))) d in
         let asked = asked-accepted (askRows P [] (rowsIn n xs)) (w .1) in
         let same = asked-all P (rowsIn n xs) (w .0) (asked .0) in
         record {
           header-word = leb-true _ _ (yes .1 .1 .0);
-          some-processes = leb-true _ _ (some .0);
-          few-processes = leb-true _ _ (few .0);
+          some-processes = processes .0;
+          few-processes = processes .1;
           rows-pass = asked .0 ∙ ap accepted same;
           barriers-pass = ap barrierPlace (sym same) ∙ asked .1;
           text-is = w .2 ∙ ap (textOf header) same;
@@ -212,8 +213,7 @@ accepted-written text header model R P limit a b rows e xs long same header′ o
     let few : length rows ≤ ROWS = omega (arith, accepted-sound header R P (records text limit) rows read .0, call .few-rows) in
     rw (
       le-leb (FIELDS * length rows) (length xs) long,
-      le-leb 1 P (call .some-processes),
-      le-leb P PROCESSES (call .few-processes),
+      limit-of P (call .some-processes) (call .few-processes),
       le-leb (length rows) ROWS few,
       le-leb header′ 1 word,
       same,

@@ -10,8 +10,8 @@ use Rattle.messages.specs.Questions.{messageQuestions}
 use Rattle.print.specs.Puts.{lay}
 use Rattle.rows.specs.declared.Row.{Row}
 use Rattle.rows.specs.Kinds.{KINDS}
-use Rattle.rows.specs.Limits.{ROWS, PROCESSES, FILES, MESSAGES, FIELDS}
-use Rattle.rows.specs.Questions.{Question, firstNo}
+use Rattle.rows.specs.Limits.{ROWS, FILES, MESSAGES, FIELDS}
+use Rattle.rows.specs.Questions.{Question, firstNo, isProcessLimit}
 use Rattle.rows.specs.Refusals.{SHORT-SLICE, LIMITS, HEADER-WORD, KNOWN-KIND, USED-FIELDS, RANGE, RANGE-END, TEXT-SPACE}
 use Rattle.rows.specs.Rows.{rowsIn}
 use Rattle.trace.specs.Questions.{headerWord, endInRange, OFFSETS, Outcome, refused, accepted, askBarriers}
@@ -52,9 +52,9 @@ LINE-MOST = 36
 abbrev pub rowsFit : ℕ → ℕ → Bool
 rowsFit n rowsLength = leb (FIELDS * n) rowsLength
 
--- 2. Is the process limit 1 to 64, and are there at most 4,096 rows?
+-- 2. Is the process limit within its range, and are there at most 4,096 rows?
 abbrev pub writeLimits : ℕ → ℕ → Bool
-writeLimits n processLimit = leb 1 processLimit && (leb processLimit PROCESSES && leb n ROWS)
+writeLimits n processLimit = isProcessLimit processLimit && leb n ROWS
 
 -- The questions 1 to 3.
 unfoldable pub writeQuestions : ℕ → ℕ → ℕ → ℕ → List Question

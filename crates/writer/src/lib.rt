@@ -58,10 +58,7 @@ fn ask_call(rows_len: usize, n: u32, header: u32, process_limit: u32) -> u32
     if (rows_len as u64) < n as u64 * rows::FIELDS as u64 {
         return refusal::SHORT_SLICE;
     }
-    if process_limit < 1 {
-        return refusal::LIMITS;
-    }
-    if rows::PROCESSES < process_limit {
+    if !rows::is_process_limit(process_limit) {
         return refusal::LIMITS;
     }
     if rows::ROWS < n {

@@ -1,7 +1,8 @@
 -- `trace::ask_call` meets its contract.
 use borrow.Author.Needs.{needs}
-use Rattle.trace.proofs.Asking.{few-rows, few-counts, bad-model, no-rows, many-rows, no-processes, many-processes, bad-header, all-asked}
+use Rattle.trace.proofs.Asking.{few-rows, few-counts, bad-model, no-rows, many-rows, bad-processes, bad-header, all-asked}
 use Rattle.rows.proofs.Products.{product}
+use Rattle.rows.proofs.Bools.{refused, passed}
 use Rattle.trace.proofs.ask_call.Statement.{statement}
 use Rattle.trace.proofs.ask_call.Tie as tie
 
@@ -28,30 +29,28 @@ returns-5 c =
     many-rows _ _ _ _ _ _ (c .before .before .before .before .if1 .left) (c .before .before .before .if2 .left) (c .before .before .if3 .left)
     (c .before .if4 .left) (c .if5 .taken)
 
+is-process-limit-requires : tie.Need-is-process-limit-requires
+is-process-limit-requires c κs = tt
+
 returns-6 : tie.Need-returns-6
 returns-6 c =
-    no-processes _ _ _ _ _ _ (c .before .before .before .before .before .if1 .left) (c .before .before .before .before .if2 .left)
-    (c .before .before .before .if3 .left) (c .before .before .if4 .left) (c .before .if5 .left) (c .if6 .taken)
+    let l = c .before .before in
+    bad-processes _ _ _ _ _ _ (l .before .before .before .before .if1 .left) (l .before .before .before .if2 .left)
+    (l .before .before .if3 .left) (l .before .if4 .left) (l .if5 .left) (refused (c .before .is-process-limit .ensures) (c .if6 .taken))
 
 returns-7 : tie.Need-returns-7
 returns-7 c =
-    many-processes _ _ _ _ _ _ (c .before .before .before .before .before .before .if1 .left)
-    (c .before .before .before .before .before .if2 .left) (c .before .before .before .before .if3 .left) (c .before .before .before .if4 .left)
-    (c .before .before .if5 .left) (c .before .if6 .left) (c .if7 .taken)
+    let l = c .before .before .before in
+    bad-header _ _ _ _ _ _ (l .before .before .before .before .if1 .left) (l .before .before .before .if2 .left)
+    (l .before .before .if3 .left) (l .before .if4 .left) (l .if5 .left) (passed (c .before .before .is-process-limit .ensures) (c .before .if6 .left))
+    (c .if7 .taken)
 
 returns-8 : tie.Need-returns-8
 returns-8 c =
-    bad-header _ _ _ _ _ _ (c .before .before .before .before .before .before .before .if1 .left)
-    (c .before .before .before .before .before .before .if2 .left) (c .before .before .before .before .before .if3 .left)
-    (c .before .before .before .before .if4 .left) (c .before .before .before .if5 .left) (c .before .before .if6 .left) (c .before .if7 .left)
-    (c .if8 .taken)
-
-returns-9 : tie.Need-returns-9
-returns-9 c =
-    all-asked _ _ _ _ _ _ (c .before .before .before .before .before .before .before .if1 .left)
-    (c .before .before .before .before .before .before .if2 .left) (c .before .before .before .before .before .if3 .left)
-    (c .before .before .before .before .if4 .left) (c .before .before .before .if5 .left) (c .before .before .if6 .left) (c .before .if7 .left)
-    (c .if8 .left)
+    let l = c .before .before .before in
+    all-asked _ _ _ _ _ _ (l .before .before .before .before .if1 .left) (l .before .before .before .if2 .left)
+    (l .before .before .if3 .left) (l .before .if4 .left) (l .if5 .left) (passed (c .before .before .is-process-limit .ensures) (c .before .if6 .left))
+    (c .if7 .left)
 
 pub ask-call-spec : {M : Type 1} → statement M
 ask-call-spec =
@@ -64,7 +63,7 @@ ask-call-spec =
     returns-3
     returns-4
     returns-5
+    is-process-limit-requires
     returns-6
     returns-7
-    returns-8
-    returns-9)
+    returns-8)
