@@ -36,6 +36,9 @@
 #include <stddef.h>
 #include <stdint.h>
 
+/* The largest process limit: question 2 of a call, and question 13 of a state, take 1 to KIQSARYN_PROCESSES. */
+#define KIQSARYN_PROCESSES 64
+
 #ifdef __cplusplus
 extern "C" {
 #endif
@@ -73,7 +76,8 @@ static inline uint32_t kiqsaryn_judged_later(uint64_t judged) {
 
 /* Fills the happens-before counts of the first n rows, process_limit each: how many rows of each process happen before the row or are it.
  * The answer is 0, or the number of a refusal, which changes nothing: 1 where `rows` has fewer than 6 * n numbers or `counts` fewer than
- * n * process_limit, 2 for more than 4,096 rows or a process limit that is not 1 to 64, 10 for a row whose process is not below the limit. */
+ * n * process_limit, 2 for more than 4,096 rows or a process limit that is not 1 to KIQSARYN_PROCESSES, 10 for a row whose process is not below
+ * the limit. */
 uint32_t kiqsaryn_fill_counts(const uint32_t *rows, size_t rows_len, uint32_t n, uint32_t process_limit, uint16_t *counts, size_t counts_len);
 
 /* The verdict on the first n rows under a model, with the counts filled on the way. The answer is 0 for free; for the first race the earlier
@@ -90,9 +94,9 @@ size_t kiqsaryn_report(const uint8_t *text, size_t text_len, uint8_t *out, size_
  * `header` is 1. No field is quoted, fields that a kind does not use are empty, and every record ends in CR LF; kiqsaryn_check_trace reads the
  * same rows again under the same header word and process limit. The answer is the text's length, below 2^32 (at most 41 bytes for the header
  * and 36 for each row), or a refusal's number times 2^32 plus the row's number (0 for none). The first No decides: 1 where `rows` has fewer
- * than 6 * n numbers, 2 for more than 4,096 rows or a process limit that is not 1 to 64, 3; then row by row 8, 9 for an unused field that is
- * not 0, 10, 11, 12 and 21; then 22 of all rows; and 18 where `place` lies past the end of `out` or too few bytes follow it. Bytes before the place
- * and behind the text keep their values, and a refusal changes nothing. */
+ * than 6 * n numbers, 2 for more than 4,096 rows or a process limit that is not 1 to KIQSARYN_PROCESSES, 3; then row by row 8, 9 for an unused
+ * field that is not 0, 10, 11, 12 and 21; then 22 of all rows; and 18 where `place` lies past the end of `out` or too few bytes follow it. Bytes
+ * before the place and behind the text keep their values, and a refusal changes nothing. */
 uint64_t kiqsaryn_write(const uint32_t *rows, size_t rows_len, uint32_t n, uint32_t header, uint32_t process_limit, uint8_t *out,
                         size_t out_len, size_t place);
 

@@ -1,14 +1,23 @@
 //! The proved library, for Rust. Each call takes numbers and slices as they are and is total: lengths are passed on unchanged, and whatever
 //! is not right comes back as a [`Refusal`].
 
+/// The largest process limit, for texts as well. The wrapper, the command and its help, and the benchmark take it from here.
+macro_rules! processes {
+    () => {
+        64
+    };
+}
+
 mod ffi;
 mod refusal;
 
 pub use refusal::Refusal;
 
-/// The largest limits that the library takes.
+/// The largest row limit that the library takes.
 pub const ROWS: u32 = 4096;
-pub const PROCESSES: u32 = 64;
+/// The largest process limit that the library takes.
+pub const PROCESSES: u32 = processes!();
+/// Files are numbered below it.
 pub const FILES: u32 = 64;
 
 /// A consistency model.
@@ -190,8 +199,8 @@ fn done(number: u32) -> Result<(), Refusal> {
 }
 
 /// Fills the happens-before counts of the first `n` rows, `process_limit` each, and clears what lies behind them. A refusal keeps the counts:
-/// 1 for a slice that is too short, 2 for more than 4,096 rows or a process limit that is not 1 to 64, 10 for a row whose process is not below
-/// the limit.
+/// 1 for a slice that is too short, 2 for more than [`ROWS`] rows or a process limit that is not 1 to [`PROCESSES`], 10 for a row whose process is
+/// not below the limit.
 pub fn fill_counts(rows: &[u32], n: u32, process_limit: u32, counts: &mut [u16]) -> Result<(), Refusal> {
     // Both slices are live for the call, and the one lent for writing is borrowed by it alone.
     done(unsafe { ffi::kiqsaryn_fill_counts(rows.as_ptr(), rows.len(), n, process_limit, counts.as_mut_ptr(), counts.len()) })
@@ -230,8 +239,8 @@ pub fn report(text: &[u8]) -> Vec<u8> {
     out
 }
 
-/// The length of the header's line with its line end, and the most that a row's line can have (63,write,63,2147483647,2147483648,): so many
-/// bytes and so many for each row are enough for every text that `write` writes.
+/// The length of the header's line with its line end, and the most that a row's line can have, a write with two digits each for process and file and
+/// ten each for offset and length: so many bytes and so many for each row are enough for every text that `write` writes.
 pub const HEADER_LINE: usize = 41;
 pub const LONGEST_LINE: usize = 36;
 
@@ -247,9 +256,9 @@ pub enum Written {
 /// Writes the first `n` rows as plain RFC 4180 text into `out` from index `place` on, behind the header's line where `header` is 1. No field
 /// is quoted, fields that a kind does not use are empty, and every record ends in CR LF. `check_trace` reads the same rows again under the
 /// same header word and process limit. Bytes before the place and behind the text keep their values, and a refusal changes nothing: 1 where
-/// `rows` has fewer than six numbers a row, 2 for more than 4,096 rows or a process limit that is not 1 to 64, 3 for a header word past 1, then
-/// row by row 8 to 12 and 21 as `check_trace` asks them (9 for an unused field that is not 0), then 22 of all rows, and 18 last, where the place lies
-/// past the end of `out` or too few bytes follow it.
+/// `rows` has fewer than six numbers a row, 2 for more than [`ROWS`] rows or a process limit that is not 1 to [`PROCESSES`], 3 for a header word
+/// past 1, then row by row 8 to 12 and 21 as `check_trace` asks them (9 for an unused field that is not 0), then 22 of all rows, and 18 last, where the
+/// place lies past the end of `out` or too few bytes follow it.
 pub fn write(rows: &[u32], n: u32, header: u32, process_limit: u32, out: &mut [u8], place: usize) -> Written {
     // Both slices are live for the call, and the one lent for writing is borrowed by it alone.
     let answer = unsafe { ffi::kiqsaryn_write(rows.as_ptr(), rows.len(), n, header, process_limit, out.as_mut_ptr(), out.len(), place) };

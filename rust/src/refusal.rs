@@ -67,7 +67,7 @@ impl Refusal {
     pub fn question(self) -> &'static str {
         match self {
             Refusal::ShortSlice => "Are the lent slices long enough?",
-            Refusal::Limits => "Are model 0 to 3, row limit 1 to 4,096 and process limit 1 to 64?",
+            Refusal::Limits => concat!("Are model 0 to 3, row limit 1 to 4,096 and process limit 1 to ", processes!(), "?"),
             Refusal::HeaderWord => "Is the header word 0 (absent) or 1 (present)?",
             Refusal::Malformed => {
                 "Is the record well formed (RFC 4180: quotes in pairs, nothing behind a closing quote, CR LF at its end)?"

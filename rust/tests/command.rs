@@ -4,7 +4,7 @@
 #![allow(dead_code)]
 
 use kiqsaryn::{check_trace, fill_counts, report, verdict, Checked, Model, Row, Settings, Verdict};
-use kiqsaryn::{BARRIER, CLOSE, COMMIT, OPEN, READ, RECV, SEND, SYNC, WAIT, WRITE};
+use kiqsaryn::{BARRIER, CLOSE, COMMIT, FILES, OPEN, PROCESSES, READ, RECV, SEND, SYNC, WAIT, WRITE};
 use std::io::Write;
 use std::path::PathBuf;
 use std::process::{Command, Stdio};
@@ -101,7 +101,6 @@ fn wrong_command_lines_have_status_3() {
         &["check", "--header", "yes"],
         &["check", "commit_free.csv", "--header", "yes", "--model", "nfs"],
         &["check", "commit_free.csv", "--header", "yes", "--processes", "0"],
-        &["check", "commit_free.csv", "--header", "yes", "--processes", "65"],
         &["check", "commit_free.csv", "--header", "yes", "--processes", "+8"],
         &["check", "commit_free.csv", "--header", "yes", "--processes", "99999999999999999999"],
         &["check", "commit_free.csv", "--header", "yes", "--csv=1"],
@@ -210,7 +209,7 @@ fn refusals_name_number_place_question_and_record() {
         ("no", b"0,write,1,0,10,\n0,read,1,0,1,\n", &["number 4, at row 1", "0,write,1,0,10,\\n\n", "Records end in CR LF"]),
         ("yes", b"\xef\xbb\xbfprocess,kind\r\n", &["number 4, at the header", "\\xef\\xbb\\xbfprocess,kind\n", "byte order mark"]),
         ("no", b"\x7fELF\x02\x01\x01\0\0\0", &["number 4, at row 1", "\\x7fELF\\x02\\x01\\x01\\x00\\x00\\x00\n"]),
-        ("no", b"64,write,1,0,10,\r\n", &["number 10, at row 1", "process is 0 to 63 (--processes 64)"]),
+        ("no", b"999,write,1,0,10,\r\n", &["number 10, at row 1", "process is 0 to "]),
         ("no", b"0,write,1,4294967295,1,", &["number 11, at row 1", "Is offset + length at most 4,294,967,295?"]),
         ("no", b"0,send,,,,1\r\n0,recv,,,,1\r\n", &["number 12, at row 2", "0,recv,,,,1\n"]),
         ("no", b"0,send,,,,1\r\n1,wait,,,,1\r\n", &["number 21, at row 2", "Was the wait's message posted earlier", "1,wait,,,,1\n"]),
@@ -246,9 +245,8 @@ fn longest(header: bool) -> Vec<u8> {
     if header {
         text.extend(b"\"process\",\"kind\",\"file\",\"offset\",\"length\",\"message\"\r\n");
     }
-    for _ in 0..4096 {
-        text.extend(b"\"63\",\"write\",\"63\",\"2147483647\",\"2147483648\",\"\"\r\n");
-    }
+    let row = format!("\"{}\",\"write\",\"{}\",\"2147483647\",\"2147483648\",\"\"\r\n", PROCESSES - 1, FILES - 1);
+    text.extend(row.repeat(4096).as_bytes());
     text
 }
 
@@ -271,14 +269,16 @@ fn the_longest_acceptable_trace_is_read_whole_and_one_byte_more_is_not() {
 #[test]
 fn no_acceptable_record_is_longer() {
     let quoted = |fields: [&str; 6]| fields.map(|f| format!("\"{f}\"")).join(",") + "\r\n";
-    let longest = quoted(["63", "write", "63", "2147483647", "2147483648", ""]).len();
+    let (process, file) = (&(PROCESSES - 1).to_string(), &(FILES - 1).to_string());
+    let longest = quoted([process, "write", file, "2147483647", "2147483648", ""]).len();
+    let posted = format!("0,send,,,,65535\r\n{process},recv,,,,65535\r\n");
     for (before, fields) in [
-        ("", ["63", "commit", "63", "", "", ""]),
-        ("", ["63", "close", "63", "", "", ""]),
-        ("", ["63", "send", "", "", "", "65535"]),
-        ("", ["63", "recv", "", "", "", "65535"]),
-        ("", ["63", "barrier", "", "", "", "65535"]),
-        ("0,send,,,,65535\r\n63,recv,,,,65535\r\n", ["63", "wait", "", "", "", "65535"]),
+        ("", [process, "commit", file, "", "", ""]),
+        ("", [process, "close", file, "", "", ""]),
+        ("", [process, "send", "", "", "", "65535"]),
+        ("", [process, "recv", "", "", "", "65535"]),
+        ("", [process, "barrier", "", "", "", "65535"]),
+        (&posted, [process, "wait", "", "", "", "65535"]),
     ] {
         let record = quoted(fields);
         assert!(record.len() <= longest);
@@ -524,6 +524,7 @@ fn random_text(dice: &mut Dice) -> Vec<u8> {
 fn no_input_makes_it_crash() {
     let mut dice = Dice(20_240_817);
     let mut seen = [0; 4];
+    let most = PROCESSES.to_string();
     for k in 0..2_000 {
         let text = random_text(&mut dice);
         let header = match (text.starts_with(NAMES.as_bytes()), dice.below(8)) {
@@ -533,7 +534,7 @@ fn no_input_makes_it_crash() {
         };
         let model = dice.of(&["posix", "commit", "session", "mpiio"]);
         let file = dice.below(3).to_string();
-        let processes = dice.of(&["2", "4", "4", "64", "64"]);
+        let processes = dice.of(&["2", "4", "4", &most, &most]);
         let mut args = vec!["check", "-", "--header", header, "--processes", processes];
         match dice.below(8) {
             0 => args.extend(["--model", model, "--csv"]),
@@ -1162,12 +1163,12 @@ fn a_picture_of_a_strange_name_is_well_formed() {
     well_formed(&out(&o));
 }
 
-/// A full trace of 4,096 rows and 64 processes goes through every command.
+/// A full trace, of as many rows and processes as there can be, goes through every command.
 #[test]
 fn a_full_trace() {
     let mut text = "0,sync,1,,,\r\n".to_string();
     for k in 0..819 {
-        let (p, q) = (k % 64, (k + 1) % 64);
+        let (p, q) = (k % PROCESSES, (k + 1) % PROCESSES);
         text.push_str(&format!("{q},recv,,,,{k}\r\n{p},write,1,{},90,\r\n{p},commit,1,,,\r\n", p * 100));
         text.push_str(&format!("{p},send,,,,{k}\r\n{q},wait,,,,{k}\r\n"));
     }

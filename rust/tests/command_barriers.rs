@@ -3,6 +3,7 @@
 #[allow(dead_code)]
 mod running;
 
+use kiqsaryn::{PROCESSES, ROWS};
 use running::pair::Pair;
 use running::picture::{nothing_overlaps, row_boxes, well_formed};
 use running::{err, examples, out, run, status};
@@ -65,17 +66,18 @@ fn barriers_are_written_plain() {
     assert_eq!(out(&run(&["write", "barrier_free.csv", "--header", "yes"], b"")), free);
 }
 
-/// The longest trace with a barrier that all 64 processes pass again and again.
+/// A long trace with a barrier that all processes pass again and again, as many as there can be.
 #[test]
 fn a_full_trace_of_barriers() {
     let mut text = String::new();
-    for turn in 0..16 {
-        for p in 0..64 {
+    for turn in 0..ROWS / (4 * PROCESSES) {
+        for p in 0..PROCESSES {
             text += &format!("{p},write,1,{},90,\r\n{p},commit,1,,,\r\n{p},read,1,{},1,\r\n", p * 100, p * 100);
         }
-        (0..64).for_each(|k| text += &format!("{},barrier,,,,{turn}\r\n", (7 * k + turn) % 64));
+        (0..PROCESSES).for_each(|k| text += &format!("{},barrier,,,,{turn}\r\n", (7 * k + turn) % PROCESSES));
     }
-    assert_eq!(text.lines().count(), 4096);
+    (0..ROWS % (4 * PROCESSES)).for_each(|_| text += "0,commit,1,,,\r\n");
+    assert_eq!(text.lines().count(), ROWS as usize);
     for args in [&["check"][..], &["check", "--csv"], &["replay", "--file", "1", "--model", "commit"], &["diagram"], &["write"]] {
         let o = run(&[args, &["-", "--header", "no"]].concat(), text.as_bytes());
         assert_eq!(status(&o), 0, "{args:?}: {}", err(&o));

@@ -4,7 +4,7 @@
 #[allow(dead_code)]
 mod running;
 
-use kiqsaryn::ROWS;
+use kiqsaryn::{PROCESSES, ROWS};
 use running::folder::Folder;
 use running::pair::Pair;
 use running::picture::well_formed;
@@ -109,7 +109,6 @@ const WRONG: &[(&[&str], &[&str], &str)] = &[
         &["a.csv", "b.csv", "--headers", "yes,no", "--model", "nfs"],
         "--model is all, posix, commit, session or mpiio, not \"nfs\"\n",
     ),
-    (&["join"], &["a.csv", "b.csv", "--headers", "yes,no", "--processes", "65"], "--processes is a number from 1 to 64, not \"65\"\n"),
     (&["join"], &["a.csv", "b.csv", "--headers", "yes,no", "--file", "1"], "this command has no option \"--file\"\n"),
     (&["join"], &["a.csv", "b.csv", "--headers", "yes,no", "--csv=1"], "--csv takes no value\n"),
     (&["join"], &["a.csv", "b.csv", "--headers", "yes,no", "-o"], "-o has no value\n"),
@@ -309,7 +308,7 @@ fn a_refused_trace_is_named() {
         ("no", b"1,read,1,5,10,\r\n\r\n", 7, 2, &["Has the record six fields?", "the record:  empty\n"]),
         ("no", NAMES.as_bytes(), 8, 1, &["the record:  process,kind,file,offset,length,message\n", "is row 1."]),
         ("no", b"1,read,,5,10,\r\n", 9, 1, &["Are the fields that the kind uses filled"]),
-        ("no", b"64,read,1,5,10,\r\n", 10, 1, &["process is 0 to 63 (--processes 64)"]),
+        ("no", b"999,read,1,5,10,\r\n", 10, 1, &["process is 0 to "]),
         ("yes", b"process,kind,file,offset,length,message\r\n1,read,1,4294967295,1,", 11, 1, &["Is offset + length at most"]),
     ];
     let pair = left_and_right("named");
@@ -379,9 +378,9 @@ fn a_process_in_both_traces_is_named() {
     let pair = Pair::new("shared", b"0,write,1,0,10,\r\n3,commit,1,,,\r\n", b"1,open,1,,,\r\n\"3\",read,1,5,10,\r\n3,sync,1,,,\r\n");
     let row = "  process 3:   row 2 of a.csv: 3,commit,1,,,\n               row 2 of b.csv: \"3\",read,1,5,10,\n";
     assert_eq!(refused_join(&pair, "19,0"), [SHARED, row].concat());
-    pair.put(b"9,sync,1,,,\r\n63,sync,1,,,\r\n5,sync,1,,,\r\n", b"63,open,1,,,\r\n9,open,1,,,\r\n4,open,1,,,\r\n");
+    pair.put(b"9,sync,1,,,\r\n21,sync,1,,,\r\n5,sync,1,,,\r\n", b"21,open,1,,,\r\n9,open,1,,,\r\n4,open,1,,,\r\n");
     let row = "  process 9:   row 1 of a.csv: 9,sync,1,,,\n               row 2 of b.csv: 9,open,1,,,\n";
-    assert_eq!(refused_join(&pair, "19,0"), [SHARED, row, "  note:        processes with rows in both traces: 9, 63.\n"].concat());
+    assert_eq!(refused_join(&pair, "19,0"), [SHARED, row, "  note:        processes with rows in both traces: 9, 21.\n"].concat());
     // A trace given twice.
     let o = pair.feed(&["join", "a.csv", "a.csv", "--headers", "no,no", "--csv"], b"");
     assert_eq!((out(&o).as_str(), status(&o)), ("refused,19,0,0\r\n", 2));
@@ -500,7 +499,7 @@ fn a_join_of_too_many_rows_is_refused() {
 // ---- Reading stops where no acceptable trace can go on
 
 /// The longest acceptable trace: every field in quotes and as long as can be, 4,096 rows of one process.
-fn longest(process: &str, header: bool) -> Vec<u8> {
+fn longest(process: u32, header: bool) -> Vec<u8> {
     let names = if header { "\"process\",\"kind\",\"file\",\"offset\",\"length\",\"message\"\r\n" } else { "" };
     let row = format!("\"{process}\",\"write\",\"63\",\"2147483647\",\"2147483648\",\"\"\r\n");
     [names.as_bytes(), row.repeat(ROWS as usize).as_bytes()].concat()
@@ -510,7 +509,7 @@ fn longest(process: &str, header: bool) -> Vec<u8> {
 fn the_longest_trace_is_read_whole_and_one_byte_more_is_not() {
     let pair = Pair::new("longest", b"", b"");
     for (header, word) in [(true, "yes"), (false, "no")] {
-        let mut text = longest("63", header);
+        let mut text = longest(PROCESSES - 1, header);
         let limit = text.len();
         let headers = format!("no,{word}");
         pair.put(b"", &text);

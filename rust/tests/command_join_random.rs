@@ -292,12 +292,12 @@ fn no_two_inputs_make_it_crash() {
     assert!(seen.iter().all(|n| *n > 50), "{seen:?}");
 }
 
-/// Two full halves of 4,096 rows and 64 processes go through every command.
+/// Two full halves, of as many rows and processes as there can be, go through every command.
 #[test]
 fn a_full_join() {
     let (mut first, mut second) = (String::new(), String::new());
     for k in 0..819 {
-        let (p, q) = (k % 64, (k + 1) % 64);
+        let (p, q) = (k % PROCESSES, (k + 1) % PROCESSES);
         let (from, to) = if p % 2 == 0 { (&mut first, &mut second) } else { (&mut second, &mut first) };
         *from += &format!("{p},write,1,{},90,\r\n{p},commit,1,,,\r\n{p},send,,,,{k}\r\n", p * 100);
         *to += &format!("{q},recv,,,,{k}\r\n{q},wait,,,,{k}\r\n");

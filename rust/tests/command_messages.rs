@@ -200,12 +200,12 @@ fn a_second_wait_is_told_so() {
 #[test]
 fn rows_of_a_long_trace_are_found() {
     let many = "\"0\",\"write\",\"63\",\"2147483647\",\"2147483648\",\"\"\r\n".repeat(4_092);
-    let rows = ["0,send,,,,65535\r\n", "63,recv,,,,65535\r\n", &many, "63,wait,,,,65535\r\n", "63,wait,,,,65535\r\n"].concat();
+    let rows = ["0,send,,,,65535\r\n", "21,recv,,,,65535\r\n", &many, "21,wait,,,,65535\r\n", "21,wait,,,,65535\r\n"].concat();
     let o = run(&["check", "-", "--header", "no"], rows.as_bytes());
     assert!(out(&o).contains("Refused: number 21, at row 4096."), "{}", out(&o));
     assert!(out(&o).ends_with("  note:        row 4095 waits for message 65535 already.\n"), "{}", out(&o));
     // Rows behind the last that a trace can have are not looked at.
-    let rows = ["0,send,,,,65535\r\n", "63,wait,,,,65535\r\n", &many, &many].concat();
+    let rows = ["0,send,,,,65535\r\n", "21,wait,,,,65535\r\n", &many, &many].concat();
     let o = run(&["check", "-", "--header", "no"], rows.as_bytes());
     assert!(out(&o).contains("Refused: number 21, at row 2."), "{}", out(&o));
     assert!(out(&o).contains("  note:        no row before it posts a receive for message 65535.\n"), "{}", out(&o));

@@ -95,9 +95,9 @@ fn a_trace_without_rows() {
         let (read, written) = ((input.len(), header == "yes", 0), (text.len(), out_header == "yes", 0));
         wrote(&o, text, &said("standard input", read, "standard output", written));
     }
-    let o = run(&["write", "-", "--header", "no"], b"63,sync,0,,,");
+    let o = run(&["write", "-", "--header", "no"], b"21,sync,0,,,");
     let words = said("standard input", (12, false, 1), "standard output", (14, false, 1));
-    wrote(&o, "63,sync,0,,,\r\n", &words);
+    wrote(&o, "21,sync,0,,,\r\n", &words);
 }
 
 /// The examples are plain already. What is written of them is what was read.
@@ -142,8 +142,9 @@ fn what_is_written_is_accepted_and_written_again_byte_for_byte() {
 /// A full trace, every field in quotes and as long as can be.
 #[test]
 fn the_longest_trace() {
-    let quoted = "\"63\",\"write\",\"63\",\"2147483647\",\"2147483648\",\"\"\r\n".repeat(ROWS as usize);
-    let plain = "63,write,63,2147483647,2147483648,\r\n".repeat(ROWS as usize);
+    let fields = [&(PROCESSES - 1).to_string(), "write", "63", "2147483647", "2147483648", ""];
+    let quoted = (fields.map(|f| format!("\"{f}\"")).join(",") + "\r\n").repeat(ROWS as usize);
+    let plain = (fields.join(",") + "\r\n").repeat(ROWS as usize);
     let o = run(&["write", "-", "--header", "no"], quoted.as_bytes());
     let rows = ROWS as usize;
     wrote(&o, &plain, &said("standard input", (quoted.len(), false, rows), "standard output", (plain.len(), false, rows)));
@@ -185,7 +186,6 @@ fn wrong_command_lines_have_status_3() {
         &["write", "commit_free.csv", "--header", "yes", "--out-header", "yes", "--out-header", "yes"],
         &["write", "commit_free.csv", "--header", "yes", "--model", "commit"],
         &["write", "commit_free.csv", "--header", "yes", "--csv"],
-        &["write", "commit_free.csv", "--header", "yes", "--processes", "65"],
         &["write", "commit_free.csv", "--header", "yes", "-o"],
         &["write", "commit_free.csv", "--header", "yes", "-o", "x", "-o", "x"],
         &["write", "commit_free.csv", "no_message.csv", "--header", "yes"],

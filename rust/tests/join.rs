@@ -126,14 +126,14 @@ fn calls_that_do_not_fit_are_refused() {
         (limits(0x2AAA_AAAB, 1), [rows, usize::MAX >> 40, parts], 1), // 6 times as many are 2 in 32 bits
         (limits(0x5555_5556, 1), [rows, usize::MAX >> 40, parts], 1), // 3 times as many are 2 in 32 bits
         (limits(0x8000_0000, 2), [rows, 0, parts], 1),                // 2 times as many are 0 in 32 bits
-        (JoinSettings { model: 4, headers: [2, 2], ..limits(6, 65) }, ENOUGH, 1),
+        (JoinSettings { model: 4, headers: [2, 2], ..limits(6, PROCESSES + 1) }, ENOUGH, 1),
         // 2: the model or a limit is out of its range
         (JoinSettings { model: 4, ..PLAIN }, ENOUGH, 2),
         (JoinSettings { model: u32::MAX, headers: [2, 0], ..PLAIN }, ENOUGH, 2),
         (limits(0, 2), ENOUGH, 2),
         (limits(5, 0), ENOUGH, 2),
         (limits(ROWS + 1, 1), [6 * 4097, 4097, 3 * 4097], 2),
-        (limits(1, PROCESSES + 1), [6, 65, 3], 2),
+        (limits(1, PROCESSES + 1), [6, PROCESSES as usize + 1, 3], 2),
         // 3: a header word is neither 0 nor 1
         (headers(2, 0), ENOUGH, 3),
         (headers(0, 2), ENOUGH, 3),
@@ -402,7 +402,7 @@ fn the_join_has_as_many_rows_as_a_trace() {
         (0, ROWS + 1, refused(6, ROWS + 1, 2)),
         (ROWS + 1, ROWS + 1, refused(6, ROWS + 1, 1)),
     ] {
-        let texts = [many(first, 0..32), many(second, 32..64)];
+        let texts = [many(first, 0..PROCESSES / 2), many(second, PROCESSES / 2..PROCESSES)];
         let [mut ours, mut naive] = [lent(lengths, 7), lent(lengths, 7)];
         let texts = [texts[0].as_bytes(), texts[1].as_bytes()];
         assert_eq!(call(texts, s, &mut ours), want, "{first} and {second} rows");
@@ -458,8 +458,8 @@ fn every_process_may_be_in_either_file_and_none_in_both() {
     for process in 0..PROCESSES {
         let others: String = (0..PROCESSES).filter(|p| *p != process).map(of).collect();
         for (first, second, want) in [
-            (of(process), others.clone(), Joined::Free { rows: 64 }),
-            (others.clone(), of(process), Joined::Free { rows: 64 }),
+            (of(process), others.clone(), Joined::Free { rows: PROCESSES }),
+            (others.clone(), of(process), Joined::Free { rows: PROCESSES }),
             (of(process), many(PROCESSES, 0..PROCESSES), refused(19, 0, 0)),
             (many(PROCESSES, 0..PROCESSES), of(process), refused(19, 0, 0)),
             (of(process), of(process), refused(19, 0, 0)),
@@ -469,7 +469,7 @@ fn every_process_may_be_in_either_file_and_none_in_both() {
         }
     }
     let mut slices = lent(lengths, 7);
-    assert_eq!(call([of(0).as_bytes(), of(64).as_bytes()], s, &mut slices), refused(10, 1, 2));
+    assert_eq!(call([of(0).as_bytes(), of(PROCESSES).as_bytes()], s, &mut slices), refused(10, 1, 2));
 }
 
 // ---- One file by itself
@@ -500,7 +500,7 @@ fn files_that_do_not_fit_are_refused() {
         (2, 0, 2, 12, 2),
         (0, 0, 0, 0, 2),
         (0, 2, 0, 12, 2),
-        (0, 2, 65, 12, 2),
+        (0, 2, PROCESSES + 1, 12, 2),
         (0, 2, u32::MAX, 12, 2),
         (2, ROWS + 1, 2, 6 * 4097, 2),
         (2, 2, 2, 12, 3),

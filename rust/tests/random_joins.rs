@@ -16,6 +16,7 @@ use naive::random::{setting, Random};
 use naive::reading::{faults, Entry, Fault, FAULTS};
 use naive::rows::numbers;
 use naive::texts::{damage_bytes, damage_records, header, record, text, Record};
+use naive::PROCESSES;
 
 const JOINS: u64 = 40_000;
 const MERGED: u64 = 4_000;
@@ -50,7 +51,7 @@ impl Case {
 
 /// Slices as settings ask for, at times longer, with anything in them.
 fn some_slices(r: &mut Random, s: JoinSettings) -> Lent {
-    let (row_limit, process_limit) = (s.row_limit.min(4097) as usize, s.process_limit.min(65) as usize);
+    let (row_limit, process_limit) = (s.row_limit.min(4097) as usize, s.process_limit.min(PROCESSES + 1) as usize);
     let mut more = || r.pick(&[0, 0, 1, 7]);
     let lengths = [6 * row_limit + more(), row_limit * process_limit + more(), 3 * row_limit + more()];
     Lent {
@@ -66,7 +67,7 @@ fn damage_settings(r: &mut Random, s: &mut JoinSettings) {
         0 => s.headers[r.place(2)] = r.pick(&[0, 1, 2, u32::MAX]),
         1 => s.model = r.pick(&[0, 3, 4, u32::MAX]),
         2 => s.row_limit = r.pick(&[0, 1, 4096, 4097, u32::MAX]),
-        3 => s.process_limit = r.pick(&[0, 1, 64, 65, u32::MAX]),
+        3 => s.process_limit = r.pick(&[0, 1, PROCESSES, PROCESSES + 1, u32::MAX]),
         _ => s.row_limit = r.between(1, s.row_limit),
     }
     if r.once_in(20) {

@@ -11,6 +11,7 @@ mod state;
 use kiqsaryn::{Header, Refusal, Replayed, Row, BARRIER, COMMIT, READ, RECV, SEND, SYNC, WAIT, WRITE};
 use naive::machine::{self, encode, numbers, Cell, Lent};
 use naive::random::{setting, Random};
+use naive::PROCESSES;
 use state::State;
 
 const STEPS: u64 = 300_000;
@@ -43,7 +44,7 @@ impl State {
     fn parts(&self) -> Vec<std::ops::Range<usize>> {
         let space = 4 * self.header.map_space as usize;
         let maps = if self.model.is_some() { self.header.process_limit as usize + 1 } else { 1 };
-        (0..maps.min(66)).map(|k| k * space..(k + 1) * space).filter(|part| part.end <= self.maps.len()).collect()
+        (0..maps.min(PROCESSES as usize + 2)).map(|k| k * space..(k + 1) * space).filter(|part| part.end <= self.maps.len()).collect()
     }
 }
 
@@ -53,8 +54,8 @@ impl State {
 fn state(r: &mut Random) -> State {
     let model = if r.once_in(4) { None } else { Some(if r.once_in(40) { r.pick(&[4, 5, u32::MAX]) } else { r.below(4) }) };
     let process_limit = match r.below(40) {
-        0 => r.pick(&[0, 65, u32::MAX]),
-        1 => 64,
+        0 => r.pick(&[0, PROCESSES + 1, u32::MAX]),
+        1 => PROCESSES,
         _ => r.between(1, 4),
     };
     let file = if r.once_in(40) { r.pick(&[64, 65, u32::MAX]) } else { r.below(64) };
@@ -133,7 +134,8 @@ fn ranges(r: &mut Random, h: Header) -> Ranges {
 
 /// A row of the machine's file, now and then a wild one.
 fn row(r: &mut Random, h: Header, ranges: &Ranges) -> Row {
-    let process = if r.once_in(60) { r.pick(&[h.process_limit, u32::MAX, 64]) } else { r.below(h.process_limit.clamp(1, 64)) };
+    let process =
+        if r.once_in(60) { r.pick(&[h.process_limit, u32::MAX, PROCESSES]) } else { r.below(h.process_limit.clamp(1, PROCESSES)) };
     let kind = match r.below(60) {
         0 => r.pick(&[SEND, RECV, WAIT, BARRIER, BARRIER + 1, u32::MAX]),
         1..=22 => WRITE,

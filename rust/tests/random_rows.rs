@@ -8,12 +8,13 @@
 mod naive;
 
 use kiqsaryn::{check_trace, write, Checked, Refusal, Row, Settings, Written, HEADER_LINE, LONGEST_LINE};
-use kiqsaryn::{BARRIER, READ, RECV, SEND, WAIT, WRITE};
+use kiqsaryn::{BARRIER, FILES, READ, RECV, SEND, WAIT, WRITE};
 use naive::barriers::{self, WRONGS};
 use naive::random::{setting, Random};
 use naive::reading::{self, faults, FAULTS};
 use naive::rows::{damage_barrier, numbers, some_rows};
 use naive::writing;
+use naive::PROCESSES;
 
 const LISTS: u64 = 40_000;
 const SEED: u64 = 20_250_301;
@@ -48,7 +49,8 @@ impl Case {
 
 /// A number of a row that is replaced by another, often by one that is just in or just out of a range.
 fn damage_number(r: &mut Random, row: &mut Row) {
-    let edges = [0, 1, 2, 5, 6, 7, 8, 9, 10, 63, 64, 65, 65_535, 65_536, u32::MAX - 1, u32::MAX];
+    let edges =
+        [0, 1, 2, 5, 6, 7, 8, 9, 10, PROCESSES - 1, PROCESSES, PROCESSES + 1, FILES - 1, FILES, 65_535, 65_536, u32::MAX - 1, u32::MAX];
     let number = if r.once_in(4) { r.bits() as u32 } else { r.pick(&edges) };
     match r.below(6) {
         0 => row.process = number,
@@ -103,14 +105,14 @@ fn damage_rows(r: &mut Random, rows: &mut Vec<Row>) {
 fn damage_call(r: &mut Random, case: &mut Case) {
     match r.below(6) {
         0 => case.header = r.pick(&[2, 3, u32::MAX]),
-        1 => case.process_limit = r.pick(&[0, 1, 2, 63, 65, 66, u32::MAX]),
+        1 => case.process_limit = r.pick(&[0, 1, 2, PROCESSES - 1, PROCESSES + 1, PROCESSES + 2, u32::MAX]),
         2 => case.n = r.pick(&[case.n + 1, 4096, 4097, u32::MAX - 1, u32::MAX]),
         3 => case.rows.truncate(r.place(case.rows.len() + 1)),
         4 => {
             case.n = if r.once_in(8) { 4096 } else { r.pick(&[4097, 4098]) };
             case.rows.resize(6 * case.n as usize, 0);
         }
-        _ => (case.header, case.process_limit) = (r.below(4), r.pick(&[0, 1, 64, 65])),
+        _ => (case.header, case.process_limit) = (r.below(4), r.pick(&[0, 1, PROCESSES, PROCESSES + 1])),
     }
 }
 

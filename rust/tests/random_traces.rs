@@ -16,6 +16,7 @@ use naive::random::{setting, Random};
 use naive::reading::{self, FAULTS};
 use naive::rows::{damage_barrier, numbers, some_rows};
 use naive::texts::{damage_bytes, damage_records, header, record, text, Record};
+use naive::{is_process_limit, PROCESSES};
 
 const TRACES: u64 = 60_000;
 const SEED: u64 = 20_240_101;
@@ -46,7 +47,7 @@ impl Case {
 
 /// Slices as settings ask for, at times longer, with anything in them.
 fn lent(r: &mut Random, s: Settings) -> (Vec<u32>, Vec<u16>) {
-    let (row_limit, process_limit) = (s.row_limit.min(4097) as usize, s.process_limit.min(65) as usize);
+    let (row_limit, process_limit) = (s.row_limit.min(4097) as usize, s.process_limit.min(PROCESSES + 1) as usize);
     let more = r.pick(&[0, 0, 1, 7]);
     let rows = (0..6 * row_limit + more).map(|_| r.bits() as u32).collect();
     let counts = (0..row_limit * process_limit + more).map(|_| r.bits() as u16).collect();
@@ -59,7 +60,7 @@ fn damage_settings(r: &mut Random, s: &mut Settings, text_len: usize) {
         0 => s.header = r.pick(&[0, 1, 2, u32::MAX]),
         1 => s.model = r.pick(&[0, 3, 4, u32::MAX]),
         2 => s.row_limit = r.pick(&[0, 1, 4096, 4097, u32::MAX]),
-        3 => s.process_limit = r.pick(&[0, 1, 64, 65, u32::MAX]),
+        3 => s.process_limit = r.pick(&[0, 1, PROCESSES, PROCESSES + 1, u32::MAX]),
         4 => s.row_limit = r.between(1, s.row_limit),
         _ => s.byte_limit = r.place(text_len + 1),
     }
@@ -142,7 +143,7 @@ fn refusal_of(rows: &[Row], lent: usize, n: u32, process_limit: u32, model: bool
     if 6 * n > lent as u64 || n * limit > counts_len as u64 {
         return Refusal::from_number(1);
     }
-    if !model || n > 4096 || !(1..=64).contains(&limit) {
+    if !model || n > 4096 || !is_process_limit(process_limit) {
         return Refusal::from_number(2);
     }
     let low = rows.iter().take(n as usize).all(|row| row.process < process_limit);
@@ -264,7 +265,7 @@ fn wild_rows(r: &mut Random, n: u32, process_limit: u32) -> Vec<Row> {
     let far = r.pick(&[u32::MAX, 6]);
     let mut number = |most: u32| {
         if r.once_in(far) {
-            r.pick(&[u32::MAX, u32::MAX - 1, 64, 65_536])
+            r.pick(&[u32::MAX, u32::MAX - 1, PROCESSES, 65_536])
         } else {
             r.below(most)
         }
@@ -281,7 +282,7 @@ fn wild_rows(r: &mut Random, n: u32, process_limit: u32) -> Vec<Row> {
 }
 
 fn compare_wild(r: &mut Random, seed: u64, seen: &mut Seen) {
-    let process_limit = r.pick(&[0, 1, 2, 3, 4, 63, 64, 65, 66]);
+    let process_limit = r.pick(&[0, 1, 2, 3, 4, PROCESSES - 1, PROCESSES, PROCESSES + 1, PROCESSES + 2]);
     let n = if r.once_in(2000) { r.between(4095, 4098) } else { r.between(0, 25) };
     let rows = wild_rows(r, n, process_limit);
     let mut lent = numbers(&rows);
@@ -301,7 +302,7 @@ fn compare_wild(r: &mut Random, seed: u64, seen: &mut Seen) {
     seen.wild[usize::from(judged)] += 1;
     let ignored = &mut Seen::default();
     judge(r, &told, &rows, &lent, process_limit, counts_len, ignored);
-    for (n, limit, model) in [(u32::MAX, process_limit, 0), (n, u32::MAX, 1), (u32::MAX, u32::MAX, u32::MAX), (n.max(4097), 64, 2)] {
+    for (n, limit, model) in [(u32::MAX, process_limit, 0), (n, u32::MAX, 1), (u32::MAX, u32::MAX, u32::MAX), (n.max(4097), PROCESSES, 2)] {
         let mut got = vec![9u16; counts_len];
         let refusal = refusal_of(&rows, lent.len(), n, limit, true, counts_len).expect("these are past every limit");
         assert_eq!(fill_counts(&lent, n, limit, &mut got), Err(refusal), "counts of {n} rows under limit {limit}\n{}", told());

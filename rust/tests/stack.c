@@ -7,7 +7,7 @@
 #include <stdlib.h>
 #include <string.h>
 
-enum { STACK = 1 << 20, PAINT = 0xA5, ROWS = 4096, PROCESSES = 64, SPACE = 64, MAPS = 4 * SPACE * (PROCESSES + 1), TEXT = 1 << 16, SECOND = 7 };
+enum { STACK = 1 << 20, PAINT = 0xA5, ROWS = 4096, PROCESSES = KIQSARYN_PROCESSES, SPACE = 64, MAPS = 4 * SPACE * (PROCESSES + 1), TEXT = 1 << 16, SECOND = 7 };
 
 static uint8_t text[TEXT], out[TEXT];
 static size_t text_len;
@@ -17,8 +17,8 @@ static uint64_t parts[3 * ROWS];
 static uint32_t n;
 
 /* A second file for the trace, with SECOND rows of processes that have none there. */
-static const uint8_t second[] = "63,write,1,0,9,\r\n63,send,,,,65535\r\n62,recv,,,,65535\r\n62,wait,,,,65535\r\n62,read,1,0,9,\r\n"
-                                "62,barrier,,,,7\r\n63,barrier,,,,7\r\n";
+static const uint8_t second[] = "21,write,1,0,9,\r\n21,send,,,,65535\r\n20,recv,,,,65535\r\n20,wait,,,,65535\r\n20,read,1,0,9,\r\n"
+                                "20,barrier,,,,7\r\n21,barrier,,,,7\r\n";
 
 /* A call that refuses goes less deep than one that does its work. */
 static void expect(int works) {

@@ -6,7 +6,7 @@ mod naive;
 #[allow(dead_code)]
 mod vectors;
 
-use kiqsaryn::{check_trace, fill_counts, judge, verdict, Checked, Judged, Model, Refusal, Settings, Verdict};
+use kiqsaryn::{check_trace, fill_counts, judge, verdict, Checked, Judged, Model, Refusal, Settings, Verdict, PROCESSES};
 use naive::order::{counts, first_race, Order};
 use naive::reading::check;
 use naive::rows::numbers;
@@ -365,11 +365,11 @@ fn counts_of_wild_arguments_are_refused() {
         (u32::MAX, u32::MAX, 9, 1),
         (u32::MAX, 0, 9, 1),
         (2, u32::MAX, 9, 1),
-        // 2: too many rows, or a process limit that is not 1 to 64
+        // 2: too many rows, or a process limit out of its range
         (4097, 1, 4097, 2),
         (2, 0, 9, 2),
         (0, 0, 0, 2),
-        (2, 65, 130, 2),
+        (2, PROCESSES + 1, 2 * (PROCESSES as usize + 1), 2),
         (0, u32::MAX, 0, 2),
         // 10: the process of row 2 is 3
         (2, 1, 2, 10),
@@ -396,11 +396,11 @@ fn verdicts_on_wild_arguments_are_refused() {
         (3, 6, 0, 18, 1),
         (2, 6, 0, 11, 1),
         (4097, 1, 4, 9, 1),
-        (2, 65, u32::MAX, 129, 1),
+        (2, PROCESSES + 1, u32::MAX, 2 * PROCESSES as usize + 1, 1),
         // 2: the model or a limit is out of its range
         (2, 6, 4, 12, 2),
         (2, 5, 4, 10, 2),
-        (2, 65, 0, 200, 2),
+        (2, PROCESSES + 1, 0, 200, 2),
         (2, 0, 0, 12, 2),
         (0, 0, 0, 0, 2),
         // 10: the process of row 2 is 5

@@ -7,7 +7,7 @@ mod naive;
 #[allow(dead_code)]
 mod vectors;
 
-use kiqsaryn::{check_trace, write, Checked, Refusal, Settings, Written, HEADER_LINE, KINDS, LONGEST_LINE, ROWS};
+use kiqsaryn::{check_trace, write, Checked, Refusal, Settings, Written, HEADER_LINE, KINDS, LONGEST_LINE, PROCESSES, ROWS};
 use kiqsaryn::{BARRIER, RECV, SEND, WAIT, WRITE};
 use naive::writing;
 
@@ -92,29 +92,29 @@ type Wild<'a> = (&'a [u32], u32, u32, u32, usize, u32);
 fn calls_that_do_not_fit_are_refused() {
     let wild: &[Wild] = &[
         // 1: fewer than six numbers a row, whatever else is wrong
-        (&TWO, 3, 0, 64, 0, 1),
-        (&TWO[..11], 2, 0, 64, 0, 1),
+        (&TWO, 3, 0, PROCESSES, 0, 1),
+        (&TWO[..11], 2, 0, PROCESSES, 0, 1),
         (&[], 1, 2, 0, usize::MAX, 1),
-        (&TWO, u32::MAX, 0, 64, 0, 1),
+        (&TWO, u32::MAX, 0, PROCESSES, 0, 1),
         (&TWO, u32::MAX, u32::MAX, u32::MAX, usize::MAX, 1),
-        (&MANY, ROWS + 2, 2, 65, 0, 1),
-        (&TWO, 0x2AAA_AAAB, 0, 64, 0, 1), // 6 times as many are 2 in 32 bits
-        // 2: a process limit that is not 1 to 64, or more than 4,096 rows
+        (&MANY, ROWS + 2, 2, PROCESSES + 1, 0, 1),
+        (&TWO, 0x2AAA_AAAB, 0, PROCESSES, 0, 1), // 6 times as many are 2 in 32 bits
+        // 2: a process limit out of its range, or more than 4,096 rows
         (&TWO, 2, 2, 0, usize::MAX, 2),
-        (&TWO, 2, 2, 65, usize::MAX, 2),
+        (&TWO, 2, 2, PROCESSES + 1, usize::MAX, 2),
         (&TWO, 2, 0, u32::MAX, 0, 2),
         (&[], 0, 0, 0, 0, 2),
-        (&MANY, ROWS + 1, 2, 64, usize::MAX, 2),
+        (&MANY, ROWS + 1, 2, PROCESSES, usize::MAX, 2),
         // 3: a header word past 1, before any row is looked at
-        (&[9; 6], 1, 2, 64, usize::MAX, 3),
-        (&TWO, 2, u32::MAX, 64, 0, 3),
+        (&[9; 6], 1, 2, PROCESSES, usize::MAX, 3),
+        (&TWO, 2, u32::MAX, PROCESSES, 0, 3),
         // 18: a place past the end, or too few bytes behind it
-        (&TWO, 2, 0, 64, usize::MAX, 18),
-        (&TWO, 2, 1, 64, usize::MAX - 1, 18),
-        (&TWO, 2, 0, 64, usize::MAX - TWO_TEXT.len() + 1, 18),
-        (&TWO, 2, 0, 64, OUT + 1, 18),
-        (&TWO, 2, 0, 64, OUT, 18),
-        (&TWO, 2, 0, 64, OUT - TWO_TEXT.len() + 1, 18),
+        (&TWO, 2, 0, PROCESSES, usize::MAX, 18),
+        (&TWO, 2, 1, PROCESSES, usize::MAX - 1, 18),
+        (&TWO, 2, 0, PROCESSES, usize::MAX - TWO_TEXT.len() + 1, 18),
+        (&TWO, 2, 0, PROCESSES, OUT + 1, 18),
+        (&TWO, 2, 0, PROCESSES, OUT, 18),
+        (&TWO, 2, 0, PROCESSES, OUT - TWO_TEXT.len() + 1, 18),
         (&[], 0, 0, 1, OUT + 1, 18),
         (&[], 0, 0, 1, usize::MAX, 18),
         (&[], 0, 1, 1, OUT - HEADER_LINE + 1, 18),
@@ -250,18 +250,18 @@ fn kinds_behind_the_last_are_unknown() {
 /// Every row as long as can be: the constants are enough, and no smaller ones are.
 #[test]
 fn the_longest_text() {
-    let longest = [63, WRITE, 63, 2_147_483_647, 2_147_483_648, 0];
+    let longest = [PROCESSES - 1, WRITE, 63, 2_147_483_647, 2_147_483_648, 0];
     let rows = longest.repeat(ROWS as usize);
     let room = HEADER_LINE + LONGEST_LINE * ROWS as usize;
     let mut out = vec![7; room + 2];
-    assert_eq!(write(&rows, ROWS, 1, 64, &mut out[..room], 1), refused(18, 0));
+    assert_eq!(write(&rows, ROWS, 1, PROCESSES, &mut out[..room], 1), refused(18, 0));
     assert!(out.iter().all(|b| *b == 7));
-    assert_eq!(write(&rows, ROWS, 1, 64, &mut out, 1), Written::Length(room));
-    let line = b"63,write,63,2147483647,2147483648,\r\n";
-    let text = [HEADER, &line.repeat(ROWS as usize)[..]].concat();
+    assert_eq!(write(&rows, ROWS, 1, PROCESSES, &mut out, 1), Written::Length(room));
+    let line = format!("{},write,63,2147483647,2147483648,\r\n", PROCESSES - 1);
+    let text = [HEADER, line.repeat(ROWS as usize).as_bytes()].concat();
     assert!(out == laid(&text, 1, room + 2, 7));
-    let (mut read, mut counts) = (vec![9; rows.len()], vec![9; 64 * ROWS as usize]);
-    let s = Settings { header: 1, model: 0, row_limit: ROWS, process_limit: 64, byte_limit: room };
+    let (mut read, mut counts) = (vec![9; rows.len()], vec![9; (PROCESSES * ROWS) as usize]);
+    let s = Settings { header: 1, model: 0, row_limit: ROWS, process_limit: PROCESSES, byte_limit: room };
     assert_eq!(check_trace(&out[1..1 + room], s, &mut read, &mut counts), Checked::Accepted(ROWS));
     assert!(read == rows);
 }

@@ -1,6 +1,7 @@
 //! Two files joined into one trace as document 02 has it: record after record, with a look through all rows taken so far.
 
 use super::barriers::{self, is_held, processes};
+use super::is_process_limit;
 use super::order::{counts, first_race, Order};
 use super::reading::{entries, message_refusal, Entry};
 use super::rows::numbers;
@@ -36,7 +37,7 @@ pub fn read_file(text: &[u8], header: u32, row_limit: u32, process_limit: u32, r
     if (rows_len as u128) < 6 * u128::from(row_limit) {
         return Err((1, 0));
     }
-    if !(1..=4096).contains(&row_limit) || !(1..=64).contains(&process_limit) {
+    if !(1..=4096).contains(&row_limit) || !is_process_limit(process_limit) {
         return Err((2, 0));
     }
     if header > 1 {
@@ -108,7 +109,7 @@ pub fn taken(texts: [&[u8]; 2], s: JoinSettings, [rows_len, counts_len, parts_le
     if (rows_len as u128) < 6 * rows || (counts_len as u128) < rows * processes || (parts_len as u128) < 3 * rows {
         return Err((1, 0, 0));
     }
-    if s.model > 3 || !(1..=4096).contains(&s.row_limit) || !(1..=64).contains(&s.process_limit) {
+    if s.model > 3 || !(1..=4096).contains(&s.row_limit) || !is_process_limit(s.process_limit) {
         return Err((2, 0, 0));
     }
     if s.headers.iter().any(|header| *header > 1) {

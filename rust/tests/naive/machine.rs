@@ -1,6 +1,7 @@
 //! The layered machine and the plain file. Bytes between two neighbouring ends of runs and ranges are alike, so they are kept as one cell; a
 //! map is decoded into cells, the row is applied cell by cell, and the longest runs of the outcome are encoded.
 
+use super::is_process_limit;
 use kiqsaryn::{Header, Row, CLOSE, COMMIT, OPEN, READ, SYNC, WRITE};
 
 pub const END: u64 = u32::MAX as u64;
@@ -80,7 +81,7 @@ pub fn make(model: Option<u32>, h: Header, maps: &mut [u32]) -> Result<(), u32> 
     if (maps.len() as u128) < len {
         return Err(1);
     }
-    if model.is_some_and(|m| m > 3) || !(1..=64).contains(&h.process_limit) {
+    if model.is_some_and(|m| m > 3) || !is_process_limit(h.process_limit) {
         return Err(2);
     }
     if h.file > 63 {
@@ -92,7 +93,7 @@ pub fn make(model: Option<u32>, h: Header, maps: &mut [u32]) -> Result<(), u32> 
 
 /// The runs of every map of a lawful state.
 pub fn state(model: Option<u32>, h: Header, maps: &[u32]) -> Option<Vec<Vec<Run>>> {
-    let right = model.is_none_or(|m| m <= 3) && (1..=64).contains(&h.process_limit) && h.file <= 63;
+    let right = model.is_none_or(|m| m <= 3) && is_process_limit(h.process_limit) && h.file <= 63;
     let len = 4 * u128::from(h.map_space) * maps_of(model, h);
     if !right || (maps.len() as u128) < len {
         return None;

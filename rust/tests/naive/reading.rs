@@ -1,6 +1,7 @@
 //! A trace's records, the questions put to them, and what the program `verdict` prints.
 
 use super::barriers;
+use super::is_process_limit;
 use super::order::{first_race, Order};
 use kiqsaryn::{Model, Row, Settings, BARRIER, KINDS, READ, RECV, SEND, WAIT, WRITE};
 
@@ -257,7 +258,7 @@ pub fn check(text: &[u8], s: Settings, rows_len: usize, counts_len: usize) -> Re
     if (rows_len as u128) < 6 * u128::from(s.row_limit) || (counts_len as u128) < cells {
         return Err((1, 0));
     }
-    if s.model > 3 || !(1..=4096).contains(&s.row_limit) || !(1..=64).contains(&s.process_limit) {
+    if s.model > 3 || !(1..=4096).contains(&s.row_limit) || !is_process_limit(s.process_limit) {
         return Err((2, 0));
     }
     if s.header > 1 {

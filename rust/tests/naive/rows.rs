@@ -2,6 +2,7 @@
 
 use super::barriers::processes;
 use super::random::Random;
+use super::PROCESSES;
 use kiqsaryn::{Row, BARRIER, CLOSE, COMMIT, OPEN, READ, RECV, SEND, SYNC, WAIT, WRITE};
 
 /// A message that is not yet waited for: its number, who has sent it, and who has posted a receive for it.
@@ -263,7 +264,7 @@ pub fn damage_barrier(r: &mut Random, rows: &mut Vec<Row>) {
 
 /// A long trace: many processes, wide files, so that most pairs do not meet, and few barriers.
 fn long_rows(r: &mut Random, rows: usize) -> Vec<Row> {
-    let mut making = Rows::new(r, 64, 64);
+    let mut making = Rows::new(r, PROCESSES, PROCESSES);
     while making.files.len() < 6 {
         making.files.push(making.files.len() as u32);
     }
@@ -282,9 +283,9 @@ fn long_rows(r: &mut Random, rows: usize) -> Vec<Row> {
 pub fn some_rows_within(r: &mut Random, most: usize) -> (Vec<Row>, u32) {
     if r.once_in(4000) {
         let n = r.between(500, 4096) as usize;
-        return (long_rows(r, n.min(most)), 64);
+        return (long_rows(r, n.min(most)), PROCESSES);
     }
-    let process_limit = r.pick(&[2, 3, 4, 8, 64]);
+    let process_limit = r.pick(&[2, 3, 4, 8, PROCESSES]);
     let n = r.between(2, 60) as usize;
     let mut making = Rows::new(r, process_limit, 6);
     let n = n.min(if making.meeting > 0 { most / 2 } else { most });

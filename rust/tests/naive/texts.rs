@@ -1,6 +1,7 @@
 //! Random texts of rows: fields quoted here and there, and texts that are damaged.
 
 use super::random::Random;
+use super::PROCESSES;
 use kiqsaryn::{Row, BARRIER, KINDS, READ, RECV, SEND, WAIT, WRITE};
 
 /// The contents of a record's fields.
@@ -58,8 +59,10 @@ pub fn text(r: &mut Random, records: &[Record]) -> Vec<u8> {
 
 /// A field with other content.
 fn damaged_field(r: &mut Random, field: &[u8]) -> Vec<u8> {
-    let words: [&[u8]; 31] = [
+    let near = (PROCESSES - 1 + r.below(3)).to_string();
+    let words: [&[u8]; 32] = [
         b"",
+        near.as_bytes(),
         b"0",
         b"1",
         b"7",

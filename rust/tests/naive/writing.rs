@@ -1,6 +1,7 @@
 //! Rows as the text of a trace, and the questions that their writing asks.
 
 use super::barriers;
+use super::is_process_limit;
 use super::reading::message_refusal;
 use kiqsaryn::Row;
 
@@ -67,7 +68,7 @@ pub fn write(rows: &[u32], n: u32, header: u32, process_limit: u32, out: &mut [u
     if (rows.len() as u64) < 6 * u64::from(n) {
         return Err((1, 0));
     }
-    if !(1..=64).contains(&process_limit) || n > 4096 {
+    if !is_process_limit(process_limit) || n > 4096 {
         return Err((2, 0));
     }
     if header > 1 {

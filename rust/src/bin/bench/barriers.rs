@@ -1,6 +1,7 @@
 //! Question 22 in plain Rust: with a bit for each process that has arrived, in a table by barrier, or by scans of the rows before.
 
 use crate::messages::MESSAGES;
+use crate::reading::PROCESSES;
 use kiqsaryn::BARRIER;
 
 /// A bit for each process that has a row.
@@ -12,13 +13,13 @@ pub fn processes(rows: &[u32]) -> u64 {
 pub struct Barriers {
     all: u64,
     arrived: Vec<u64>,
-    stands: [u32; 64],
+    stands: [u32; PROCESSES],
 }
 
 impl Barriers {
     /// Nobody of these processes has arrived anywhere.
     pub fn new(all: u64) -> Barriers {
-        Barriers { all, arrived: Vec::new(), stands: [0; 64] }
+        Barriers { all, arrived: Vec::new(), stands: [0; PROCESSES] }
     }
 
     /// Whether a process stands at a barrier at which not all have arrived.
@@ -43,7 +44,7 @@ impl Barriers {
 
     /// Whether a process stands at an unfinished barrier once all rows are noted.
     pub fn is_unfinished(&self) -> bool {
-        (0..64).any(|process| self.holds(process))
+        (0..PROCESSES as u32).any(|process| self.holds(process))
     }
 }
 
@@ -67,7 +68,7 @@ fn arrived(rows: &[u32], barrier: u32) -> u64 {
 /// The place that question 22 names, by scans of the rows before: one for each row of a barrier, and one for each row just behind it.
 pub fn place_by_scans(rows: &[u32]) -> Option<usize> {
     let all = processes(rows);
-    let mut last = [0; 64];
+    let mut last = [0; PROCESSES];
     let open = |last: usize, n: usize| {
         let row = &rows[6 * last.saturating_sub(1)..];
         last > 0 && row[1] == BARRIER && arrived(&rows[..6 * n], row[5]) != all

@@ -119,7 +119,7 @@ fn plain(texts: [&[u8]; 2], s: JoinSettings, lent: &mut Lent) -> Answer {
     if (rows.len() as u64) < 6 * limit || (counts.len() as u64) < limit * processes || (parts.len() as u64) < 3 * limit {
         return Err((1, 0, 0));
     }
-    if s.model > 3 || !(1..=4096).contains(&limit) || !(1..=64).contains(&processes) {
+    if s.model > 3 || !(1..=4096).contains(&limit) || !(1..=PROCESSES as u64).contains(&processes) {
         return Err((2, 0, 0));
     }
     if s.headers.iter().any(|header| *header > 1) {

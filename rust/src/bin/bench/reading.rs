@@ -10,7 +10,7 @@ use std::hint::black_box;
 /// A field's bytes without its outer quotes. Where a quote is among them the field is no name, no kind and no number.
 pub type Field<'a> = &'a [u8];
 
-pub const PROCESSES: usize = 64;
+pub const PROCESSES: usize = kiqsaryn::PROCESSES as usize;
 
 const NAMES: [&[u8]; 6] = [b"process", b"kind", b"file", b"offset", b"length", b"message"];
 
@@ -178,7 +178,7 @@ fn plain(text: &[u8], s: Settings, rows: &mut [u32], counts: &mut [u16], message
     if (rows.len() as u64) < 6 * u64::from(s.row_limit) || (counts.len() as u64) < u64::from(s.row_limit) * u64::from(s.process_limit) {
         return Err((1, 0));
     }
-    if s.model > 3 || !(1..=4096).contains(&s.row_limit) || !(1..=64).contains(&s.process_limit) {
+    if s.model > 3 || !(1..=4096).contains(&s.row_limit) || !(1..=kiqsaryn::PROCESSES).contains(&s.process_limit) {
         return Err((2, 0));
     }
     if s.header > 1 {
@@ -196,7 +196,7 @@ pub fn plain_file(text: &[u8], s: Settings, rows: &mut [u32]) -> Result<usize, (
     if (rows.len() as u64) < 6 * u64::from(s.row_limit) {
         return Err((1, 0));
     }
-    if !(1..=4096).contains(&s.row_limit) || !(1..=64).contains(&s.process_limit) {
+    if !(1..=4096).contains(&s.row_limit) || !(1..=kiqsaryn::PROCESSES).contains(&s.process_limit) {
         return Err((2, 0));
     }
     if s.header > 1 {
@@ -314,9 +314,13 @@ fn meeting_row(i: usize) -> String {
     }
 }
 
-/// Row i of a trace whose processes do nothing but arrive at barriers, all at one and then all at the next.
-fn arrival_row(i: usize) -> String {
+/// Row i of a trace of so many rows whose processes do nothing but arrive at barriers, all at one and then all at the next. Rows too few for one
+/// more barrier, at the end, are commits.
+fn arrival_row(i: usize, rows: usize) -> String {
     let turn = i / PROCESSES;
+    if turn == rows / PROCESSES {
+        return line(i % PROCESSES, COMMIT, [Some(1), None, None, None], false);
+    }
     talk((i + turn) % PROCESSES, BARRIER, turn)
 }
 
@@ -326,7 +330,7 @@ pub fn text(shape: &str, rows: usize) -> Vec<u8> {
         "mixed" => mixed(rows),
         "messages" => (0..rows).map(message_row).collect(),
         "barriers" => (0..rows).map(meeting_row).collect(),
-        "barriers alone" => (0..rows).map(arrival_row).collect(),
+        "barriers alone" => (0..rows).map(|i| arrival_row(i, rows)).collect(),
         _ => (0..rows).map(|i| data_row(i, shape == "quoted fields")).collect(),
     };
     format!("process,kind,file,offset,length,message\r\n{rows}").into_bytes()

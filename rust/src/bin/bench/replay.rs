@@ -2,10 +2,8 @@
 //! they fit, the state tested once and written back at the end.
 
 use crate::harness::{timed, Case, Timed, SIZES};
-use kiqsaryn::{make, make_plain, replay, replay_plain, Header, Model, Replayed, CLOSE, COMMIT, OPEN, READ, SYNC, WRITE};
+use kiqsaryn::{make, make_plain, replay, replay_plain, Header, Model, Replayed, CLOSE, COMMIT, OPEN, PROCESSES, READ, SYNC, WRITE};
 use std::hint::black_box;
-
-const PROCESSES: u32 = 64;
 
 // ---- The plain version
 
@@ -142,7 +140,7 @@ struct Plain {
 
 impl Plain {
     fn over(model: Option<u32>, header: Header, maps: &[u32]) -> Option<Plain> {
-        let right = model.is_none_or(|m| m <= 3) && (1..=64).contains(&header.process_limit) && header.file <= 63;
+        let right = model.is_none_or(|m| m <= 3) && (1..=PROCESSES).contains(&header.process_limit) && header.file <= 63;
         let len = if model.is_some() { header.maps_len() } else { header.map_len() }.filter(|len| right && *len <= maps.len())?;
         let maps: Option<Vec<Map>> = maps[..len].chunks_exact(4 * header.map_space.max(1) as usize).map(decode).collect();
         let maps = maps.filter(|maps| maps.first().is_none_or(|map| map.iter().all(|run| run.mark == 0)))?;

@@ -28,7 +28,7 @@ pub fn plain(rows: &[u32], n: usize, processes: usize, model: u32, counts: &mut 
         }
         let refresh =
             if refreshes(0) { Some(y) } else { (0..y).rev().find(|k| refreshes(row(*k)[1]) && row(*k)[2] == b[2] && row(*k)[0] == b[0]) };
-        let mut last = [0usize; 64];
+        let mut last = [0usize; PROCESSES];
         if let Some(o) = refresh.filter(|_| !own) {
             for c in 0..y {
                 if row(c)[1] > 1 && publishes(row(c)[1]) && row(c)[2] == b[2] && before(c, o) {
@@ -108,7 +108,7 @@ fn trace(shape: &str, model: Model, n: usize) -> Vec<u32> {
     };
     let mut rows: Vec<[u32; 6]> = (0..n as u32).map(row).collect();
     rows[n - 2] = [0, WRITE, 1, RACE_START, 9, 0];
-    rows[n - 1] = [63, READ, 1, RACE_START, 9, 0];
+    rows[n - 1] = [PROCESSES as u32 - 1, READ, 1, RACE_START, 9, 0];
     rows.into_flattened()
 }
 

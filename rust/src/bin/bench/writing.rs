@@ -130,7 +130,7 @@ fn plain(rows: &[u32], n: u32, header: u32, process_limit: u32, out: &mut [u8], 
     if (rows.len() as u64) < 6 * u64::from(n) {
         return Err((1, 0));
     }
-    if !(1..=64).contains(&process_limit) || n > 4096 {
+    if !(1..=kiqsaryn::PROCESSES).contains(&process_limit) || n > 4096 {
         return Err((2, 0));
     }
     if header > 1 {

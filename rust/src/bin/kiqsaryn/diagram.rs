@@ -7,7 +7,7 @@ use crate::input::{Recorded, Trace};
 use crate::recording::Recording;
 use crate::text::{counted, describe, wrap};
 use crate::words::words;
-use kiqsaryn::{Model, Row, Verdict, BARRIER, KINDS, READ, RECV, SEND, WAIT, WRITE};
+use kiqsaryn::{Model, Row, Verdict, BARRIER, KINDS, PROCESSES, READ, RECV, SEND, WAIT, WRITE};
 use std::collections::BTreeMap;
 
 /// Sizes in pixels: the margin, a row's line and its box, the gap between lanes, and the line of lane heads, which comes again behind so
@@ -169,11 +169,12 @@ struct Lane {
 
 /// The lanes by process, and where the last one ends.
 fn lanes(trace: &Trace, rows: &[(u32, Row, String)]) -> (BTreeMap<u32, Lane>, usize) {
+    let widest = format!("process {}", PROCESSES - 1);
     let mut all: BTreeMap<u32, Lane> = BTreeMap::new();
     for (number, row, label) in rows {
         let letter = letter(trace, *number).map(|(letter, _)| letter);
-        let head = if letter.is_some() { "process 63 (B)" } else { "process 63" };
-        let lane = all.entry(row.process).or_insert(Lane { x: 0, width: wide(head.len()), letter });
+        let head = if letter.is_some() { widest.len() + " (B)".len() } else { widest.len() };
+        let lane = all.entry(row.process).or_insert(Lane { x: 0, width: wide(head), letter });
         lane.width = lane.width.max(wide(label.len()) + 12);
     }
     let mut x = MARGIN;

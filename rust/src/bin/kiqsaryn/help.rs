@@ -1,6 +1,7 @@
-//! The help texts.
+//! The help texts. {processes} stands for the largest process limit.
 
 use crate::args::Topic;
+use kiqsaryn::PROCESSES;
 
 const ALL: &str = "kiqsaryn - finds storage races in the trace of a storage shelf
 
@@ -16,7 +17,7 @@ const ALL: &str = "kiqsaryn - finds storage races in the trace of a storage shel
 
 TRACE is a CSV file with the fields process,kind,file,offset,length,message
 and lines that end in CR LF; - reads standard input. It has at most 4096 rows,
-64 processes and 64 files.
+{processes} processes and 64 files.
 
 --header says whether the first record holds these names (yes) or is row 1
 (no). It is always asked and never guessed.
@@ -45,7 +46,7 @@ then shown with its own trace and its number there.
 
   --header yes|no   the first record holds the names (yes) or is row 1 (no)
   --headers A,B     the same for two traces: A for the first, B for the second
-  --processes N     process numbers are below N; 1 to 64, 64 if left out
+  --processes N     process numbers are below N; 1 to {processes}, {processes} if left out
   --model NAME      posix, commit, session, mpiio, or all; all if left out
   --csv             only the lines model,verdict,earlier,later (CR LF), or
                     refused,NUMBER,PLACE; of two traces their rows in the join,
@@ -82,7 +83,7 @@ joined first; each row is then shown with its own trace and its number there.
   --headers A,B     the same for two traces: A for the first, B for the second
   --file F          the file, 0 to 63
   --model M         posix, commit, session or mpiio
-  --processes N     process numbers are below N; 1 to 64, 64 if left out
+  --processes N     process numbers are below N; 1 to {processes}, {processes} if left out
 
 The last line counts the reads, the bytes read and the stale bytes.
 It shows the one order that was recorded, of two traces the order of the join;
@@ -108,7 +109,7 @@ them. Two traces are joined first; A and B then tell the trace of each row.
   --header yes|no   the first record holds the names (yes) or is row 1 (no)
   --headers A,B     the same for two traces: A for the first, B for the second
   --model M         posix, commit, session or mpiio; commit if left out
-  --processes N     process numbers are below N; 1 to 64, 64 if left out
+  --processes N     process numbers are below N; 1 to {processes}, {processes} if left out
   -o FILE           write to FILE; standard output if left out, or for -
 
 FILE is replaced only once the picture is complete: it is written to a new file
@@ -133,7 +134,7 @@ Only a trace that is accepted is written. Its rows, read again, are the same.
                        row 1 (no)
   --out-header yes|no  write the names first (yes) or not (no); as --header if
                        left out
-  --processes N        process numbers are below N; 1 to 64, 64 if left out
+  --processes N        process numbers are below N; 1 to {processes}, {processes} if left out
   -o FILE              write to FILE; standard output if left out, or for -
 
 Once all is written it says how many bytes and rows were read and written: on
@@ -168,7 +169,7 @@ rows of each trace in order and holds back the same way.
 
   --headers A,B        the first record holds the names (yes) or is row 1 (no):
                        A for FIRST, B for SECOND
-  --processes N        process numbers are below N; 1 to 64, 64 if left out
+  --processes N        process numbers are below N; 1 to {processes}, {processes} if left out
   --model NAME         posix, commit, session, mpiio, or all; all if left out
   --csv                only the lines of check --csv
   -o FILE              write the joined trace as plain text to FILE, as write
@@ -193,15 +194,16 @@ Examples:
   kiqsaryn join left.csv right.csv --headers yes,no --model commit -o both.csv
 ";
 
-pub fn help(topic: Topic) -> &'static str {
-    match topic {
+pub fn help(topic: Topic) -> String {
+    let text = match topic {
         Topic::All => ALL,
         Topic::Check => CHECK,
         Topic::Replay => REPLAY,
         Topic::Diagram => DIAGRAM,
         Topic::Write => WRITE,
         Topic::Join => JOIN,
-    }
+    };
+    text.replace("{processes}", &PROCESSES.to_string())
 }
 
 /// How to ask for the help that goes with an error.

@@ -86,7 +86,7 @@ fn with_trace(
 
 fn run(request: Request) -> Outcome {
     match request {
-        Request::Help(topic) => Outcome::out(help::help(topic).to_string(), FREE),
+        Request::Help(topic) => Outcome::out(help::help(topic), FREE),
         Request::Version => Outcome::out(format!("kiqsaryn {}\n", env!("CARGO_PKG_VERSION")), FREE),
         Request::Check { common, models, csv } => run_check(&common, &models, csv),
         Request::Replay { common, file, model } => with_trace(

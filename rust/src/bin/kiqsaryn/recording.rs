@@ -3,16 +3,21 @@
 use crate::args::{Input, Source};
 use crate::standard;
 use crate::text::path_name;
-use kiqsaryn::{Row, ROWS};
+use kiqsaryn::{Row, FILES, PROCESSES, ROWS};
 use std::fs::{self, File, Metadata};
 use std::io::{self, Read};
 use std::os::unix::fs::{FileTypeExt, MetadataExt};
 
 /// What stands around the contents of a record: quotes around six fields, five commas, CR LF.
 const AROUND: usize = 6 * 2 + 5 + 2;
-/// The longest acceptable row is a write: two digits each for process and file, ten each for offset and length.
-const ROW_BYTES: usize = AROUND + 2 + "write".len() + 2 + 10 + 10;
+/// The longest acceptable row is a write of the last process and file, with ten digits each for offset and length.
+const ROW_BYTES: usize = AROUND + digits(PROCESSES - 1) + "write".len() + digits(FILES - 1) + 10 + 10;
 const HEADER_BYTES: usize = AROUND + "process".len() + "kind".len() + "file".len() + "offset".len() + "length".len() + "message".len();
+
+/// How many digits a number from 1 on has.
+const fn digits(n: u32) -> usize {
+    n.ilog10() as usize + 1
+}
 
 /// The most bytes that an acceptable trace can have.
 pub fn byte_limit(header: bool) -> usize {
