@@ -37,7 +37,7 @@
 #include <stdint.h>
 
 /* The largest process limit: question 2 of a call, and question 13 of a state, take 1 to KIQSARYN_PROCESSES. */
-#define KIQSARYN_PROCESSES 64
+#define KIQSARYN_PROCESSES 48
 
 #ifdef __cplusplus
 extern "C" {

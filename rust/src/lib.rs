@@ -4,7 +4,7 @@
 /// The largest process limit, for texts as well. The wrapper, the command and its help, and the benchmark take it from here.
 macro_rules! processes {
     () => {
-        64
+        48
     };
 }
 

@@ -1,5 +1,6 @@
-//! Every vector of `vectors/traces.txt` and `vectors/aimed.txt`, and the traces of `vectors/barrier.txt`, call by call and in one call: the answer and
-//! both slices whole, by the library and by the naive version. Then what a recv, a wait and a barrier mean, and calls whose numbers do not fit.
+//! Every vector of `vectors/traces.txt` and `vectors/aimed.txt`, and the traces of `vectors/barrier.txt` and `vectors/limit48.txt`, call by call and in
+//! one call: the answer and both slices whole, by the library and by the naive version. Then what a recv, a wait and a barrier mean, and calls whose
+//! numbers do not fit.
 
 #[allow(dead_code)]
 mod naive;
@@ -150,10 +151,17 @@ fn every_barrier_vector() {
 }
 
 #[test]
+fn every_limit_vector() {
+    every_vector("limit48.txt", Call::run_parts);
+    every_vector("limit48.txt", Call::run_whole);
+}
+
+#[test]
 fn every_vector_through_the_naive_version() {
     every_vector("traces.txt", Call::run_naive);
     every_vector("aimed.txt", Call::run_naive);
     every_vector("barrier.txt", Call::run_naive);
+    every_vector("limit48.txt", Call::run_naive);
 }
 
 // ---- What a recv and a wait mean

@@ -7,7 +7,7 @@ MODELS = 4
 
 -- The largest process limit.
 abbrev pub PROCESSES : ℕ
-PROCESSES = 64
+PROCESSES = 48
 
 -- The largest row limit.
 abbrev pub ROWS : ℕ

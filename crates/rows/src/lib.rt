@@ -10,7 +10,7 @@ ghost use Rattle.rows.specs.Questions.{isProcessLimit};
 // Models are numbered from 0.
 pub const MODELS: u32 = 4;
 // The largest process limit.
-pub const PROCESSES: u32 = 64;
+pub const PROCESSES: u32 = 48;
 // The largest row limit.
 pub const ROWS: u32 = 4096;
 // Files are numbered from 0.

@@ -15,7 +15,7 @@ pub mod texts;
 pub mod writing;
 
 /// The largest process limit. The naive version and the tests that make random calls take it from here; the library has its own.
-pub const PROCESSES: u32 = 64;
+pub const PROCESSES: u32 = 48;
 
 /// Whether a number is a process limit.
 pub fn is_process_limit(n: u32) -> bool {
