@@ -42,6 +42,34 @@ extern "C" {
         counts_len: usize,
     ) -> u64;
 
+    pub fn kiqsaryn_races(
+        rows: *const u32,
+        rows_len: usize,
+        n: u32,
+        process_limit: u32,
+        model: u32,
+        counts: *mut u16,
+        counts_len: usize,
+        list: *mut u32,
+        list_len: usize,
+    ) -> u64;
+
+    pub fn kiqsaryn_list_races(
+        text: *const u8,
+        text_len: usize,
+        header: u32,
+        model: u32,
+        row_limit: u32,
+        process_limit: u32,
+        byte_limit: usize,
+        rows: *mut u32,
+        rows_len: usize,
+        counts: *mut u16,
+        counts_len: usize,
+        list: *mut u32,
+        list_len: usize,
+    ) -> u64;
+
     pub fn kiqsaryn_report(text: *const u8, text_len: usize, out: *mut u8, out_len: usize) -> usize;
 
     pub fn kiqsaryn_write(

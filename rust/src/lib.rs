@@ -117,7 +117,7 @@ pub struct Settings {
 
 /// The refusal of a number that the library answers; it answers no other.
 fn refused(number: u32) -> Refusal {
-    Refusal::from_number(number).expect("the library's refusals have a number from 1 to 22")
+    Refusal::from_number(number).expect("the library's refusals have a number from 1 to 23")
 }
 
 /// The row count, or a refusal's number times 2^32 plus its place.
@@ -228,6 +228,75 @@ pub fn verdict(rows: &[u32], n: u32, process_limit: u32, model: u32, counts: &mu
         (number, 0) => Verdict::Refused(refused(number)),
         (earlier, later) => Verdict::Race { earlier, later },
     }
+}
+
+/// What a list of races comes to.
+#[derive(Clone, Copy, Debug, PartialEq, Eq)]
+pub enum Listed {
+    /// The number of pairs, which stand at the front of the lent list.
+    Pairs(u32),
+    /// The question that was answered No, and the record's place; 0 where it is about no record.
+    Refused { refusal: Refusal, place: u32 },
+}
+
+/// How many numbers the list takes for a pair: the earlier row's number, then the later row's.
+pub const PAIR: usize = 2;
+
+/// How many numbers a list must have to be long enough for the races of so many rows, whatever these are.
+pub fn list_len(rows: u32) -> usize {
+    let rows = rows as usize;
+    rows * rows.saturating_sub(1)
+}
+
+/// The number of pairs, or a refusal's number times 2^32 plus its place.
+fn listed(answer: u64) -> Listed {
+    match ((answer >> 32) as u32, answer as u32) {
+        (0, pairs) => Listed::Pairs(pairs),
+        (number, place) => Listed::Refused { refusal: refused(number), place },
+    }
+}
+
+/// Reads and refuses a trace as `judge` does, fills the counts of an accepted one, and puts every race under the model into the lent list: each once, by
+/// its later row and then by its earlier row, two numbers each, the earlier row's first. Behind the pairs the list keeps its numbers. 23 comes last,
+/// where the list is too short for all pairs: it keeps the list, and the rows and counts that were read. Any other refusal keeps the list too.
+pub fn list_races(text: &[u8], s: Settings, rows: &mut [u32], counts: &mut [u16], list: &mut [u32]) -> Listed {
+    // The four slices are live for the call, and the three lent for writing are borrowed by it alone.
+    listed(unsafe {
+        ffi::kiqsaryn_list_races(
+            text.as_ptr(),
+            text.len(),
+            s.header,
+            s.model,
+            s.row_limit,
+            s.process_limit,
+            s.byte_limit,
+            rows.as_mut_ptr(),
+            rows.len(),
+            counts.as_mut_ptr(),
+            counts.len(),
+            list.as_mut_ptr(),
+            list.len(),
+        )
+    })
+}
+
+/// Puts every race of the first `n` rows under a model into the lent list, as `list_races` does. It refuses as `verdict` does, with place 0, and keeps
+/// counts and list then; 23, where the list is too short for all pairs, keeps the list alone.
+pub fn races(rows: &[u32], n: u32, process_limit: u32, model: u32, counts: &mut [u16], list: &mut [u32]) -> Listed {
+    // The three slices are live for the call, and the two lent for writing are borrowed by it alone.
+    listed(unsafe {
+        ffi::kiqsaryn_races(
+            rows.as_ptr(),
+            rows.len(),
+            n,
+            process_limit,
+            model,
+            counts.as_mut_ptr(),
+            counts.len(),
+            list.as_mut_ptr(),
+            list.len(),
+        )
+    })
 }
 
 /// What the program `verdict` prints of a trace with header: a line for each model, or the refusal's line.

@@ -25,10 +25,11 @@ pub enum Refusal {
     Stuck,
     WaitOrder,
     BarrierOrder,
+    ListSpace,
 }
 
 impl Refusal {
-    pub const ALL: [Refusal; 22] = [
+    pub const ALL: [Refusal; 23] = [
         Refusal::ShortSlice,
         Refusal::Limits,
         Refusal::HeaderWord,
@@ -51,6 +52,7 @@ impl Refusal {
         Refusal::Stuck,
         Refusal::WaitOrder,
         Refusal::BarrierOrder,
+        Refusal::ListSpace,
     ];
 
     /// The number that the documents give it, from 1.
@@ -96,6 +98,7 @@ impl Refusal {
             Refusal::BarrierOrder => {
                 "Does no process arrive at a barrier twice, or go on before all have arrived, and is every barrier finished at the trace's end?"
             }
+            Refusal::ListSpace => "Is the lent list long enough for every race, two numbers each?",
         }
     }
 }
