@@ -1,0 +1,1 @@
+-- Races in another allowed order of the rows.
