@@ -3,16 +3,16 @@ use Prim.Native.Nat.{ℕ, zero, suc, _+_, _*_, _-_, _≤_, _<_}
 use native.Mathlib.Nat.{add-zero}
 use native.Mathlib.Numerals.{add-one}
 use native.Mathlib.Omega.{arith}
-use mathlib.Core.Path.{_≡_, sym, ap, ap₂, _∙_}
+use mathlib.Core.Path.{_≡_, refl, sym, ap, ap₂, _∙_}
 use mathlib.Core.Logic.{_⊎_, inl, inr}
 use mathlib.Core.Bool.{Bool, true, false, cond, not, _&&_, and-true, and-false}
-use mathlib.Core.List.{List}
+use mathlib.Core.List.{List, [], _∷_, append-nil}
 use lib.ListN.{length, getD, set, replicate, length-set, length-append, length-replicate}
 use lib.Seq.{getD-drop}
 use lib.Dec.{leb, ltb, eqb}
 use borrow.Author.Tests.{eq-eqb, ne-eqb, lt-ltb, le-ltb}
 use Rattle.rows.specs.Kinds.{READ, WRITE}
-use Rattle.rows.specs.Limits.{PROCESSES}
+use Rattle.rows.specs.Limits.{PROCESSES, MODELS, ROWS}
 use Rattle.models.specs.Table.{publishes, refreshes}
 use Rattle.models.proofs.Entries.{own-refresh, no-data-publishes}
 use Rattle.rows.specs.declared.Row.{Row}
@@ -22,11 +22,16 @@ use Rattle.happens_before.specs.Clock.{cellIn}
 use Rattle.rows.proofs.Products.{block-before}
 use Rattle.happens_before.proofs.Filling.{rowsOf, length-rowsOf, cell-done}
 use Rattle.rows.proofs.Slices.{length-rows, row-in}
-use Rattle.races_meaning.specs.Races.{isData, shareByte, conflict}
+use Rattle.races_meaning.specs.Races.{isData, shareByte, conflict, race}
 use Rattle.rows.specs.Counting.{leastFrom, lastBelow, LastBy}
 use Rattle.races_meaning.specs.Search.{isRefresh, refreshAt}
-use Rattle.races_meaning.specs.Scan.{noted, lastNoted, inOrder, raceAt}
-use Rattle.races.specs.Given.{Given, mayConflict}
+use Rattle.races_meaning.specs.Scan.{noted, lastNoted, inOrder, seen}
+use Rattle.races_meaning.specs.Lists.{RowPair, pairsWith, pairsBelow, racePairs}
+use Rattle.races_meaning.proofs.Lists.{none-with, few-with, pairOf}
+use Rattle.races_meaning.proofs.Scans.{race-seen}
+use Rattle.races.specs.Given.{Given, Noted, mayConflict}
+use Rattle.races.specs.Listing.{withPair, withPairs}
+use Rattle.races.proofs.Putting.{put-append, put-last}
 use Rattle.rows.proofs.Below.{last-most}
 use Rattle.rows.proofs.Lasts.{lasts-none, lasts-kept, lasts-noted}
 use Rattle.races.proofs.Cells.{conflict-split, refresh-own}
@@ -202,19 +207,14 @@ module _ {rows : List Row} {model y refresh : ℕ} {last : List ℕ} {c : ℕ} (
             (λ p. ap (λ (x : Bool). eqb (rowAt rows c .process) p && x) (sym (t r f) ∙ w .0) ∙ and-false (eqb (rowAt rows c .process) p)));
       }
 
-  -- After all rows below y, the slice holds the last noted row of each process.
-  pub noting-done : {p q : ℕ} → y ≤ c → q < PROCESSES → p ≡ q → 0 < refresh → publishes model WRITE ≡ false →
-      getD last q 0 ≡ lastNoted rows model y (refresh - 1) p y
+  -- After all rows below y, the table holds the last noted row of each process.
+  pub noting-done : y ≤ c → Noted rows model y refresh last
   unfolding lastNoted
-  noting-done {p} {q} h l e r f =
+  noting-done h r f p l =
       let d : c ≡ y = omega (arith, k .low) in
-      k .held r f .last-at q l ∙ (λ i. lastNoted rows model y (refresh - 1) (sym e i) (d i))
+      k .held r f .last-at p l ∙ ap (lastNoted rows model y (refresh - 1) p) d
 
 -- ---- The pass over the earlier rows
-
--- Row x races with row y.
-abbrev pub races : List Row → ℕ → ℕ → ℕ → Bool
-races rows model y x = conflict (rowAt rows x) (rowAt rows y) && not (inOrder rows model x y)
 
 module _ {n P model x y : ℕ} {xs counts : List ℕ} (k : Given n P model xs counts) (h : x < n) (l : y < n) where
   -- The rows of the trace conflict where those of the slice pass all other tests and share a byte.
@@ -224,85 +224,137 @@ module _ {n P model x y : ℕ} {xs counts : List ℕ} (k : Given n P model xs co
 
   module _ {b : Bool} (e : b ≡ mayConflict (rowIn xs x) (rowIn xs y)) where
     -- Rows that do not conflict, whatever their bytes, do not race.
-    pub no-race-kind : b ≡ false → false ≡ races (rowsIn n xs) model y x
+    pub no-race-kind : b ≡ false → false ≡ seen (rowsIn n xs) model y x
     no-race-kind q = sym (rw (split, sym e ∙ q))
 
     module _ {o : Bool} (t : o ≡ inOrder (rowsIn n xs) model x y) where
       -- A row that is in order does not race.
-      pub no-race-order : o ≡ true → false ≡ races (rowsIn n xs) model y x
+      pub no-race-order : o ≡ true → false ≡ seen (rowsIn n xs) model y x
       no-race-order q = sym (rw (sym t ∙ q) (and-false (conflict (rowAt (rowsIn n xs) x) (rowAt (rowsIn n xs) y))))
 
       -- Rows that conflict if they share a byte, and are not in order, race where they share one.
-      pub by-byte : {r : Bool} → b ≡ true → o ≡ false → r ≡ shareByte (rowIn xs x) (rowIn xs y) → r ≡ races (rowsIn n xs) model y x
+      pub by-byte : {r : Bool} → b ≡ true → o ≡ false → r ≡ shareByte (rowIn xs x) (rowIn xs y) → r ≡ seen (rowsIn n xs) model y x
       by-byte q u w = w ∙ sym (rw (split, sym e ∙ q, sym t ∙ u) (and-true (shareByte (rowIn xs x) (rowIn xs y))))
 
--- The rows below x do not race with y.
-pub record Looking (rows : List Row) (model y x : ℕ) : Type 0 where
-  pub low : x ≤ y
-  pub least : leastFrom y 0 (races rows model y) ≡ leastFrom (y - x) x (races rows model y)
-
--- Where no number passes, the smallest is the bound.
-least-none : (test : ℕ → Bool) (n s : ℕ) → ((k : ℕ) → test k ≡ false) → leastFrom n s test ≡ s + n
-unfolding leastFrom
-least-none test zero s e = sym (add-zero s)
-least-none test (suc n) s e = let q : suc s + n ≡ s + suc n = omega arith in rw (e s) (least-none test n (suc s) e ∙ q)
-
--- Where the smallest row that races is below y, the answer is that row, plus one.
-race-some : (rows : List Row) (model y : ℕ) {x : ℕ} → leastFrom y 0 (races rows model y) ≡ x → x < y → x + 1 ≡ raceAt rows model y
-unfolding raceAt
-race-some rows model y {x} e h =
-    let one : x + 1 ≡ suc x = omega arith in
-    one ∙ sym (ap (λ (l : ℕ). cond (ltb l y) (suc l) 0) e ∙ rw (lt-ltb x y h))
-
--- Where no row below y races, the answer is 0.
-race-none : (rows : List Row) (model y : ℕ) → leastFrom y 0 (races rows model y) ≡ y → 0 ≡ raceAt rows model y
-unfolding raceAt
-race-none rows model y e = sym (ap (λ (l : ℕ). cond (ltb l y) (suc l) 0) e ∙ rw (le-ltb y y (omega arith)))
-
 -- A row that is no data row races with none.
-pub no-data : (rows : List Row) (model y : ℕ) → WRITE < rowAt rows y .kind → 0 ≡ raceAt rows model y
-unfolding conflict
-no-data rows model y h = let z : 0 + y ≡ y = omega arith in race-none rows model y (least-none (races rows model y) y 0 none ∙ z)
+pub no-data : (rows : List Row) (model y : ℕ) → WRITE < rowAt rows y .kind → (k : ℕ) → pairsWith rows model y k ≡ []
+unfolding race conflict
+no-data rows model y h = none-with rows model y none
   where
-    none : (x : ℕ) → races rows model y x ≡ false
+    none : (x : ℕ) → race rows model x y ≡ false
     none x =
         rw (
           ne-eqb (rowAt rows y .kind) READ (λ e. omega (arith, h)),
           ne-eqb (rowAt rows y .kind) WRITE (λ e. omega (arith, h)),
           and-false (isData (rowAt rows x)),
+          and-false (ltb y (length rows)),
+          and-false (ltb x y),
         )
 
--- Before the first row, none has been passed over.
-pub looking-start : (rows : List Row) (model y : ℕ) → Looking rows model y 0
-looking-start rows model y =
-    let e : y ≡ y - 0 = omega arith in
-    record { low = omega arith; least = ap (λ (k : ℕ). leastFrom k 0 (races rows model y)) e }
+-- Behind the pairs that were found before, the list holds the races of row y with the rows below x.
+pub record Putting (rows : List Row) (model y before : ℕ) (list₀ : List ℕ) (found x : ℕ) (list : List ℕ) : Type 0 where
+  pub low : x ≤ y
+  pub many : found ≡ before + length (pairsWith rows model y x)
+  pub put : list ≡ withPairs before (pairsWith rows model y x) list₀
 
-module _ {rows : List Row} {model y x : ℕ} (k : Looking rows model y x) where
-  -- Row x decides, or the rows behind row x do.
-  step : x < y → leastFrom y 0 (races rows model y) ≡ cond (races rows model y x) x (leastFrom (y - suc x) (suc x) (races rows model y))
-  unfolding leastFrom
-  step h = let e : y - x ≡ suc (y - suc x) = omega arith in k .least ∙ ap (λ (m : ℕ). leastFrom m x (races rows model y)) e
+-- Before the first row, nothing is put.
+pub putting-start : (rows : List Row) (model y before : ℕ) (list : List ℕ) → Putting rows model y before list before 0 list
+unfolding pairsWith withPairs
+putting-start rows model y before list = record { low = omega arith; many = omega arith; put = refl }
 
-  -- Row x does not race with row y.
-  pub looking-next : {b : Bool} → x < y → b ≡ races rows model y x → b ≡ false → Looking rows model y (x + 1)
-  looking-next h e q =
-      record {
-        low = omega arith;
-        least =
-            let one : suc x ≡ x + 1 = omega arith in
-            step h ∙ ap (λ (t : Bool). cond t x (leastFrom (y - suc x) (suc x) (races rows model y))) (sym e ∙ q)
-            ∙ ap (λ (s : ℕ). leastFrom (y - s) s (races rows model y)) one;
-      }
+module _ {rows : List Row} {model y before found x : ℕ} {list₀ list : List ℕ} (k : Putting rows model y before list₀ found x list) where
+  -- The pairs so far are at most one for each row below x.
+  pub putting-few : found ≤ before + x
+  putting-few = omega (arith, k .many, few-with rows model y x)
 
-  -- Row x is the first that races.
-  pub looking-found : {b : Bool} → x < y → b ≡ races rows model y x → b ≡ true → x + 1 ≡ raceAt rows model y
-  looking-found h e q = race-some rows model y (step h ∙ rw (sym e ∙ q)) h
+  -- Row x is put behind the pairs so far where it races, and passed over where it does not.
+  pub putting-next : {after : List ℕ} {next : ℕ} {b : Bool} → model < MODELS → x < y → y < length rows → b ≡ seen rows model y x →
+      ((b ≡ true) × (after ≡ withPair found (x + 1) (y + 1) list) × (next ≡ found + 1)) ⊎ ((b ≡ false) × (after ≡ list) × (next ≡ found)) →
+      Putting rows model y before list₀ next (x + 1) after
+  unfolding pairsWith
+  putting-next {after} {next} {b} m h g e w = rw add-one (go w)
+    where
+      is : race rows model x y ≡ b
+      is = race-seen rows model x y m h g ∙ sym e
 
-  -- After all rows below y, no row races.
-  pub looking-none : y ≤ x → 0 ≡ raceAt rows model y
-  unfolding leastFrom
-  looking-none h =
-      let d : x ≡ y = omega (arith, k .low) in
-      let z : y - x ≡ 0 = omega arith in
-      race-none rows model y (k .least ∙ ap (λ (m : ℕ). leastFrom m x (races rows model y)) z ∙ d)
+      old : List RowPair
+      old = pairsWith rows model y x
+
+      go : ((b ≡ true) × (after ≡ withPair found (x + 1) (y + 1) list) × (next ≡ found + 1)) ⊎ ((b ≡ false) × (after ≡ list) × (next ≡ found)) →
+          Putting rows model y before list₀ next (suc x) after
+      go (inl (t, u, v)) =
+          record {
+            low = omega arith;
+            many = rw (is ∙ t) (omega (arith, v, k .many, length-append old (pairOf x y ∷ [])));
+            put =
+                rw (is ∙ t)
+                (u ∙ (λ i. withPair (k .many i) (add-one x i) (add-one y i) (k .put i)) ∙ sym (put-last before old (pairOf x y) list₀));
+          }
+      go (inr (t, u, v)) =
+          record {
+            low = omega arith;
+            many = rw (is ∙ t, append-nil) (v ∙ k .many);
+            put = rw (is ∙ t, append-nil) (u ∙ k .put);
+          }
+
+  -- After all rows below y, the list holds the races of row y.
+  pub putting-done : y ≤ x → (found ≡ before + length (pairsWith rows model y y)) × (list ≡ withPairs before (pairsWith rows model y y) list₀)
+  putting-done h =
+      let d : x ≡ y = omega (arith, k .low) in (
+        k .many ∙ ap (λ (i : ℕ). before + length (pairsWith rows model y i)) d,
+        k .put ∙ ap (λ (i : ℕ). withPairs before (pairsWith rows model y i) list₀) d,
+      )
+
+-- ---- All later rows
+
+-- The rows below y have at most ROWS races each.
+pairs-bound : (rows : List Row) (model y : ℕ) → y ≤ ROWS → length (pairsBelow rows model y) ≤ y * ROWS
+unfolding pairsBelow
+pairs-bound rows model zero h = omega arith
+pairs-bound rows model (suc y) h =
+    omega (
+      arith,
+      pairs-bound rows model y (omega arith),
+      few-with rows model y y,
+      length-append (pairsBelow rows model y) (pairsWith rows model y y),
+    )
+
+-- The list holds the races whose later rows stand below y.
+pub record Covering (rows : List Row) (model : ℕ) (list₀ : List ℕ) (found y : ℕ) (list : List ℕ) : Type 0 where
+  pub low : y ≤ length rows
+  pub many : found ≡ length (pairsBelow rows model y)
+  pub put : list ≡ withPairs 0 (pairsBelow rows model y) list₀
+
+-- Before the first row, nothing is put.
+pub covering-start : (rows : List Row) (model : ℕ) (list : List ℕ) → Covering rows model list 0 0 list
+unfolding pairsBelow withPairs
+covering-start rows model list = record { low = omega arith; many = refl; put = refl }
+
+module _ {rows : List Row} {model : ℕ} {list₀ : List ℕ} {found y : ℕ} {list : List ℕ} (k : Covering rows model list₀ found y list) where
+  -- The pairs so far are few.
+  pub covering-few : length rows ≤ ROWS → found ≤ y * ROWS
+  covering-few h = omega (arith, k .many, pairs-bound rows model y (omega (arith, k .low)))
+
+  -- The races of row y are put behind the pairs so far.
+  pub covering-next : {next : ℕ} {after : List ℕ} → y < length rows → next ≡ found + length (pairsWith rows model y y) →
+      after ≡ withPairs found (pairsWith rows model y y) list → Covering rows model list₀ next (y + 1) after
+  unfolding pairsBelow
+  covering-next h e w =
+      rw add-one
+      (record {
+        low = h;
+        many = e ∙ ap (λ (n : ℕ). n + length (pairsWith rows model y y)) (k .many) ∙ sym (length-append (pairsBelow rows model y) (pairsWith rows model y y));
+        put =
+            let count : found ≡ 0 + length (pairsBelow rows model y) = omega (arith, k .many) in
+            w ∙ (λ i. withPairs (count i) (pairsWith rows model y y) (k .put i))
+            ∙ sym (put-append 0 (pairsBelow rows model y) (pairsWith rows model y y) list₀);
+      })
+
+  -- After all rows, the list holds every race.
+  pub covering-done : length rows ≤ y → (found ≡ length (racePairs rows model)) × (list ≡ withPairs 0 (racePairs rows model) list₀)
+  unfolding racePairs
+  covering-done h =
+      let d : y ≡ length rows = omega (arith, k .low) in (
+        k .many ∙ ap (λ (i : ℕ). length (pairsBelow rows model i)) d,
+        k .put ∙ ap (λ (i : ℕ). withPairs 0 (pairsBelow rows model i) list₀) d,
+      )

@@ -1,7 +1,7 @@
-// Finds the verdict on rows under a model: free, or the first race.
+// Finds the races of rows under a model: the verdict, which is free or the first race, and the list of every race.
 ghost use mathlib.Core.Path.{_≡_};
 ghost use Prim.Native.Nat.{_+_, _*_, _-_, _<_, _≤_};
-ghost use lib.ListN.{length};
+ghost use lib.ListN.{length, getD};
 ghost use lib.Dec.{leb, eqb};
 ghost use mathlib.Core.Bool.{false, not, _&&_};
 ghost use Rattle.models.specs.Table.{publishes, refreshes};
@@ -9,18 +9,23 @@ ghost use Rattle.rows.specs.Kinds.{WRITE};
 ghost use Rattle.rows.specs.Rows.{rowsIn, rowAt, rowIn};
 ghost use Rattle.rows.specs.Questions.{firstNo};
 ghost use Rattle.happens_before.specs.Clock.{cellIn};
-ghost use Rattle.happens_before.specs.Filling.{filledLeft};
+ghost use Rattle.happens_before.specs.Filling.{filledOf, filledLeft};
 ghost use Rattle.races_meaning.specs.Races.{shareByte, conflict, verdictOf};
 ghost use Rattle.races_meaning.specs.Search.{refreshAt};
-ghost use Rattle.races_meaning.specs.Scan.{noted, lastNoted, inOrder, raceAt};
+ghost use Rattle.races_meaning.specs.Scan.{noted, lastNoted, inOrder};
+ghost use Rattle.races_meaning.specs.Lists.{pairsWith, racePairs};
 ghost use Rattle.races.specs.Answers.{judgeQuestions, verdictFound, foundOf};
-ghost use Rattle.races.specs.Given.{Given, mayConflict};
+ghost use Rattle.races.specs.Listing.{withPair, withPairs, hasRoom, listQuestions, listedOf, listLeft, roomAnswer, roomLeft};
+ghost use Rattle.races.specs.Given.{Given, Noted, mayConflict};
 use happens_before::Filled;
 use rows::refusal;
-ghost use Rattle.rows.specs.Limits.{PROCESSES, FIELDS};
+ghost use Rattle.rows.specs.Limits.{ROWS, PROCESSES, FIELDS};
 
 // One noted row for each process.
 const NOTES: usize = rows::PROCESSES as usize;
+
+// The numbers of a pair of rows: the earlier row's, then the later row's.
+const PAIR: usize = 2;
 
 // Free, the numbers of the earlier and the later row of the first race, or the number of the question that was answered No.
 pub enum Found {
@@ -29,22 +34,63 @@ pub enum Found {
     Refused(u32),
 }
 
+// The number of pairs, or the number and place of a refusal; the place is 0 where the refusal names no record.
+pub enum Listed {
+    Pairs(u32),
+    Refused(u32, u32),
+}
+
 // Answers the verdict on the first n rows under a model and fills their counts. A refusal changes nothing: 1 for a slice that is too
 // short, 2 for the model or a limit out of its range, 10 for a row whose process is not below the process limit.
 pub fn verdict(rows: &[u32], n: u32, process_limit: u32, model: u32, counts: &mut [u16]) -> Found
     ensures answer { λ r. ⌜ r ≡ foundOf (firstNo (judgeQuestions n «process_limit» model (now (rows .entry)) (length (now (counts .entry))))) (now (rows .entry)) n model ⌝ }
     ensures left { λ r. ⌜ now (counts .exit) ≡ filledLeft (firstNo (judgeQuestions n «process_limit» model (now (rows .entry)) (length (now (counts .entry))))) n «process_limit» (now (rows .entry)) (now (counts .entry)) ⌝ }
 {
-    if rows::MODELS <= model {
-        if !happens_before::slices_fit(n, process_limit, rows.len(), counts.len()) {
-            return Found::Refused(refusal::SHORT_SLICE);
-        }
-        return Found::Refused(refusal::LIMITS);
-    }
-    match happens_before::fill_counts(rows, n, process_limit, counts) {
+    match fill(rows, n, process_limit, model, counts) {
         Filled::Refused(number) => Found::Refused(number),
         Filled::Done => first_race(rows, n as usize, process_limit as usize, model, counts),
     }
+}
+
+// Puts every race of the first n rows under a model into the list, two numbers each, and answers how many there are; fills the counts of the rows.
+// It refuses as the verdict does, and then with 23 a list that is too short for every race. A refusal keeps the list, and all but 23 the counts.
+pub fn list_races(
+    rows: &[u32],
+    n: u32,
+    process_limit: u32,
+    model: u32,
+    counts: &mut [u16],
+    list: &mut [u32],
+) -> Listed
+    ensures answer { λ r. ⌜ r ≡ listedOf (firstNo (listQuestions n «process_limit» model (now (rows .entry)) (length (now (counts .entry))) (length (now (list .entry))))) (racePairs (rowsIn n (now (rows .entry))) model) ⌝ }
+    ensures left { λ r. ⌜ now (counts .exit) ≡ filledLeft (firstNo (judgeQuestions n «process_limit» model (now (rows .entry)) (length (now (counts .entry))))) n «process_limit» (now (rows .entry)) (now (counts .entry)) ⌝ }
+    ensures listed { λ r. ⌜ now (list .exit) ≡ listLeft (firstNo (listQuestions n «process_limit» model (now (rows .entry)) (length (now (counts .entry))) (length (now (list .entry))))) (racePairs (rowsIn n (now (rows .entry))) model) (now (list .entry)) ⌝ }
+{
+    match fill(rows, n, process_limit, model, counts) {
+        Filled::Refused(number) => Listed::Refused(number, 0),
+        Filled::Done => put_all(
+            rows,
+            n as usize,
+            process_limit as usize,
+            model,
+            counts,
+            list,
+        ),
+    }
+}
+
+// Asks the questions of a verdict and fills the counts of the rows.
+fn fill(rows: &[u32], n: u32, process_limit: u32, model: u32, counts: &mut [u16]) -> Filled
+    ensures answer { λ r. ⌜ r ≡ filledOf (firstNo (judgeQuestions n «process_limit» model (now (rows .entry)) (length (now (counts .entry))))) ⌝ }
+    ensures left { λ r. ⌜ now (counts .exit) ≡ filledLeft (firstNo (judgeQuestions n «process_limit» model (now (rows .entry)) (length (now (counts .entry))))) n «process_limit» (now (rows .entry)) (now (counts .entry)) ⌝ }
+{
+    if rows::MODELS <= model {
+        if !happens_before::slices_fit(n, process_limit, rows.len(), counts.len()) {
+            return Filled::Refused(refusal::SHORT_SLICE);
+        }
+        return Filled::Refused(refusal::LIMITS);
+    }
+    happens_before::fill_counts(rows, n, process_limit, counts)
 }
 
 // Answers the first race of the rows, by their counts.
@@ -52,15 +98,63 @@ fn first_race(rows: &[u32], n: usize, processes: usize, model: u32, counts: &[u1
     requires { ⌜ Given n processes model (now rows) (now counts) ⌝ }
     ensures { λ r. ⌜ r ≡ verdictFound (verdictOf (rowsIn n (now (rows .entry))) model) ⌝ }
 {
+    let mut pair = [0u32; PAIR];
     let mut y = 0;
     while y < n {
-        let x = race_at(rows, n, processes, model, counts, y);
-        if 0 < x {
-            return Found::Race(x as u32, y as u32 + 1);
+        let found = put_races_with(rows, n, processes, model, counts, y, 0, &mut pair);
+        if 0 < found {
+            return Found::Race(pair[0], pair[1]);
         }
         y += 1;
     }
     Found::Free
+}
+
+// Puts every race of the rows into the list where it has room for all of them; else it answers 23 and keeps the list. A list that may be too short is
+// written once the races have been counted.
+fn put_all(
+    rows: &[u32],
+    n: usize,
+    processes: usize,
+    model: u32,
+    counts: &[u16],
+    list: &mut [u32],
+) -> Listed
+    requires { ⌜ Given n processes model (now rows) (now counts) ⌝ }
+    ensures answer { λ r. ⌜ r ≡ roomAnswer (racePairs (rowsIn n (now (rows .entry))) model) (length (now (list .entry))) ⌝ }
+    ensures listed { λ r. ⌜ now (list .exit) ≡ roomLeft (racePairs (rowsIn n (now (rows .entry))) model) (now (list .entry)) ⌝ }
+{
+    if list.len() + n < n * n {
+        let mut nothing = [0u32; 1];
+        let needed = put_races(rows, n, processes, model, counts, &mut nothing);
+        if list.len() < PAIR * needed {
+            return Listed::Refused(refusal::LIST_SPACE, 0);
+        }
+    }
+    let found = put_races(rows, n, processes, model, counts, list);
+    Listed::Pairs(found as u32)
+}
+
+// Puts the races of the rows at the front of the list, as long as there is room, and answers how many there are.
+fn put_races(
+    rows: &[u32],
+    n: usize,
+    processes: usize,
+    model: u32,
+    counts: &[u16],
+    list: &mut [u32],
+) -> usize
+    requires { ⌜ Given n processes model (now rows) (now counts) ⌝ }
+    ensures answer { λ r. ⌜ r ≡ length (racePairs (rowsIn n (now (rows .entry))) model) ⌝ }
+    ensures listed { λ r. ⌜ now (list .exit) ≡ withPairs 0 (racePairs (rowsIn n (now (rows .entry))) model) (now (list .entry)) ⌝ }
+{
+    let mut found = 0;
+    let mut y = 0;
+    while y < n {
+        found = put_races_with(rows, n, processes, model, counts, y, found, list);
+        y += 1;
+    }
+    found
 }
 
 // Rows x and y conflict if they share a byte: they are data rows of one file and two processes, one of them a write. The kinds of two data rows
@@ -174,15 +268,25 @@ struct Later {
     own: bool,
 }
 
-// Answers the smallest index of a row that races with y, plus one; 0 where none does.
-fn race_at(rows: &[u32], n: usize, processes: usize, model: u32, counts: &[u16], y: usize) -> usize
+// Puts the races of the later row y behind the pairs that were found before, as long as there is room, and answers how many there are with those.
+fn put_races_with(
+    rows: &[u32],
+    n: usize,
+    processes: usize,
+    model: u32,
+    counts: &[u16],
+    y: usize,
+    found: usize,
+    list: &mut [u32],
+) -> usize
     requires { ⌜ Given n processes model (now rows) (now counts) ⌝ }
-    requires { ⌜ y < n ⌝ }
-    ensures { λ r. ⌜ r ≡ raceAt (rowsIn n (now (rows .entry))) model y ⌝ }
+    requires { ⌜ (y < n) × (found ≤ y * ROWS) ⌝ }
+    ensures answer { λ r. ⌜ r ≡ found + length (pairsWith (rowsIn n (now (rows .entry))) model y y) ⌝ }
+    ensures listed { λ r. ⌜ now (list .exit) ≡ withPairs found (pairsWith (rowsIn n (now (rows .entry))) model y y) (now (list .entry)) ⌝ }
 {
     let to = y * rows::FIELDS;
     if rows::WRITE < rows[to + rows::KIND_AT] {
-        return 0;
+        return found;
     }
     let refresh = refresh_at(rows, n, model, y);
     let later = Later {
@@ -193,7 +297,18 @@ fn race_at(rows: &[u32], n: usize, processes: usize, model: u32, counts: &[u16],
         refresh: refresh,
         own: models::is_publish(model, rows::WRITE),
     };
+    let last = note_rows(rows, counts, later);
+    put_found(rows, counts, later, last, found, list)
+}
+
+// Answers, for each process, the index of its last noted row before the later row, plus one; 0 where there is none.
+fn note_rows(rows: &[u32], counts: &[u16], later: Later) -> [usize; NOTES]
+    requires { ⌜ Given (later .n) (later .processes) (later .model) (now rows) (now counts) ⌝ }
+    requires { ⌜ (later .y < later .n) × (later .refresh ≡ refreshAt (rowsIn (later .n) (now rows)) (later .model) (later .y)) × (later .refresh ≤ later .n) × (later .own ≡ publishes (later .model) WRITE) ⌝ }
+    ensures { λ r. ⌜ Noted (rowsIn (later .n) (now (rows .entry))) (later .model) (later .y) (later .refresh) r ⌝ }
+{
     let mut last = [0usize; NOTES];
+    let y = later.y;
     let mut c = 0;
     while c < y {
         if is_noted(rows, counts, later, c) {
@@ -203,16 +318,49 @@ fn race_at(rows: &[u32], n: usize, processes: usize, model: u32, counts: &[u16],
         }
         c += 1;
     }
+    last
+}
+
+// Puts the rows that race with the later row behind the pairs that were found before; `last` has the last noted row of each process.
+fn put_found(
+    rows: &[u32],
+    counts: &[u16],
+    later: Later,
+    last: [usize; NOTES],
+    before: usize,
+    list: &mut [u32],
+) -> usize
+    requires { ⌜ Given (later .n) (later .processes) (later .model) (now rows) (now counts) ⌝ }
+    requires { ⌜ (later .y < later .n) × (later .refresh ≡ refreshAt (rowsIn (later .n) (now rows)) (later .model) (later .y)) × (later .refresh ≤ later .n) × (later .own ≡ publishes (later .model) WRITE) × (before ≤ later .y * ROWS) ⌝ }
+    requires { ⌜ Noted (rowsIn (later .n) (now rows)) (later .model) (later .y) (later .refresh) last ⌝ }
+    ensures answer { λ r. ⌜ r ≡ before + length (pairsWith (rowsIn (later .n) (now (rows .entry))) (later .model) (later .y) (later .y)) ⌝ }
+    ensures listed { λ r. ⌜ now (list .exit) ≡ withPairs before (pairsWith (rowsIn (later .n) (now (rows .entry))) (later .model) (later .y) (later .y)) (now (list .entry)) ⌝ }
+{
+    let y = later.y;
+    let mut found = before;
     let mut x = 0;
     while x < y {
         let at = x * rows::FIELDS;
         let p = rows[at] as usize;
         if is_race(rows, counts, later, x, last[p]) {
-            return x + 1;
+            put_pair(list, found, x as u32 + 1, y as u32 + 1);
+            found += 1;
         }
         x += 1;
     }
-    0
+    found
+}
+
+// Puts a pair of rows at the place of pair k in the list, where there is room.
+fn put_pair(list: &mut [u32], k: usize, earlier: u32, later: u32)
+    requires { ⌜ k ≤ ROWS * ROWS ⌝ }
+    ensures { λ _. ⌜ now (list .exit) ≡ withPair k earlier later (now (list .entry)) ⌝ }
+{
+    let at = PAIR * k;
+    if at + PAIR <= list.len() {
+        list[at] = earlier;
+        list[at + 1] = later;
+    }
 }
 
 // Row x before the later row races with it; `last` is the index of the last noted row of the process of x, plus one. Bytes are compared last: of

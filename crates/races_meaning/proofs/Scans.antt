@@ -1,8 +1,8 @@
--- The scan finds the races, and the first of them is the verdict.
-use Prim.Native.Nat.{ℕ, suc, _+_, _-_, _≤_, _<_}
+-- The scan finds the races.
+use Prim.Native.Nat.{ℕ, suc, _-_, _≤_, _<_}
 use native.Mathlib.Omega.{arith}
 use mathlib.Core.Path.{_≡_, refl, sym, ap, _∙_}
-use mathlib.Core.Bool.{Bool, true, false, cond, not, _&&_, false≢true}
+use mathlib.Core.Bool.{Bool, true, false, cond, not, _&&_}
 use mathlib.Core.List.{List}
 use lib.ListN.{length}
 use lib.Dec.{ltb, eqb}
@@ -14,12 +14,11 @@ use Rattle.happens_before.specs.Order.{edge, HB}
 use Rattle.rows.specs.Rows.{rowAt}
 use Rattle.rows.proofs.Bools.{and-out, same-test}
 use Rattle.happens_before.proofs.Clocks.{edge-forward, HB-less, hb-iff}
-use Rattle.races_meaning.specs.Races.{sameFile, conflict, synchronized, race, free, racing, verdictOf}
-use Rattle.rows.specs.Counting.{leastFrom, lastBelow}
+use Rattle.races_meaning.specs.Races.{sameFile, conflict, synchronized, race}
+use Rattle.rows.specs.Counting.{lastBelow}
 use Rattle.races_meaning.specs.TableChain.{publishedBy, refreshedBy, tableChain}
 use Rattle.races_meaning.specs.Search.{isPublish, publishAt, refreshAt, bestChain}
-use Rattle.races_meaning.specs.Scan.{before, noted, lastNoted, inOrder, raceAt}
-use Rattle.races_meaning.proofs.Verdicts.{least-is, race-out, free-iff, racing-iff}
+use Rattle.races_meaning.specs.Scan.{before, noted, lastNoted, inOrder, seen}
 use Rattle.races_meaning.proofs.Conflicts.{Conflict, conflict-iff}
 use Rattle.races_meaning.proofs.Chains.{two-iff, table-chain}
 use Rattle.races_meaning.proofs.Best.{Latest, last-is, refreshed, publish-first, refresh-last, best-chain, counts-tell}
@@ -140,73 +139,11 @@ in-order rows model x y m h g c =
 
 -- ---- The races of a later row
 
--- What the scan asks of an earlier row.
-abbrev seen : List Row → ℕ → ℕ → ℕ → Bool
-seen rows model y x = conflict (rowAt rows x) (rowAt rows y) && not (inOrder rows model x y)
-
 -- An earlier row that the scan finds is a race.
-race-seen : (rows : List Row) (model x y : ℕ) → model < MODELS → x < y → y < length rows → race rows model x y ≡ seen rows model y x
+pub race-seen : (rows : List Row) (model x y : ℕ) → model < MODELS → x < y → y < length rows → race rows model x y ≡ seen rows model y x
 unfolding race
 race-seen rows model x y m h g = rw (lt-ltb x y h, lt-ltb y (length rows) g) (go (conflict (rowAt rows x) (rowAt rows y)) refl)
   where
     go : (b : Bool) → conflict (rowAt rows x) (rowAt rows y) ≡ b → b && not (synchronized rows model x y) ≡ b && not (inOrder rows model x y)
     go true e = ap not (in-order rows model x y m h g e)
     go false e = refl
-
-module _ (rows : List Row) (model y : ℕ) (m : model < MODELS) where
-  -- The smallest earlier row that the scan finds.
-  abbrev smallest : ℕ
-  smallest = leastFrom y 0 (seen rows model y)
-
-  -- No race with this later row has a smaller earlier row.
-  race-small : (x : ℕ) → race rows model x y ≡ true → (smallest ≤ x) × (x < y)
-  race-small x e =
-      let o = race-out rows model x y e in
-      let n = least-is y 0 (seen rows model y) .least x (omega arith) (sym (race-seen rows model x y m (o .0) (o .1)) ∙ e) in
-      (omega arith, o .0)
-
-  -- Where the scan found none, there is no race with this later row.
-  none-at : raceAt rows model y ≡ 0 → (x : ℕ) → race rows model x y ≡ true → ⊥
-  unfolding raceAt
-  none-at e x r = let s = race-small x r in go (ltb smallest y) refl e (omega arith)
-    where
-      go : (b : Bool) → ltb smallest y ≡ b → cond b (suc smallest) 0 ≡ 0 → smallest < y → ⊥
-      go true t e l = omega arith
-      go false t e l = false≢true (sym t ∙ lt-ltb smallest y l)
-
-  -- Where the scan found one, it is the race with the smallest earlier row.
-  one-at : (x : ℕ) → raceAt rows model y ≡ suc x → (smallest ≡ x) × (smallest < y)
-  unfolding raceAt
-  one-at x e = go (ltb smallest y) refl e
-    where
-      go : (b : Bool) → ltb smallest y ≡ b → cond b (suc smallest) 0 ≡ suc x → (smallest ≡ x) × (smallest < y)
-      go true t e = (omega arith, ltb-true smallest y t)
-      go false t e = absurd (omega arith)
-
--- Where no later row has a race, the verdict is free.
-pub none-found : (rows : List Row) (model : ℕ) → model < MODELS → ((y : ℕ) → y < length rows → raceAt rows model y ≡ 0) → verdictOf rows model ≡ free
-none-found rows model m h = free-iff rows model .1 (λ x y e. none-at rows model y m (h y (race-out rows model x y e .1)) x e)
-
--- The verdict names the first later row that has a race, with its smallest earlier row.
-pub first-found : (rows : List Row) (model x y : ℕ) → model < MODELS → y < length rows → ((k : ℕ) → k < y → raceAt rows model k ≡ 0) →
-    raceAt rows model y ≡ suc x → verdictOf rows model ≡ racing (suc x) (y + 1)
-first-found rows model x y m h g e =
-    racing-iff rows model (suc x) (y + 1) .1 (x, y, omega arith, refl, record { is-race = is; least-later = later; least-earlier = earlier })
-  where
-    s : ℕ
-    s = leastFrom y 0 (seen rows model y)
-
-    found : (s ≡ x) × (s < y)
-    found = one-at rows model y m x e
-
-    is : race rows model x y ≡ true
-    is =
-        let q = found .0 in
-        let l = found .1 in
-        race-seen rows model x y m (omega arith) h ∙ ap (seen rows model y) (sym q) ∙ least-is y 0 (seen rows model y) .passes (omega arith)
-
-    later : (x′ y′ : ℕ) → race rows model x′ y′ ≡ true → y ≤ y′
-    later x′ y′ r = let n : y′ < y → ⊥ = λ l. none-at rows model y′ m (g y′ l) x′ r in omega arith
-
-    earlier : (x′ : ℕ) → race rows model x′ y ≡ true → x ≤ x′
-    earlier x′ r = omega (arith, found .0, race-small rows model y m x′ r .0)

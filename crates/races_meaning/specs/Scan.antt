@@ -1,5 +1,5 @@
--- How the verdict is found: for each later row one pass that notes, for each process, its last row that publishes and happens before the
--- refresh, and one pass over the earlier rows. The law `race-scan` says that it finds the races.
+-- How races are found: for each later row one pass that notes, for each process, its last row that publishes and happens before the refresh, and one
+-- pass over the earlier rows. The law `race-seen` says that it finds the races.
 use Prim.Native.Nat.{ℕ, suc, _-_}
 use mathlib.Core.Bool.{Bool, cond, not, _&&_}
 use mathlib.Core.List.{List, [], _∷_}
@@ -10,8 +10,8 @@ use Rattle.models.specs.Table.{publishes}
 use Rattle.rows.specs.declared.Row.{Row}
 use Rattle.rows.specs.Rows.{rowsIn, rowAt}
 use Rattle.happens_before.specs.Order.{count}
-use Rattle.races_meaning.specs.Races.{isWrite, sameFile, conflict, Verdict, free, racing, verdictOf}
-use Rattle.rows.specs.Counting.{leastFrom, lastBelow}
+use Rattle.races_meaning.specs.Races.{isWrite, sameFile, conflict}
+use Rattle.rows.specs.Counting.{lastBelow}
 use Rattle.races_meaning.specs.Search.{refreshAt}
 
 module _ (rows : List Row) (model : ℕ) where
@@ -37,8 +37,6 @@ module _ (rows : List Row) (model : ℕ) where
       && cond (publishes model WRITE) (before p x (refreshAt rows model y - 1)) (ltb (suc x) (lastNoted y (refreshAt rows model y - 1) p y)))
       (before p x y)
 
-  -- The smallest x that races with y, plus one; 0 where none does.
-  unfoldable pub raceAt : ℕ → ℕ
-  raceAt y =
-      let x = leastFrom y 0 (λ x. conflict (rowAt rows x) (rowAt rows y) && not (inOrder x y)) in
-      cond (ltb x y) (suc x) 0
+  -- Row x before row y races with it: the two conflict and are not properly synchronized.
+  abbrev pub seen : ℕ → ℕ → Bool
+  seen y x = conflict (rowAt rows x) (rowAt rows y) && not (inOrder x y)

@@ -88,3 +88,7 @@ WAIT-ORDER = 21
 -- Is each barrier in order, and finished?
 abbrev pub BARRIER-ORDER : ℕ
 BARRIER-ORDER = 22
+
+-- Does every race fit the lent list?
+abbrev pub LIST-SPACE : ℕ
+LIST-SPACE = 23

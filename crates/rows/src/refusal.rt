@@ -44,3 +44,5 @@ pub const STUCK: u32 = 20;
 pub const WAIT_ORDER: u32 = 21;
 // Is each barrier in order, and finished?
 pub const BARRIER_ORDER: u32 = 22;
+// Does every race fit the lent list?
+pub const LIST_SPACE: u32 = 23;
