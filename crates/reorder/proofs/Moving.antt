@@ -16,22 +16,14 @@ use Rattle.races_meaning.specs.Races.{isWrite, isSync, conflict, chain, synchro
 use Rattle.races_meaning.proofs.Chains.{HB-in, HB-start, posix-iff, commit-iff, session-iff, mpi-io-iff}
 use Rattle.races_meaning.proofs.Verdicts.{race-out, free-iff}
 use Rattle.reorder.specs.Renumbering.{Renumbered}
+use Rattle.reorder.proofs.Edges.{same-turned}
 use Rattle.reorder.proofs.Between.{conflict-turned, OneProcess, sync-process, either-process, One, Pair, other-chain, sync-order, race-parts, race-in}
 
 -- ---- The way back
 
 -- The way back of a renumbering is a renumbering.
 pub turned : {rows rows′ : List Row} {to from : ℕ → ℕ} → Renumbered rows rows′ to from → Renumbered rows′ rows from to
-turned {rows} {rows′} {to} {from} r =
-    record {
-      to-within = r .from-within;
-      from-within = r .to-within;
-      from-to = r .to-from;
-      to-from = r .from-to;
-      same-row = λ k h. sym (r .same-row (from k) (r .from-within k h)) ∙ ap (rowAt rows′) (r .to-from k h);
-      edge-to = r .edge-from;
-      edge-from = r .edge-to;
-    }
+turned r = record { same = same-turned (r .same); edge-to = r .edge-from; edge-from = r .edge-to }
 
 module _ {rows rows′ : List Row} {to from : ℕ → ℕ} (r : Renumbered rows rows′ to from) where
   -- ---- Happens-before and the chains
@@ -48,7 +40,7 @@ module _ {rows rows′ : List Row} {to from : ℕ → ℕ} (r : Renumbered rows 
   -- A test that two rows pass is passed by the rows at their new numbers.
   test-moved : (test : Row → Row → Bool) (i j : ℕ) → i < length rows → j < length rows →
       test (rowAt rows i) (rowAt rows j) ≡ true → test (rowAt rows′ (to i)) (rowAt rows′ (to j)) ≡ true
-  test-moved test i j a b e = rw (r .same-row i a, r .same-row j b) e
+  test-moved test i j a b e = rw (r .same .same-row i a, r .same .same-row j b) e
 
   -- Where a row after x passes a test with x and happens before y, one does so under the new numbers too.
   one-moved : (first : Row → Row → Bool) → OneProcess first → (x y : ℕ) → x < length rows → One rows first x y → One rows′ first (to x) (to y)
@@ -82,7 +74,7 @@ module _ {rows rows′ : List Row} {to from : ℕ → ℕ} (r : Renumbered rows 
   pub sync-moved : (model x y : ℕ) → x < length rows → y < length rows →
       synchronized rows model x y ≡ true → synchronized rows′ model (to x) (to y) ≡ true
   unfolding synchronized
-  sync-moved model x y a b e = rw (r .same-row x a) (go (isWrite (rowAt rows x)) e)
+  sync-moved model x y a b e = rw (r .same .same-row x a) (go (isWrite (rowAt rows x)) e)
     where
       go : (w : Bool) → cond w (chain rows model x y) (hb (edge rows) x y) ≡ true →
           cond w (chain rows′ model (to x) (to y)) (hb (edge rows′) (to x) (to y)) ≡ true
@@ -94,13 +86,13 @@ module _ {rows rows′ : List Row} {to from : ℕ → ℕ} (r : Renumbered rows 
 module _ {rows rows′ : List Row} {to from : ℕ → ℕ} (r : Renumbered rows rows′ to from) where
   -- A row that happens before another row under the new numbers does so under the old ones.
   pub hb-back : (x y : ℕ) → x < length rows → y < length rows → HB (edge rows′) (to x) (to y) → HB (edge rows) x y
-  hb-back x y a b h = rw (r .from-to x a, r .from-to y b) at (hb-moved (turned r) h)
+  hb-back x y a b h = rw (r .same .from-to x a, r .same .from-to y b) at (hb-moved (turned r) h)
 
   -- Rows that are properly synchronized under the new numbers are so under the old ones.
   pub sync-back : (model x y : ℕ) → x < length rows → y < length rows →
       synchronized rows′ model (to x) (to y) ≡ true → synchronized rows model x y ≡ true
   sync-back model x y a b e =
-      rw (r .from-to x a, r .from-to y b) at (sync-moved (turned r) model (to x) (to y) (r .to-within x a) (r .to-within y b) e)
+      rw (r .same .from-to x a, r .same .from-to y b) at (sync-moved (turned r) model (to x) (to y) (r .same .to-within x a) (r .same .to-within y b) e)
 
   -- A race is a race under the new numbers, with the rows in the order of their new numbers.
   pub race-moved : (model x y : ℕ) → race rows model x y ≡ true →
@@ -121,7 +113,7 @@ module _ {rows rows′ : List Row} {to from : ℕ → ℕ} (r : Renumbered rows 
 
       -- The two rows have different new numbers.
       apart : to x ≡ to y → ⊥
-      apart q = let p : x ≡ y = sym (r .from-to x a) ∙ ap from q ∙ r .from-to y b in omega (arith, less)
+      apart q = let p : x ≡ y = sym (r .same .from-to x a) ∙ ap from q ∙ r .same .from-to y b in omega (arith, less)
 
       -- The two rows conflict under the new numbers.
       conflicting : conflict (rowAt rows′ (to x)) (rowAt rows′ (to y)) ≡ true
@@ -133,11 +125,11 @@ module _ {rows rows′ : List Row} {to from : ℕ → ℕ} (r : Renumbered rows 
 
       go : Dec (to x < to y) → (race rows′ model (to x) (to y) ≡ true) ⊎ (race rows′ model (to y) (to x) ≡ true)
       go (yes l) =
-          inl (race-in rows′ model (to x) (to y) l (r .to-within y b) conflicting
+          inl (race-in rows′ model (to x) (to y) l (r .same .to-within y b) conflicting
           (λ s. race-parts rows model x y e .1 (sync-back model x y a b s)))
       go (no l) =
-          inr (race-in rows′ model (to y) (to x) (omega (arith, apart)) (r .to-within x a) (conflict-turned _ _ conflicting)
-          (λ s. unordered (sync-order rows′ model (to y) (to x) (r .to-within x a) s)))
+          inr (race-in rows′ model (to y) (to x) (omega (arith, apart)) (r .same .to-within x a) (conflict-turned _ _ conflicting)
+          (λ s. unordered (sync-order rows′ model (to y) (to x) (r .same .to-within x a) s)))
 
 module _ {rows rows′ : List Row} {to from : ℕ → ℕ} (r : Renumbered rows rows′ to from) (model : ℕ) where
   -- Where the verdict is free, it is free under the new numbers too.
