@@ -90,11 +90,11 @@ module _ (earlier : List Row) (r : Row) where
             unwaited = λ s. none-of WAIT .1 (o .unwaited s);
           }
 
--- ---- More rows
+-- ---- Other rows
 
--- Rows behind the first n change nothing of what stands before a row.
-pub more-rows : (rows more : List Row) {n : ℕ} {r : Row} → n ≤ length rows → InOrder rows n r → InOrder (rows ++ more) n r
-more-rows rows more {n} {r} h o =
+-- A row is in order behind n rows where it is so behind others that have the same first n rows.
+pub same-before : {rows rows′ : List Row} {n : ℕ} {r : Row} → ((k : ℕ) → k < n → rowAt rows′ k ≡ rowAt rows k) → InOrder rows n r → InOrder rows′ n r
+same-before {rows} {rows′} {n} {r} same o =
     let own : (kind : ℕ) (x : Row) → Type 0 = λ kind x. ((x .kind ≡ kind) × (x .message ≡ r .message)) × (x .process ≡ r .process) in
     record {
       unsent = λ s k l c. o .unsent s k l (subst (λ (x : Row). Sends x (r .message)) (same k l) c);
@@ -106,6 +106,7 @@ more-rows rows more {n} {r} h o =
           λ s. let t = o .sent-before s in (t .0, t .1, subst (λ (x : Row). Sends x (r .message)) (sym (same (t .0) (t .1))) (t .2));
       unwaited = λ s k l c. o .unwaited s k l (subst (λ (x : Row). Arrives x (r .message)) (same k l) c);
     }
-  where
-    same : (k : ℕ) → k < n → rowAt (rows ++ more) k ≡ rowAt rows k
-    same k l = List·getD-append rows more noRow k (omega arith)
+
+-- Rows behind the first n change nothing of what stands before a row.
+pub more-rows : (rows more : List Row) {n : ℕ} {r : Row} → n ≤ length rows → InOrder rows n r → InOrder (rows ++ more) n r
+more-rows rows more h o = same-before (λ k l. List·getD-append rows more noRow k (omega arith)) o

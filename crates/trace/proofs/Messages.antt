@@ -1,16 +1,16 @@
 -- The messages of sound rows: each is sent once, posted once and arrives once, and a row at which a message arrives has the send and the posted
 -- receive of it before it.
-use Prim.Native.Nat.{ℕ, _<_}
+use Prim.Native.Nat.{ℕ, zero, suc, _≤_, _<_}
 use native.Mathlib.Omega.{arith}
 use native.Mathlib.Decide.{decLt}
 use mathlib.Core.Path.{_≡_, sym, ap, subst, _∙_}
 use mathlib.Core.List.{List, [], _∷_, _++_}
-use lib.ListN.{length, length-append, List·getD-append}
-use lib.Seq.{getD-append-seam}
+use lib.ListN.{length, take, length-append, List·getD-append}
+use lib.Seq.{length-take-le, take-length, take-suc, getD-append-seam, getD-take}
 use Rattle.rows.specs.declared.Row.{Row}
 use Rattle.rows.specs.Rows.{rowAt, noRow}
-use Rattle.messages.proofs.InOrder.{Sends, Posts, Arrives, InOrder, message-iff, more-rows}
-use Rattle.trace.proofs.Laws.{Sound, none, next}
+use Rattle.messages.proofs.InOrder.{Sends, Posts, Arrives, InOrder, message-iff, same-before, more-rows}
+use Rattle.trace.proofs.Laws.{WellFormed, Sound, none, next}
 
 -- Every row of sound rows is in order behind the rows before it.
 pub sound-in-order : {P : ℕ} {rows : List Row} → Sound P rows → (j : ℕ) → j < length rows → InOrder rows j (rowAt rows j)
@@ -25,6 +25,22 @@ sound-in-order (next {rows} {r} s w m) j h = go (decLt j (length rows)) (λ l. s
         let last = more-rows rows (r ∷ []) (omega arith) (message-iff rows r .0 m) in
         subst (λ (i : ℕ). InOrder (rows ++ (r ∷ [])) i (rowAt (rows ++ (r ∷ [])) i)) e
         (subst (InOrder (rows ++ (r ∷ [])) (length rows)) (sym (getD-append-seam rows r [] noRow)) last)
+
+-- The first n rows are sound where each row is well formed and in order behind the rows before it.
+first-sound : (P : ℕ) (rows : List Row) → ((k : ℕ) → k < length rows → WellFormed P (rowAt rows k)) →
+    ((k : ℕ) → k < length rows → InOrder rows k (rowAt rows k)) → (n : ℕ) → n ≤ length rows → Sound P (take n rows)
+first-sound P rows f o zero h = none
+first-sound P rows f o (suc n) h =
+    let many : length (take n rows) ≡ n = length-take-le n rows (omega arith) in
+    let here = same-before {rows′ = take n rows} (λ k l. getD-take n rows k noRow l) (o n (omega arith)) in
+    subst (Sound P) (sym (take-suc rows n noRow (omega arith)))
+    (next (first-sound P rows f o n (omega arith)) (f n (omega arith))
+    (message-iff (take n rows) (rowAt rows n) .1 (subst (λ (k : ℕ). InOrder (take n rows) k (rowAt rows n)) (sym many) here)))
+
+-- Rows are sound where each is well formed and in order behind the rows before it.
+pub in-order-sound : (P : ℕ) (rows : List Row) → ((k : ℕ) → k < length rows → WellFormed P (rowAt rows k)) →
+    ((k : ℕ) → k < length rows → InOrder rows k (rowAt rows k)) → Sound P rows
+in-order-sound P rows f o = subst (Sound P) (take-length rows) (first-sound P rows f o (length rows) (omega arith))
 
 -- A property that never holds at two places, one before the other, holds at one place only.
 once : (n : ℕ) (Q : ℕ → Type 0) → ((i j : ℕ) → i < j → j < n → Q i → Q j → ⊥) → (i j : ℕ) → i < n → j < n → Q i → Q j → i ≡ j
