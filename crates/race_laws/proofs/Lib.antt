@@ -1,3 +1,4 @@
 pub mod Places
 pub mod Reordered
+pub mod Traces
 pub mod Models
