@@ -1,4 +1,4 @@
--- The whole call: an accepted trace passes the questions of the verdict, and the verdict's answer is the call's.
+-- The whole call and the list of races: an accepted trace passes the questions of the verdict, and the answer on its rows is the call's.
 use Prim.Native.Nat.{ℕ, _*_, _-_, _≤_, _<_}
 use native.Mathlib.Omega.{arith}
 use native.Mathlib.Nat.{mul-le-mul-right}
@@ -23,10 +23,16 @@ use Rattle.races.specs.declared.Found.the-variants as found
 use Rattle.races_meaning.specs.Races.{Verdict, free, racing, verdictOf}
 use Rattle.races.specs.Answers.{judgeQuestions, verdictFound, foundOf}
 use Rattle.races.proofs.Whole.{same-first}
-use Rattle.races.proofs.Held.{rows-held, held-passes, held-found, held-counts}
+use Rattle.races.proofs.Held.{rows-held, held-passes, held-found, held-counts, held-listed, held-list}
+use Rattle.races_meaning.specs.Lists.{racePairs}
+use Rattle.races.specs.declared.Listed.{Listed}
+use Rattle.races.specs.declared.Listed.the-variants as listed
+use Rattle.races.specs.Listing as listing
+use Rattle.races.specs.Listing.{listQuestions, listLeft}
 use Rattle.checker.specs.declared.Judged.{Judged}
 use Rattle.checker.specs.declared.Judged.the-variants.{Free, Race, Refused}
 use Rattle.checker.specs.Judging.{judgedRows, Decides}
+use Rattle.checker.specs.Listing.{Lists}
 
 -- ---- The questions of the verdict
 
@@ -64,6 +70,19 @@ module _ (text : List ℕ) (header model R P limit : ℕ) (xs us : List ℕ) whe
         answered = refl;
         rows-left = l .rows-left ∙ ap (λ (o : Outcome). rowsLeft o xs) e;
         counts-left = l .counts-left ∙ ap (λ (o : Outcome). countsLeft o us) e;
+      })
+
+  -- the call that lists every race answers a refusal of the trace
+  pub lists-refused : (list : List ℕ) {a : Checked} {ys vs : List ℕ} {k p : ℕ} → Leaves outcome a xs ys us vs → a ≡ checked.Refused k p →
+      Lists model P outcome (listed.Refused k p) xs ys us vs list list
+  lists-refused list l q =
+      let e = refused-told outcome (sym q ∙ l .answered) in
+      rw e
+      (record {
+        answered = refl;
+        rows-left = l .rows-left ∙ ap (λ (o : Outcome). rowsLeft o xs) e;
+        counts-left = l .counts-left ∙ ap (λ (o : Outcome). countsLeft o us) e;
+        list-left = refl;
       })
 
   module _ {a : Checked} {ys vs : List ℕ} {n : ℕ} (l : Leaves outcome a xs ys us vs) (q : a ≡ checked.Accepted n) where
@@ -131,4 +150,27 @@ module _ (text : List ℕ) (header model R P limit : ℕ) (xs us : List ℕ) whe
           counts-left =
               held-counts rows behind (told .2) rows-there P model (passed .known-model) few room (passed .some-processes) (passed .few-processes) below vs (e .1)
               ∙ ap (λ (m : ℕ). countsOf P rows ++ replicate (m - length rows * P) 0) counts-length;
+        })
+
+    -- the call that lists every race answers and leaves what the list of the rows does
+    pub lists : (list : List ℕ) {f : Listed} {ws after : List ℕ} →
+        (f ≡ listing.listedOf (firstNo (listQuestions n P model ys (length vs) (length list))) (racePairs (rowsIn n ys) model))
+        × ((ws ≡ filledLeft (firstNo (judgeQuestions n P model ys (length vs))) n P ys vs)
+        × (after ≡ listLeft (firstNo (listQuestions n P model ys (length vs) (length list))) (racePairs (rowsIn n ys) model) list)) →
+        Lists model P outcome f xs ys us ws list after
+    lists list e =
+        let rows = told .0 in
+        rw (told .1)
+        (record {
+          answered =
+              held-listed rows behind (told .2) rows-there P model (passed .known-model) few room (passed .some-processes) (passed .few-processes) below
+              (length list) (e .0);
+          rows-left = l .rows-left ∙ ap (λ (o : Outcome). rowsLeft o xs) (told .1);
+          counts-left =
+              held-counts rows behind (told .2) rows-there P model (passed .known-model) few room (passed .some-processes) (passed .few-processes) below vs
+              (e .1 .0)
+              ∙ ap (λ (m : ℕ). countsOf P rows ++ replicate (m - length rows * P) 0) counts-length;
+          list-left =
+              held-list rows behind (told .2) rows-there P model (passed .known-model) few room (passed .some-processes) (passed .few-processes) below list
+              (e .1 .1);
         })

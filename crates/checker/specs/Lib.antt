@@ -1,2 +1,3 @@
 pub mod Judging
+pub mod Listing
 pub mod Report

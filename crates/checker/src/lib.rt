@@ -1,4 +1,4 @@
-// The whole call on the text of a trace, and the report that the program `verdict` prints of a trace.
+// The whole call on the text of a trace, the list of its races, and the report that the program `verdict` prints of a trace.
 ghost use Prim.Native.Nat.{_+_, _≤_, _<_};
 ghost use mathlib.Core.Path.{_≡_};
 ghost use lib.ListN.{length, take};
@@ -9,8 +9,10 @@ ghost use Rattle.print.specs.Puts.{lay};
 ghost use Rattle.races_meaning.specs.Races.{verdictOf};
 ghost use Rattle.races.specs.Answers.{judgeQuestions};
 ghost use Rattle.checker.specs.Judging.{Decides};
+ghost use Rattle.checker.specs.Listing.{Lists};
 ghost use Rattle.checker.specs.Report.{pair, modelLine, reportOf, reportLength, reportIn};
 use races::Found;
+use races::Listed;
 use trace::Call;
 use trace::Checked;
 
@@ -72,6 +74,32 @@ pub fn judge(text: &[u8], call: Call, rows: &mut [u32], counts: &mut [u16]) -> J
             Found::Race(earlier, later) => Judged::Race(n, earlier, later),
             Found::Refused(number) => Judged::Refused(number, 0),
         },
+    }
+}
+
+// Checks a trace, puts its rows and their counts into the lent slices, puts every race under the model into the list, and answers how many there are.
+// 23 comes last, where the list is too short for every race; it keeps the list, and the rows and counts that were read.
+pub fn list_races(
+    text: &[u8],
+    call: Call,
+    rows: &mut [u32],
+    counts: &mut [u16],
+    list: &mut [u32],
+) -> Listed
+    ensures { λ r. ⌜ Lists (call .model) (call .«process_limit»)
+        (checkTrace (now (text .entry)) (call .header) (call .model) (call .«row_limit») (call .«process_limit») (call .«byte_limit») (length (now (rows .entry))) (length (now (counts .entry))))
+        r (now (rows .entry)) (now (rows .exit)) (now (counts .entry)) (now (counts .exit)) (now (list .entry)) (now (list .exit)) ⌝ }
+{
+    match trace::check_trace(text, call, rows, counts) {
+        Checked::Refused(number, place) => Listed::Refused(number, place),
+        Checked::Accepted(n) => races::list_races(
+            rows,
+            n,
+            call.process_limit,
+            call.model,
+            counts,
+            list,
+        ),
     }
 }
 

@@ -1,10 +1,12 @@
--- How the answers of a check, of a whole call on one trace or on two files, of a verdict, of writing and of a lookup are packed into one number each,
--- and read back.
+-- How the answers of a check, of a whole call on one trace or on two files, of a verdict, of a list of races, of writing and of a lookup are packed
+-- into one number each, and read back.
 use Prim.Native.Nat.{ℕ, _+_, _*_, _/_, _%_, _<_}
 use mathlib.Core.Bool.{cond}
 use lib.Dec.{eqb}
 use Rattle.races.specs.declared.Found.{Found}
 use Rattle.races.specs.declared.Found.the-variants as found
+use Rattle.races.specs.declared.Listed.{Listed}
+use Rattle.races.specs.declared.Listed.the-variants as listed
 use Rattle.trace.specs.declared.Checked.{Checked}
 use Rattle.trace.specs.declared.Checked.the-variants as checked
 use Rattle.checker.specs.declared.Judged.{Judged}
@@ -111,6 +113,18 @@ unpackedFound answer =
     let high = answer / UPPER in
     let low = answer % UPPER in
     cond (eqb low 0) (cond (eqb high 0) found.Free (found.Refused high)) (found.Race high low)
+
+-- The answer of a list of races: the number of pairs, or the refusal's number in the upper half and its place in the lower.
+abbrev pub packedListed : Listed → ℕ
+packedListed (listed.Pairs n) = n
+packedListed (listed.Refused number place) = number * UPPER + place
+
+-- The answer of a list that such a number tells. The number of a refusal is not 0.
+abbrev pub unpackedListed : ℕ → Listed
+unpackedListed answer =
+    let high = answer / UPPER in
+    let low = answer % UPPER in
+    cond (eqb high 0) (listed.Pairs low) (listed.Refused high low)
 
 -- The answer of writing: the text's length, or the refusal's number in the upper half and its place in the lower.
 abbrev pub packedWritten : writer.Written → ℕ

@@ -1,11 +1,13 @@
-// Packs the answers of a check, of a whole call on one trace or on two files, of a verdict, of writing and of a lookup into one number each, for C.
+// Packs the answers of a check, of a whole call on one trace or on two files, of a verdict, of a list of races, of writing and of a lookup into one
+// number each, for C.
 ghost use mathlib.Core.Path.{_≡_};
 ghost use Prim.Native.Nat.{_%_};
-ghost use Rattle.kiqsaryn_packing.specs.Packing.{WORD, packed, packedWords, packedJoinWords, packedFound, packedWritten, packedLookupWords};
+ghost use Rattle.kiqsaryn_packing.specs.Packing.{WORD, packed, packedWords, packedJoinWords, packedFound, packedListed, packedWritten, packedLookupWords};
 use checker::Judged;
 use extents::LookupAnswer;
 use join_checker::JudgedJoin;
 use races::Found;
+use races::Listed;
 use trace::Checked;
 use writer::Written;
 
@@ -78,6 +80,16 @@ pub fn pack_found(answer: Found) -> u64
         Found::Free => 0,
         Found::Race(earlier, later) => earlier as u64 * UPPER + later as u64,
         Found::Refused(number) => number as u64 * UPPER,
+    }
+}
+
+// Packs what a list of races answers: the number of pairs, and of a refusal its number in the upper half and its place in the lower.
+pub fn pack_listed(answer: Listed) -> u64
+    ensures { λ r. ⌜ r ≡ packedListed answer ⌝ }
+{
+    match answer {
+        Listed::Pairs(n) => n as u64,
+        Listed::Refused(number, place) => number as u64 * UPPER + place as u64,
     }
 }
 

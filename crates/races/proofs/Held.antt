@@ -1,4 +1,4 @@
--- Rows that a slice holds at its front: they pass the questions of a verdict, and what a verdict answers and fills is that of the rows.
+-- Rows that a slice holds at its front: they pass the questions of a verdict, and what a verdict and a list answer and leave is that of the rows.
 use Prim.Native.Nat.{ℕ, _*_, _-_, _≤_, _<_}
 use native.Mathlib.Omega.{arith}
 use mathlib.Core.Path.{_≡_, sym, ap, _∙_}
@@ -15,7 +15,10 @@ use Rattle.happens_before.proofs.Asking.{all-asked}
 use Rattle.races_meaning.specs.Races.{verdictOf}
 use Rattle.races.specs.declared.Found.{Found}
 use Rattle.races.specs.Answers.{judgeQuestions, verdictFound, foundOf}
-use Rattle.races.proofs.Whole.{same-first}
+use Rattle.races_meaning.specs.Lists.{racePairs}
+use Rattle.races.specs.declared.Listed.{Listed}
+use Rattle.races.specs.Listing.{listQuestions, listedOf, listLeft, roomAnswer, roomLeft}
+use Rattle.races.proofs.Whole.{same-first, asked-answer, asked-left}
 
 module _ (rows : List Row) (rest : List ℕ) {n : ℕ} {xs : List ℕ} (many : n ≡ length rows) (held : xs ≡ numbers rows ++ rest) where
   -- The first n rows of the slice are the rows.
@@ -49,3 +52,14 @@ module _ (rows : List Row) (rest : List ℕ) {n : ℕ} {xs : List ℕ} (many : n
     held-counts us e =
         e ∙ ap (λ (first : ℕ). filledLeft first n P xs us) held-passes
         ∙ (λ i. countsOf P (rows-held i) ++ replicate (length us - many i * P) 0)
+
+    -- The answer of a list is that of the rows.
+    pub held-listed : (M : ℕ) {f : Listed} → f ≡ listedOf (firstNo (listQuestions n P model xs L M)) (racePairs (rowsIn n xs) model) →
+        f ≡ roomAnswer (racePairs rows model) M
+    held-listed M e = e ∙ asked-answer n P model xs L M held-passes ∙ ap (λ (l : List Row). roomAnswer (racePairs l model) M) rows-held
+
+    -- The list is left with the races of the rows.
+    pub held-list : (list : List ℕ) {after : List ℕ} →
+        after ≡ listLeft (firstNo (listQuestions n P model xs L (length list))) (racePairs (rowsIn n xs) model) list →
+        after ≡ roomLeft (racePairs rows model) list
+    held-list list e = e ∙ asked-left n P model xs L list held-passes ∙ ap (λ (l : List Row). roomLeft (racePairs l model) list) rows-held

@@ -134,6 +134,36 @@ module _ (n P model : ℕ) (xs : List ℕ) where
       let limits = and-out (ltb model MODELS) (countLimits n P) (yes .1 .0) .1 in
       leb-true n ROWS (and-out (leb n ROWS) (isProcessLimit P) limits .0)
 
+  -- ---- Where all but 23 is answered Yes
+
+  module _ (L : ℕ) where
+    -- The pairs.
+    abbrev pairs : List RowPair
+    pairs = racePairs (rowsIn n xs) model
+
+    -- Only 23 can be answered No.
+    only-room : (M : ℕ) → firstNo (judgeQuestions n P model xs L) ≡ 0 → firstNo (listQuestions n P model xs L M) ≡ cond (hasRoom pairs M) 0 LIST-SPACE
+    unfolding listQuestions judgeQuestions firstNo
+    only-room M e = rest-decides (judgeQuestions n P model xs L) (record { number = LIST-SPACE; yes = hasRoom pairs M } ∷ []) (omega arith) e
+
+    -- The answer is the number of pairs, or 23.
+    pub asked-answer : (M : ℕ) → firstNo (judgeQuestions n P model xs L) ≡ 0 →
+        listedOf (firstNo (listQuestions n P model xs L M)) pairs ≡ roomAnswer pairs M
+    asked-answer M e = ap (λ (k : ℕ). listedOf k pairs) (only-room M e) ∙ go (hasRoom pairs M)
+      where
+        go : (b : Bool) → listedOf (cond b 0 LIST-SPACE) pairs ≡ cond b (listed.Pairs (length pairs)) (listed.Refused LIST-SPACE 0)
+        go true = refl
+        go false = refl
+
+    -- The list holds the pairs where it has room for them.
+    pub asked-left : (list : List ℕ) → firstNo (judgeQuestions n P model xs L) ≡ 0 →
+        listLeft (firstNo (listQuestions n P model xs L (length list))) pairs list ≡ roomLeft pairs list
+    asked-left list e = ap (λ (k : ℕ). listLeft k pairs list) (only-room (length list) e) ∙ go (hasRoom pairs (length list))
+      where
+        go : (b : Bool) → listLeft (cond b 0 LIST-SPACE) pairs list ≡ cond b (pairNumbers pairs ++ drop (2 * length pairs) list) list
+        go true = refl
+        go false = refl
+
   module _ (counts : List ℕ) where
     abbrev first : ℕ
     first = firstNo (judgeQuestions n P model xs (length counts))
@@ -211,26 +241,4 @@ module _ (n P model : ℕ) (xs : List ℕ) where
             (r ≡ listedOf (firstNo (listQuestions n P model xs (length counts) (length list))) (racePairs (rowsIn n xs) model))
             × (ys ≡ filledLeft first n P xs counts)
             × (after ≡ listLeft (firstNo (listQuestions n P model xs (length counts) (length list))) (racePairs (rowsIn n xs) model) list)
-        unfolding listQuestions judgeQuestions firstNo
-        lists list r a = (
-          r ∙ sym (ap (λ (k : ℕ). listedOf k pairs) no ∙ same (hasRoom pairs (length list))),
-          l,
-          a ∙ sym (ap (λ (k : ℕ). listLeft k pairs list) no ∙ left (hasRoom pairs (length list))),
-        )
-          where
-            pairs : List RowPair
-            pairs = racePairs (rowsIn n xs) model
-
-            -- Only 23 can be answered No.
-            no : firstNo (listQuestions n P model xs (length counts) (length list)) ≡ cond (hasRoom pairs (length list)) 0 LIST-SPACE
-            no =
-                rest-decides (judgeQuestions n P model xs (length counts)) (record { number = LIST-SPACE; yes = hasRoom pairs (length list) } ∷ []) (omega arith)
-                all-passed
-
-            same : (b : Bool) → listedOf (cond b 0 LIST-SPACE) pairs ≡ cond b (listed.Pairs (length pairs)) (listed.Refused LIST-SPACE 0)
-            same true = refl
-            same false = refl
-
-            left : (b : Bool) → listLeft (cond b 0 LIST-SPACE) pairs list ≡ cond b (pairNumbers pairs ++ drop (2 * length pairs) list) list
-            left true = refl
-            left false = refl
+        lists list r a = (r ∙ sym (asked-answer (length counts) (length list) all-passed), l, a ∙ sym (asked-left (length counts) list all-passed))
