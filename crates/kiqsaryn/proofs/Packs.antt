@@ -10,12 +10,17 @@ use Rattle.happens_before.specs.declared.Filled.{Filled}
 use Rattle.happens_before.specs.declared.Filled.the-variants as filled
 use Rattle.happens_before.specs.Filling.{fillQuestions, filledOf, filledLeft}
 use Rattle.races.specs.declared.Found.{Found}
+use Rattle.races_meaning.specs.Lists.{racePairs}
+use Rattle.races.specs.declared.Listed as races
 use Rattle.races.specs.Answers.{judgeQuestions, foundOf}
+use Rattle.races.specs.Listing.{listQuestions, listedOf, listLeft}
 use Rattle.trace.specs.declared.Checked.{Checked}
 use Rattle.trace.specs.Questions.{Outcome, Leaves, checkTrace}
 use Rattle.rows.specs.Questions.{Question, firstNo}
+use Rattle.rows.specs.Rows.{rowsIn}
 use Rattle.checker.specs.declared.Judged.{Judged}
 use Rattle.checker.specs.Judging.{judgedOf, Decides}
+use Rattle.checker.specs.Listing.{Lists}
 use Rattle.checker.proofs.Sizes.{judged-small}
 use Rattle.extents.specs.declared.Answer as extents
 use Rattle.extents.specs.declared.Answer.the-variants.{Done, Listed, Refused}
@@ -35,8 +40,8 @@ use Rattle.machine_state.specs.Makes.{madeOf}
 use Rattle.machine_state.specs.Replays.{Replay, Replays}
 use Rattle.writer.specs.declared.Written.{Written}
 use Rattle.writer.specs.Writing.{Writing, Writes}
-use Rattle.kiqsaryn.specs.Packing.{Gives, JudgeGives, FileGives, JoinGives, Fills, Judges, Makes, packedStep, StepGives, ReplayGives, WriteGives, LookupGives}
-use Rattle.kiqsaryn_packing.specs.Packing.{UPPER, packed, FitsWords, packedWords, packedJudged, FitsJoinWords, packedJoinWords, packedJoin, packedFound, packedWritten, packedLookupWords, packedLookup}
+use Rattle.kiqsaryn.specs.Packing.{Gives, JudgeGives, FileGives, JoinGives, Fills, Judges, ListGives, RowsListGives, Makes, packedStep, StepGives, ReplayGives, WriteGives, LookupGives}
+use Rattle.kiqsaryn_packing.specs.Packing.{UPPER, packed, FitsWords, packedWords, packedJudged, FitsJoinWords, packedJoinWords, packedJoin, packedFound, packedListed, packedWritten, packedLookupWords, packedLookup}
 use Rattle.join_meaning.specs.Joining.{joinTraces}
 use Rattle.join_reading.specs.Reading.{ReadsFile}
 use Rattle.join_checker.specs.declared.JudgedJoin.{JudgedJoin}
@@ -107,6 +112,20 @@ pub packs-found : (n P model : ℕ) (rows counts : List ℕ) {counts′ : List �
     counts′ ≡ filledLeft (firstNo (judgeQuestions n P model rows (length counts))) n P rows counts → r ≡ packedFound a →
     Judges (judgeQuestions n P model rows (length counts)) n P model r rows counts counts′
 packs-found n P model rows counts e l q = record { answered = q ∙ ap packedFound e; counts-left = l }
+
+-- A packed answer of the list of a text's races, with what the call leaves.
+pub packs-listed : {model P : ℕ} {o : Outcome} {a : races.Listed} {r : ℕ} {rows rows′ counts counts′ list list′ : List ℕ} →
+    Lists model P o a rows rows′ counts counts′ list list′ → r ≡ packedListed a → ListGives model P o r rows rows′ counts counts′ list list′
+packs-listed l e =
+    record { answered = e ∙ ap packedListed (l .answered); rows-left = l .rows-left; counts-left = l .counts-left; list-left = l .list-left }
+
+-- A packed answer of the list of rows' races, with what the call leaves.
+pub packs-rows-listed : (n P model : ℕ) (rows counts list : List ℕ) {counts′ list′ : List ℕ} {a : races.Listed} {r : ℕ} →
+    (a ≡ listedOf (firstNo (listQuestions n P model rows (length counts) (length list))) (racePairs (rowsIn n rows) model))
+    × ((counts′ ≡ filledLeft (firstNo (judgeQuestions n P model rows (length counts))) n P rows counts)
+    × (list′ ≡ listLeft (firstNo (listQuestions n P model rows (length counts) (length list))) (racePairs (rowsIn n rows) model) list)) →
+    r ≡ packedListed a → RowsListGives n P model r rows counts counts′ list list′
+packs-rows-listed n P model rows counts list e q = record { answered = q ∙ ap packedListed (e .0); counts-left = e .1 .0; list-left = e .1 .1 }
 
 -- ---- The machine and the plain file, under the header that was made
 

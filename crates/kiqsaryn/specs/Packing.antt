@@ -2,13 +2,18 @@
 use Prim.Native.Nat.{ℕ, _+_, _*_}
 use mathlib.Core.Path.{_≡_}
 use mathlib.Core.List.{List}
+use lib.ListN.{length}
 use Rattle.extents.specs.Entries.{lookedUp}
 use Rattle.happens_before.specs.Filling.{filledLeft}
-use Rattle.races.specs.Answers.{foundOf}
+use Rattle.races_meaning.specs.Lists.{racePairs}
+use Rattle.races.specs.Answers.{judgeQuestions, foundOf}
+use Rattle.races.specs.Listing.{listQuestions, listedOf, listLeft}
 use Rattle.rows.specs.declared.Row.{Row}
+use Rattle.rows.specs.Rows.{rowsIn}
 use Rattle.trace.specs.Questions.{Outcome, checkedOf, rowsLeft, countsLeft}
 use Rattle.rows.specs.Questions.{Question, firstNo}
 use Rattle.checker.specs.Judging.{judgedOf, countsKept}
+use Rattle.checker.specs.Listing as lists
 use Rattle.machine_meaning.specs.States.{Header}
 use Rattle.machine_meaning.specs.Steps as steps
 use Rattle.machine_meaning.specs.Steps.{Step, madeTo}
@@ -17,7 +22,7 @@ use Rattle.join_meaning.specs.Joining.{Joining}
 use Rattle.join.specs.Leaving as joined
 use Rattle.join_checker.specs.Judging as joins
 use Rattle.writer.specs.Writing.{Writing, writtenOf, outLeft}
-use Rattle.kiqsaryn_packing.specs.Packing.{UPPER, packed, packedJudged, packedJoin, packedFound, packedWritten, packedLookup}
+use Rattle.kiqsaryn_packing.specs.Packing.{UPPER, packed, packedJudged, packedJoin, packedFound, packedListed, packedWritten, packedLookup}
 
 -- What a check answers and leaves.
 pub record Gives (o : Outcome) (answer : ℕ) (rows rows′ counts counts′ : List ℕ) : Type 0 where
@@ -52,6 +57,19 @@ pub record Fills (questions : List Question) (n processLimit answer : ℕ) (rows
 pub record Judges (questions : List Question) (n processLimit model answer : ℕ) (rows counts counts′ : List ℕ) : Type 0 where
   pub answered : answer ≡ packedFound (foundOf (firstNo questions) rows n model)
   pub counts-left : counts′ ≡ filledLeft (firstNo questions) n processLimit rows counts
+
+-- What the list of a text's races answers and leaves.
+pub record ListGives (model processLimit : ℕ) (o : Outcome) (answer : ℕ) (rows rows′ counts counts′ list list′ : List ℕ) : Type 0 where
+  pub answered : answer ≡ packedListed (lists.listedOf model o (length list))
+  pub rows-left : rows′ ≡ rowsLeft o rows
+  pub counts-left : counts′ ≡ countsKept processLimit o counts
+  pub list-left : list′ ≡ lists.listKept model o list
+
+-- What the list of the first n rows' races answers and leaves. The counts are those of the questions before 23.
+pub record RowsListGives (n processLimit model answer : ℕ) (rows counts counts′ list list′ : List ℕ) : Type 0 where
+  pub answered : answer ≡ packedListed (listedOf (firstNo (listQuestions n processLimit model rows (length counts) (length list))) (racePairs (rowsIn n rows) model))
+  pub counts-left : counts′ ≡ filledLeft (firstNo (judgeQuestions n processLimit model rows (length counts))) n processLimit rows counts
+  pub list-left : list′ ≡ listLeft (firstNo (listQuestions n processLimit model rows (length counts) (length list))) (racePairs (rowsIn n rows) model) list
 
 -- ---- The machine and the plain file
 

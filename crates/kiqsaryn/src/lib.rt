@@ -11,7 +11,7 @@ ghost use Rattle.machine_state.specs.Replays.{replayOf, plainReplayOf};
 ghost use Rattle.join_reading.specs.Reading.{checkFile};
 ghost use Rattle.join_meaning.specs.Joining.{joinTraces};
 ghost use Rattle.writer.specs.Writing.{writeTrace};
-ghost use Rattle.kiqsaryn.specs.Packing.{Gives, JudgeGives, FileGives, JoinGives, Fills, Judges, NO-MODEL, headerFrom, rowFrom, Makes, StepGives, ReplayGives, WriteGives, LookupGives};
+ghost use Rattle.kiqsaryn.specs.Packing.{Gives, JudgeGives, FileGives, JoinGives, Fills, Judges, ListGives, RowsListGives, NO-MODEL, headerFrom, rowFrom, Makes, StepGives, ReplayGives, WriteGives, LookupGives};
 use extents::Answer;
 use happens_before::Filled;
 use join::JoinCall;
@@ -79,6 +79,35 @@ pub extern "C" fn kiqsaryn_judge(
     };
     let answer = checker::judge(text, call, rows, counts);
     kiqsaryn_packing::pack_judged(answer)
+}
+
+// Lists every race of a trace under the model, as checker::list_races does: its rows, their counts, and in the list two numbers for each race. The
+// answer is the number of pairs, below 2^32, and of a refusal its number times 2^32 plus its place.
+#[no_mangle]
+pub extern "C" fn kiqsaryn_list_races(
+    text: &[u8],
+    header: u32,
+    model: u32,
+    row_limit: u32,
+    process_limit: u32,
+    byte_limit: usize,
+    rows: &mut [u32],
+    counts: &mut [u16],
+    list: &mut [u32],
+) -> u64
+    ensures { λ r. ⌜ ListGives model «process_limit»
+        (checkTrace (now (text .entry)) header model «row_limit» «process_limit» «byte_limit» (length (now (rows .entry))) (length (now (counts .entry))))
+        r (now (rows .entry)) (now (rows .exit)) (now (counts .entry)) (now (counts .exit)) (now (list .entry)) (now (list .exit)) ⌝ }
+{
+    let call = Call {
+        header,
+        model,
+        row_limit,
+        process_limit,
+        byte_limit,
+    };
+    let answer = checker::list_races(text, call, rows, counts, list);
+    kiqsaryn_packing::pack_listed(answer)
 }
 
 // Reads one file of a join by itself, as join_reading::read_file does: the questions 1 to 11. The answer is the row count of an accepted file, below
@@ -162,6 +191,24 @@ pub extern "C" fn kiqsaryn_verdict(
 {
     let answer = races::verdict(rows, n, process_limit, model, counts);
     kiqsaryn_packing::pack_found(answer)
+}
+
+// Lists every race of the first n rows under a model, as races::list_races does. The answer is the number of pairs, below 2^32, and of a refusal its
+// number times 2^32.
+#[no_mangle]
+pub extern "C" fn kiqsaryn_races(
+    rows: &[u32],
+    n: u32,
+    process_limit: u32,
+    model: u32,
+    counts: &mut [u16],
+    list: &mut [u32],
+) -> u64
+    ensures { λ r. ⌜ RowsListGives n «process_limit» model r
+        (now (rows .entry)) (now (counts .entry)) (now (counts .exit)) (now (list .entry)) (now (list .exit)) ⌝ }
+{
+    let answer = races::list_races(rows, n, process_limit, model, counts, list);
+    kiqsaryn_packing::pack_listed(answer)
 }
 
 // Puts what the program verdict prints of a trace with header at the front of a slice of 256 bytes or more, as checker::report does. The

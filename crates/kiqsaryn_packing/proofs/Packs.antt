@@ -16,13 +16,18 @@ use Rattle.races_meaning.proofs.Verdicts.{racing-within}
 use Rattle.races.specs.declared.Found.{Found}
 use Rattle.races.specs.declared.Found.the-variants as found
 use Rattle.races.specs.Answers.{judgeQuestions, verdictFound, foundOf}
-use Rattle.races.proofs.Whole.{few-judged}
+use Rattle.races_meaning.specs.Lists.{racePairs}
+use Rattle.races.specs.declared.Listed.{Listed}
+use Rattle.races.specs.declared.Listed.the-variants as listed
+use Rattle.races.specs.Listing.{listQuestions, listedOf}
+use Rattle.races.proofs.Whole.{few-judged, few-listed, pairs-in, square-most}
 use Rattle.trace.specs.Questions.{checkTrace}
 use Rattle.checker.specs.declared.Judged.{Judged}
 use Rattle.checker.specs.declared.Judged.the-variants as judged
 use Rattle.checker.specs.Judging.{judgedOf}
 use Rattle.checker.proofs.Sizes as judging
-use Rattle.checker.proofs.Sizes.{judged-small}
+use Rattle.checker.proofs.Sizes.{judged-small, SmallList, listed-small}
+use Rattle.checker.specs.Listing as listing
 use Rattle.extents.specs.declared.Stretch.{Stretch}
 use Rattle.extents.specs.declared.LookupAnswer.{LookupAnswer}
 use Rattle.extents.specs.declared.LookupAnswer.the-variants as looked
@@ -39,7 +44,7 @@ use Rattle.writer.specs.declared.Written.{Written}
 use Rattle.writer.specs.declared.Written.the-variants as written
 use Rattle.writer.specs.Writing.{writeTrace, writtenOf}
 use Rattle.writer.proofs.Sizes.{Small, written-small}
-use Rattle.kiqsaryn_packing.specs.Packing.{UPPER, WORD, WORD-3, WORD-4, packedJudged, packedWords, FitsWords, unpackedJudged, packedJoin, packedJoinWords, FitsJoinWords, unpackedJoin, packedFound, unpackedFound, packedWritten, unpackedWritten, MARKS, packedLookup, packedLookupWords, stretchIn, unpackedLookup}
+use Rattle.kiqsaryn_packing.specs.Packing.{UPPER, WORD, WORD-3, WORD-4, packedJudged, packedWords, FitsWords, unpackedJudged, packedJoin, packedJoinWords, FitsJoinWords, unpackedJoin, packedFound, unpackedFound, packedListed, unpackedListed, packedWritten, unpackedWritten, MARKS, packedLookup, packedLookupWords, stretchIn, unpackedLookup}
 
 -- ---- The whole call
 
@@ -197,6 +202,46 @@ found-back n P model xs L = go (eqb first 0) refl
     go : (b : Bool) → eqb first 0 ≡ b → unpackedFound (packedFound (answer b)) ≡ answer b
     go true e = verdict-back (rowsIn n xs) model (omega (arith, length-rows n xs, few-judged n P model xs L (eqb-true first 0 e)))
     go false e = halves first 0 (first * UPPER) (omega arith) (omega arith) ∙ rw e
+
+-- ---- The list of races
+
+-- An answer of a list whose numbers have 32 bits is read back from its number.
+list-read : (l : Listed) → SmallList l → unpackedListed (packedListed l) ≡ l
+list-read (listed.Pairs n) s =
+    let a : n / UPPER ≡ 0 = omega arith in
+    let b : n % UPPER ≡ n = omega arith in
+    λ k. cond (eqb (a k) 0) (listed.Pairs (b k)) (listed.Refused (a k) (b k))
+list-read (listed.Refused number place) s =
+    let answer = number * UPPER + place in
+    let a : answer / UPPER ≡ number = omega arith in
+    let b : answer % UPPER ≡ place = omega arith in
+    (λ k. cond (eqb (a k) 0) (listed.Pairs (b k)) (listed.Refused (a k) (b k))) ∙ rw (ne-eqb number 0 (λ z. omega arith))
+
+-- Every answer of the list of a text's races is read back from its number.
+pub listed-back : (text : List ℕ) (header model R P limit a b listLength : ℕ) →
+    unpackedListed (packedListed (listing.listedOf model (checkTrace text header model R P limit a b) listLength))
+    ≡ listing.listedOf model (checkTrace text header model R P limit a b) listLength
+listed-back text header model R P limit a b listLength = list-read _ (listed-small text header model R P limit a b listLength)
+
+-- Every answer of the list of rows' races is read back from its number.
+pub rows-listed-back : (n P model : ℕ) (xs : List ℕ) (L M : ℕ) →
+    unpackedListed (packedListed (listedOf (firstNo (listQuestions n P model xs L M)) (racePairs (rowsIn n xs) model)))
+    ≡ listedOf (firstNo (listQuestions n P model xs L M)) (racePairs (rowsIn n xs) model)
+unfolding listQuestions judgeQuestions
+rows-listed-back n P model xs L M = go (eqb first 0) refl
+  where
+    first : ℕ
+    first = firstNo (listQuestions n P model xs L M)
+
+    answer : Bool → Listed
+    answer b = cond b (listed.Pairs (length (racePairs (rowsIn n xs) model))) (listed.Refused first 0)
+
+    go : (b : Bool) → eqb first 0 ≡ b → unpackedListed (packedListed (answer b)) ≡ answer b
+    go true e = list-read _ (omega (arith, pairs-in n model xs, square-most (few-listed n P model xs L M (eqb-true first 0 e))))
+    go false e =
+        let a : (first * UPPER + 0) / UPPER ≡ first = omega arith in
+        let b : (first * UPPER + 0) % UPPER ≡ 0 = omega arith in
+        (λ k. cond (eqb (a k) 0) (listed.Pairs (b k)) (listed.Refused (a k) (b k))) ∙ rw e
 
 -- ---- Writing
 

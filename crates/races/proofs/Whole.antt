@@ -15,7 +15,7 @@ use Rattle.rows.specs.Refusals.{SHORT-SLICE, LIMITS, LIST-SPACE}
 use Rattle.rows.specs.declared.Row.{Row}
 use Rattle.rows.specs.Rows.{rowsIn, rowAt}
 use Rattle.rows.specs.Questions.{longEnough, isProcessLimit, firstNo}
-use Rattle.rows.proofs.Asking.{all-yes, first-no, rest-decides}
+use Rattle.rows.proofs.Asking.{all-yes, none-no, none-appended, first-no, rest-decides}
 use Rattle.happens_before.specs.declared.Filled.{Filled}
 use Rattle.happens_before.specs.declared.Filled.the-variants as filled
 use Rattle.happens_before.specs.Order.{countsOf}
@@ -133,6 +133,11 @@ module _ (n P model : ℕ) (xs : List ℕ) where
       let yes = all-yes (judgeQuestions n P model xs L) (omega arith) e in
       let limits = and-out (ltb model MODELS) (countLimits n P) (yes .1 .0) .1 in
       leb-true n ROWS (and-out (leb n ROWS) (isProcessLimit P) limits .0)
+
+  -- Rows whose races are listed are at most the largest row limit.
+  pub few-listed : (L M : ℕ) → firstNo (listQuestions n P model xs L M) ≡ 0 → n ≤ ROWS
+  unfolding listQuestions judgeQuestions
+  few-listed L M e = few-judged L (none-no (judgeQuestions n P model xs L) (none-appended (judgeQuestions n P model xs L) _ (omega arith) e .0))
 
   -- ---- Where all but 23 is answered Yes
 
