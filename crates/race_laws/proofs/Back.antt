@@ -20,7 +20,7 @@ use Rattle.reorder.specs.Renumbering.{SameRows, Renumbered}
 use Rattle.consistency.specs.Orders.{Stands, Allowed, placesBelow, traceOrder}
 use Rattle.consistency.proofs.Orderings.{trace-order}
 use Rattle.race_laws.specs.Reordered.{Whole, reordered, placeIn}
-use Rattle.race_laws.proofs.Reordered.{whole-same, whole-renumbered}
+use Rattle.race_laws.proofs.Reordered.{one-row, whole-same, whole-renumbered}
 
 -- ---- Numbers of a list, each renamed
 
@@ -86,7 +86,7 @@ renumbered-whole {rows} {rows′} {to} {from} r =
       allowed =
           record {
             of-trace = λ c m. let t = named-out to places c m in rw (t .2) (r .same .to-within (t .0) (order .of-trace (t .0) (t .1)));
-            once = named-once to places (λ a b i j e. apart a b (order .of-trace a i) (order .of-trace b j) e) (order .once);
+            once = named-once to places (λ a b i j e. one-row (r .same) a b (order .of-trace a i) (order .of-trace b j) e) (order .once);
             closed = λ i j before m. all i (HB-start rows′ before);
             in-order = λ i j e m n. stands i j e;
           };
@@ -98,9 +98,6 @@ renumbered-whole {rows} {rows′} {to} {from} r =
 
     order : Allowed rows places
     order = trace-order rows
-
-    apart : (a b : ℕ) → a < length rows → b < length rows → to a ≡ to b → a ≡ b
-    apart a b h g e = sym (r .same .from-to a h) ∙ ap from e ∙ r .same .from-to b g
 
     all : (k : ℕ) → k < length rows′ → In k (map to places)
     all k h = rw (r .same .to-from k h) at (named-in to places (from k) (below-in (length rows) (from k) (r .same .from-within k h)))

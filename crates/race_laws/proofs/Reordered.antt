@@ -1,7 +1,7 @@
 -- The races of a trace are the same pairs of rows in every allowed order of its rows.
 use Prim.Native.Nat.{ℕ, _<_}
 use native.Mathlib.Omega.{arith}
-use mathlib.Core.Path.{_≡_, ap, _∙_}
+use mathlib.Core.Path.{_≡_, sym, ap, _∙_}
 use mathlib.Core.Logic.{_↔_, _⊎_, inl, inr}
 use mathlib.Core.Bool.{true}
 use mathlib.Core.List.{List}
@@ -23,6 +23,11 @@ use Rattle.race_laws.specs.Reordered.{Whole, reordered, placeIn, raceBet
 use Rattle.race_laws.proofs.Places.{place-in, at-in, at-place, stands-less, row-listed, whole-many}
 
 -- ---- The same rows and the same edges
+
+-- Two rows with one new number are one row.
+pub one-row : {rows rows′ : List Row} {to from : ℕ → ℕ} → SameRows rows rows′ to from → (a b : ℕ) → a < length rows → b < length rows →
+    to a ≡ to b → a ≡ b
+one-row {rows} {rows′} {to} {from} s a b h g e = sym (s .from-to a h) ∙ ap from e ∙ s .from-to b g
 
 -- The reordered rows are as many as the places of the order.
 listed-many : (rows : List Row) (order : List ℕ) → length (reordered rows order) ≡ length order
@@ -60,7 +65,7 @@ module _ {P : ℕ} {rows : List Row} (s : Sound P rows) (w : Kept rows) {order :
 -- ---- Races
 
 -- Two rows that race do so under another numbering, whichever of them stands first.
-between-moved : {rows rows′ : List Row} {to from : ℕ → ℕ} → Renumbered rows rows′ to from → (model i j : ℕ) →
+pub between-moved : {rows rows′ : List Row} {to from : ℕ → ℕ} → Renumbered rows rows′ to from → (model i j : ℕ) →
     raceBetween rows model i j ≡ true → raceBetween rows′ model (to i) (to j) ≡ true
 between-moved {rows} {rows′} {to} r model i j e = go (or-out (race rows model i j) (race rows model j i) e)
   where

@@ -24,12 +24,12 @@ use Rattle.reorder.proofs.Moving.{hb-moved}
 use Rattle.consistency.proofs.Messages.{sound-edge}
 use Rattle.consistency.proofs.Theorems.{sound-trace}
 use Rattle.race_laws.specs.Reordered.{Whole, reordered}
-use Rattle.race_laws.proofs.Reordered.{reordered-many, whole-renumbered}
+use Rattle.race_laws.proofs.Reordered.{one-row, reordered-many, whole-renumbered}
 
 module _ {rows rows′ : List Row} {to from : ℕ → ℕ} (r : Renumbered rows rows′ to from) where
   -- Two new places of one old place are one place.
   one-place : (a b : ℕ) → a < length rows′ → b < length rows′ → from a ≡ from b → a ≡ b
-  one-place a b h g e = sym (r .same .to-from a h) ∙ ap to e ∙ r .same .to-from b g
+  one-place = one-row (same-turned (r .same))
 
   -- A row at a new place, by its old place.
   old-row : (a : ℕ) → a < length rows′ → rowAt rows (from a) ≡ rowAt rows′ a
