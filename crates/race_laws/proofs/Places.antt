@@ -1,5 +1,5 @@
 -- Numbers in a list that has each of them once: where each stands, and how many they are.
-use Prim.Native.Nat.{ℕ, zero, suc, _<_}
+use Prim.Native.Nat.{ℕ, zero, suc, _≤_, _<_}
 use native.Mathlib.Omega.{arith}
 use native.Mathlib.Decide.{ℕ-discrete}
 use mathlib.Core.Path.{_≡_, refl, sym, ap, _∙_}
@@ -14,7 +14,7 @@ use Rattle.rows.specs.Rows.{rowAt}
 use Rattle.rows.specs.Lists.{In, Once}
 use Rattle.rows.specs.Counting.{countBelow}
 use Rattle.rows.proofs.Bools.{or-out, or-right, not-passed}
-use Rattle.rows.proofs.Below.{count-same, count-cut, count-own}
+use Rattle.rows.proofs.Below.{count-same, count-below, count-cut, count-own}
 use Rattle.consistency.specs.Orders.{Stands}
 use Rattle.race_laws.specs.Reordered.{placeIn}
 
@@ -113,3 +113,31 @@ every-many (suc n) = omega (arith, every-many n)
 -- A list that has each number below n once, and no other, has n.
 pub whole-many : (n : ℕ) (l : List ℕ) → Once l → ((k : ℕ) → In k l → k < n) → ((k : ℕ) → k < n → In k l) → length l ≡ n
 whole-many n l o b a = sym (once-many n l o b) ∙ count-same n (holds l) (λ k. true) (λ k h. holds-in l k (a k h)) ∙ every-many n
+
+-- Where each number below m leads to a number below n, and no two lead to one, m is at most n.
+pub leads-few : (m n : ℕ) (Leads : ℕ → ℕ → Type 0) → ((k : ℕ) → k < m → (i : ℕ) × (i < n) × Leads k i) →
+    ((k l i : ℕ) → k < m → l < m → Leads k i → Leads l i → k ≡ l) → m ≤ n
+leads-few m n Leads f one =
+    let (l, many, o, b) = reached m (omega arith) in
+    omega (arith, many, once-many n l o (λ i h. b i h .0), count-below n (holds l))
+  where
+    -- A number below n to which one of the numbers below c leads.
+    Reached : ℕ → ℕ → Type 0
+    Reached c i = (i < n) × ((k : ℕ) × (k < c) × Leads k i)
+
+    -- The numbers to which those below c lead, each once.
+    reached : (c : ℕ) → c ≤ m → (l : List ℕ) × (length l ≡ c) × Once l × ((i : ℕ) → In i l → Reached c i)
+    reached zero h = ([], refl, tt, λ i a. absurd a)
+    reached (suc c) h =
+        let (l, many, o, b) = reached c (omega arith) in
+        let (i, low, e) = f c (omega arith) in
+        (i ∷ l, ap suc many, (λ a. apart i e (b i a .1), o), in-one l b i low e)
+      where
+        -- No number below c leads to the number to which c leads.
+        apart : (i : ℕ) → Leads c i → ((k : ℕ) × (k < c) × Leads k i) → ⊥
+        apart i e (k, d, g) = let q = one k c i (omega arith) (omega arith) g e in omega arith
+
+        -- Each of the numbers, with that of c in front, is reached from below c + 1.
+        in-one : (l : List ℕ) → ((i : ℕ) → In i l → Reached c i) → (i : ℕ) → i < n → Leads c i → (j : ℕ) → In j (i ∷ l) → Reached (suc c) j
+        in-one l b i low e j (inl q) = rw q (low, (c, omega arith, e))
+        in-one l b i low e j (inr a) = let (d, t) = b j a in (d, (t .0, omega (arith, t .1), t .2))
