@@ -8,6 +8,7 @@ use std::path::PathBuf;
 pub enum Topic {
     All,
     Check,
+    Races,
     Replay,
     Diagram,
     Write,
@@ -46,6 +47,14 @@ pub struct Common {
     pub processes: u32,
 }
 
+/// Which races are shown: those of a file, those in which a process has a row, and at most so many of them under each model.
+#[derive(Clone, Copy)]
+pub struct Choice {
+    pub file: Option<u32>,
+    pub process: Option<u32>,
+    pub limit: Option<u32>,
+}
+
 /// Where `join` writes the joined trace.
 pub enum Output {
     Nowhere,
@@ -58,6 +67,7 @@ pub enum Request {
     Help(Topic),
     Version,
     Check { common: Common, models: Vec<Model>, csv: bool },
+    Races { common: Common, models: Vec<Model>, choice: Choice, csv: bool },
     Replay { common: Common, file: u32, model: Model },
     Diagram { common: Common, model: Model, output: Option<PathBuf> },
     Write { common: Common, out_header: bool, output: Option<PathBuf> },
@@ -74,6 +84,8 @@ struct Given {
     processes: Option<OsString>,
     model: Option<OsString>,
     file: Option<OsString>,
+    process: Option<OsString>,
+    limit: Option<OsString>,
     output: Option<OsString>,
     csv: bool,
     help: bool,
@@ -181,6 +193,8 @@ impl Given {
             "--processes" => &mut self.processes,
             "--model" => &mut self.model,
             "--file" => &mut self.file,
+            "--process" => &mut self.process,
+            "--limit" => &mut self.limit,
             _ => &mut self.output,
         }
     }
@@ -231,6 +245,16 @@ impl Given {
         }
     }
 
+    /// Which races are shown; all where nothing is said.
+    fn choice(&self) -> Result<Choice, String> {
+        let one = |name: &str, value: &Option<OsString>, to: u32| value.as_ref().map(|v| number(name, v, 0, to)).transpose();
+        Ok(Choice {
+            file: one("--file", &self.file, FILES - 1)?,
+            process: one("--process", &self.process, PROCESSES - 1)?,
+            limit: one("--limit", &self.limit, u32::MAX)?,
+        })
+    }
+
     /// Whether the text that is written has a header: as `--out-header` says, or as the first trace has one.
     fn out_header(&self, common: &Common) -> Result<bool, String> {
         match &self.out_header {
@@ -258,6 +282,7 @@ pub fn parse(args: impl Iterator<Item = OsString>) -> Result<Request, (String, T
         Some("--help" | "-h") => return Ok(Request::Help(Topic::All)),
         Some("--version" | "-V") => return Ok(Request::Version),
         Some("check") => Topic::Check,
+        Some("races") => Topic::Races,
         Some("replay") => Topic::Replay,
         Some("diagram") => Topic::Diagram,
         Some("write") => Topic::Write,
@@ -273,6 +298,7 @@ fn allowed(topic: Topic) -> (&'static [&'static str], usize) {
     match topic {
         Topic::All => (&[], 0),
         Topic::Check => (&["--header", "--headers", "--processes", "--model", "--csv"], 2),
+        Topic::Races => (&["--header", "--headers", "--processes", "--model", "--file", "--process", "--limit", "--csv"], 2),
         Topic::Replay => (&["--header", "--headers", "--processes", "--model", "--file"], 2),
         Topic::Diagram => (&["--header", "--headers", "--processes", "--model", "-o"], 2),
         Topic::Write => (&["--header", "--headers", "--out-header", "--processes", "-o"], 1),
@@ -290,6 +316,7 @@ fn request(topic: Topic, args: impl Iterator<Item = OsString>) -> Result<Request
     match topic {
         Topic::All => Ok(Request::Help(topic)),
         Topic::Check => Ok(Request::Check { common, models: given.models()?, csv: given.csv }),
+        Topic::Races => Ok(Request::Races { common, models: given.models()?, choice: given.choice()?, csv: given.csv }),
         Topic::Replay => {
             let Some(file) = &given.file else {
                 return Err("say which file: --file 0 to --file 63".to_string());

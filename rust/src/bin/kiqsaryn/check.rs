@@ -2,9 +2,10 @@
 
 use crate::explain::explain;
 use crate::input::{short_names, Join, Recorded, Trace};
+use crate::races;
 use crate::recording::Recording;
 use crate::text::{counted, describe, escape, labelled, size};
-use crate::words::words;
+use crate::words::{words, Words};
 use kiqsaryn::{verdict, Model, Row, Verdict, BARRIER, RECV, SEND, WAIT};
 use std::collections::{BTreeMap, BTreeSet};
 
@@ -122,43 +123,74 @@ pub fn what_was_joined(join: &Join) -> String {
     labelled("Joined: ", &format!("{}, {first} and {second}", counted(u64::from(join.n), "row")))
 }
 
+/// Why two rows race under a model; both are known by their numbers.
+pub fn why(trace: &Trace, model: Model, earlier: u32, later: u32) -> Option<Words> {
+    let rows = trace.rows();
+    explain(&rows, model, earlier, later).and_then(|e| words(&e, &rows, &mut trace.naming(&[earlier, later])))
+}
+
+/// The sentences of an explanation, each behind its label.
+pub fn sentences(words: Option<&Words>) -> String {
+    match words {
+        None => "    no explanation found; please report this trace\n".to_string(),
+        Some(w) => w.lines.iter().map(|(label, line)| sentence(label, line)).collect(),
+    }
+}
+
+/// A sentence behind its label.
+pub fn sentence(label: &str, line: &str) -> String {
+    labelled(&format!("    {:9}", format!("{label}:")), line)
+}
+
 /// Both rows of a race, the bytes they share, and for each model what is missing between them.
 fn race(trace: &Trace, models: &[Model], earlier: u32, later: u32) -> String {
-    let rows = trace.rows();
-    let names: Vec<&str> = models.iter().map(|m| m.name()).collect();
-    let mut s = format!("\nRace of row {earlier} and row {later} under {}\n", names.join(", "));
+    let mut s = format!("\nRace of row {earlier} and row {later} under {}\n", races::names(models));
     s.push_str(&shown_row(trace, earlier));
     s.push_str(&shown_row(trace, later));
     let mut shared = None;
     for model in models {
-        let name = &mut trace.naming(&[earlier, later]);
-        let words = explain(&rows, *model, earlier, later).and_then(|e| words(&e, &rows, name));
+        let words = why(trace, *model, earlier, later);
         if let (None, Some(w)) = (&shared, &words) {
             s.push_str(&labelled("  shared: ", &w.shared));
             shared = Some(());
         }
-        s.push_str(&format!("  {}:\n", model.name()));
-        match words {
-            None => s.push_str("    no explanation found; please report this trace\n"),
-            Some(w) => w.lines.iter().for_each(|(label, line)| s.push_str(&labelled(&format!("    {:9}", format!("{label}:")), line))),
-        }
+        s.push_str(&format!("  {}:\n{}", model.name(), sentences(words.as_ref())));
     }
     s
 }
 
-/// The verdicts, and why rows race.
-fn judged(trace: &Trace, verdicts: &[(Model, Verdict)]) -> String {
+/// Which race of how many the first is.
+fn first_of(races: usize) -> String {
+    match races {
+        1 => "the only race".to_string(),
+        n => format!("the first of {n} races"),
+    }
+}
+
+/// What is said behind the first races, of which a model has so many at most.
+fn ending(most: usize) -> &'static str {
+    match most {
+        0 => "",
+        1 => "\nThere is no other race. After a repair, check again.\n",
+        _ => "\n'kiqsaryn races' shows every race. After a repair, check again.\n",
+    }
+}
+
+/// The verdicts, how many races there are, and why the rows of the first race.
+fn judged(trace: &Trace, verdicts: &[(Model, Verdict)]) -> Result<String, String> {
     let mut s = "\nVerdicts:\n".to_string();
     let mut pairs: Vec<((u32, u32), Vec<Model>)> = Vec::new();
+    let mut most = 0;
     for (model, v) in verdicts {
         let words = match v {
             Verdict::Race { earlier, later } => {
-                let pair = (*earlier, *later);
+                let (pair, races) = ((*earlier, *later), races::count(trace, *model)?);
                 match pairs.iter_mut().find(|(p, _)| *p == pair) {
                     Some((_, models)) => models.push(*model),
                     None => pairs.push((pair, vec![*model])),
                 }
-                format!("race, {} and {}", trace.row_name(*earlier), trace.row_name(*later))
+                most = most.max(races);
+                format!("race, {} and {} ({})", trace.row_name(*earlier), trace.row_name(*later), first_of(races))
             }
             _ => "free".to_string(),
         };
@@ -167,18 +199,14 @@ fn judged(trace: &Trace, verdicts: &[(Model, Verdict)]) -> String {
     for ((earlier, later), models) in &pairs {
         s.push_str(&race(trace, models, *earlier, *later));
     }
-    s.push_str(match pairs.len() {
-        0 => "",
-        1 => "\nThis is the first race; there may be more. After a repair, check again.\n",
-        _ => "\nThese are the first races; there may be more. After a repair, check again.\n",
-    });
-    s
+    Ok(s + ending(most))
 }
 
-pub fn report(trace: &Trace, verdicts: &[(Model, Verdict)]) -> String {
+/// The whole report. An error is a sentence.
+pub fn report(trace: &Trace, verdicts: &[(Model, Verdict)]) -> Result<String, String> {
     let read = match &trace.source {
         Recorded::Alone(recording) => what_was_read("Trace", recording),
         Recorded::Joined(join) => [what_was_read_of_two(&join.recordings), what_was_joined(join)].join("\n"),
     };
-    read + &judged(trace, verdicts)
+    Ok(read + &judged(trace, verdicts)?)
 }

@@ -103,7 +103,7 @@ pub struct Explanation {
 }
 
 /// The first and the last byte of both ranges.
-fn shared(a: Row, b: Row) -> Option<(u32, u32)> {
+pub fn shared(a: Row, b: Row) -> Option<(u32, u32)> {
     let end = |r: Row| u64::from(r.offset) + u64::from(r.length);
     let first = a.offset.max(b.offset);
     let last = end(a).min(end(b)).checked_sub(1)?;

@@ -1,4 +1,4 @@
-//! The help texts. {processes} stands for the largest process limit.
+//! The help texts. {processes} stands for the largest process limit, and {last} for the largest process number.
 
 use crate::args::Topic;
 use kiqsaryn::PROCESSES;
@@ -6,6 +6,7 @@ use kiqsaryn::PROCESSES;
 const ALL: &str = "kiqsaryn - finds storage races in the trace of a storage shelf
 
   kiqsaryn check TRACE --header yes|no      verdicts, and why rows race
+  kiqsaryn races TRACE --header yes|no      every race, in groups
   kiqsaryn replay TRACE --header yes|no --file F --model M
                                             what each read returned
   kiqsaryn diagram TRACE --header yes|no    the trace as a picture (SVG)
@@ -22,8 +23,8 @@ and lines that end in CR LF; - reads standard input. It has at most 4096 rows,
 --header says whether the first record holds these names (yes) or is row 1
 (no). It is always asked and never guessed.
 
-check, replay and diagram also take two traces, FIRST SECOND, with --headers in
-the place of --header, and work on their join.
+check, races, replay and diagram also take two traces, FIRST SECOND, with
+--headers in the place of --header, and work on their join.
 
 Exit status:
   0  free under every model asked for; replay, diagram or write done
@@ -40,8 +41,8 @@ kiqsaryn check FIRST SECOND --headers yes|no,yes|no [--processes N]
                [--model NAME] [--csv]
 
 Says what was read, to hold against the recorder, then the verdict under each
-model. For a race it shows both rows, the bytes they share, and what is missing
-between them. Two traces are joined first (kiqsaryn join --help); each row is
+model and how many races there are. For the first race it shows both rows, the
+bytes they share, and what is missing between them. Two traces are joined first (kiqsaryn join --help); each row is
 then shown with its own trace and its number there.
 
   --header yes|no   the first record holds the names (yes) or is row 1 (no)
@@ -53,7 +54,8 @@ then shown with its own trace and its number there.
                     or refused,NUMBER,PLACE,TRACE (1 or 2, 0 for the join)
 
 A verdict names the first race: the one with the smallest later row, then the
-smallest earlier row. There may be more behind it; check again after a repair.
+smallest earlier row. kiqsaryn races shows every race; check again after a
+repair.
 
 \"Row 2 happens before row 7\" means: both are of one process, or messages and
 barriers lead from the one to the other: a message from its send to the wait
@@ -68,6 +70,51 @@ Examples:
   kiqsaryn check old-shelf.csv --header no --model commit
   kiqsaryn check - --header yes --csv < shelf.csv
   kiqsaryn check left.csv right.csv --headers yes,no
+";
+
+const RACES: &str = "kiqsaryn races TRACE --header yes|no [--processes N] [--model NAME] [--file F]
+               [--process P] [--limit N] [--csv]
+kiqsaryn races FIRST SECOND --headers yes|no,yes|no [--processes N]
+               [--model NAME] [--file F] [--process P] [--limit N] [--csv]
+
+Says how many races there are under each model, then shows them in groups: the
+races of one file between two processes, in the order of their first races.
+Models with the same races are shown together. Each race has a line: both rows,
+the earlier one first, who reads or writes which bytes, and the bytes they
+share. For the first race of a group it says what is missing, as check does.
+Two traces are joined first (kiqsaryn join --help); each row is then shown with
+its own trace and its number there.
+
+  --header yes|no   the first record holds the names (yes) or is row 1 (no)
+  --headers A,B     the same for two traces: A for the first, B for the second
+  --processes N     process numbers are below N; 1 to {processes}, {processes} if left out
+  --model NAME      posix, commit, session, mpiio, or all; all if left out
+  --file F          show the races of file F alone, 0 to 63
+  --process P       show the races in which process P has a row, 0 to {last}
+  --limit N         show at most N races under each model, the first ones by
+                    later row and then by earlier row; 1000 if left out, and
+                    with --csv all. 0 shows the counts and the groups alone
+  --csv             only the lines model,earlier,later (CR LF), by later row and
+                    then by earlier row, or refused,NUMBER,PLACE; of two traces
+                    their rows in the join, or refused,NUMBER,PLACE,TRACE
+
+--file, --process and --limit choose what is shown, also with --csv. The counts
+in words and the exit status are always of all races under the models asked
+for. With --csv nothing tells what was left out.
+
+\"Alike: the same is missing for 2 of the 3 races\" counts the races of the
+group for which Needed and Missing would say the same as for the first but for
+row numbers: the same process comes first, with a read or with a write, and the
+same is not there: the row that publishes, the row that refreshes, both, or the
+order between them.
+
+Exit status: 0 free, 1 race, 2 refused, 3 wrong command line or file error.
+
+Examples:
+  kiqsaryn races shelf.csv --header yes
+  kiqsaryn races shelf.csv --header yes --model commit --file 1 --process 3
+  kiqsaryn races shelf.csv --header yes --limit 0
+  kiqsaryn races left.csv right.csv --headers yes,no --csv > races.csv
 ";
 
 const REPLAY: &str = "kiqsaryn replay TRACE --header yes|no --file F --model M [--processes N]
@@ -198,12 +245,13 @@ pub fn help(topic: Topic) -> String {
     let text = match topic {
         Topic::All => ALL,
         Topic::Check => CHECK,
+        Topic::Races => RACES,
         Topic::Replay => REPLAY,
         Topic::Diagram => DIAGRAM,
         Topic::Write => WRITE,
         Topic::Join => JOIN,
     };
-    text.replace("{processes}", &PROCESSES.to_string())
+    text.replace("{processes}", &PROCESSES.to_string()).replace("{last}", &(PROCESSES - 1).to_string())
 }
 
 /// How to ask for the help that goes with an error.
@@ -211,6 +259,7 @@ pub fn hint(topic: Topic) -> &'static str {
     match topic {
         Topic::All => "kiqsaryn --help shows the commands.",
         Topic::Check => "kiqsaryn check --help shows the options.",
+        Topic::Races => "kiqsaryn races --help shows the options.",
         Topic::Replay => "kiqsaryn replay --help shows the options.",
         Topic::Diagram => "kiqsaryn diagram --help shows the options.",
         Topic::Write => "kiqsaryn write --help shows the options.",

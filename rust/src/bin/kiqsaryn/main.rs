@@ -1,15 +1,18 @@
 //! The command `kiqsaryn`: reads a trace, or two that it joins, asks the proved library, and prints its answers in words.
 
+mod alike;
 mod args;
 mod barriers;
 mod check;
 mod diagram;
 mod explain;
+mod groups;
 mod help;
 mod input;
 mod messages;
 mod output;
 mod posted;
+mod races;
 mod recording;
 mod refused;
 mod replay;
@@ -19,7 +22,7 @@ mod turns;
 mod words;
 mod write;
 
-use args::{Common, Inputs, Output, Request};
+use args::{Choice, Common, Inputs, Output, Request};
 use input::{Loaded, Trace};
 use kiqsaryn::Model;
 use output::Place;
@@ -32,7 +35,8 @@ const RACE: u8 = 1;
 const REFUSED: u8 = 2;
 const WRONG: u8 = 3;
 
-/// All that is to be written, and the exit status. Nothing is written before it is complete.
+/// All that is to be written, and the exit status. Nothing is written before it is complete, save for the races, which may be millions of lines:
+/// `run_races` writes them block by block, once the library has listed them.
 struct Outcome {
     out: String,
     err: String,
@@ -89,6 +93,7 @@ fn run(request: Request) -> Outcome {
         Request::Help(topic) => Outcome::out(help::help(topic), FREE),
         Request::Version => Outcome::out(format!("kiqsaryn {}\n", env!("CARGO_PKG_VERSION")), FREE),
         Request::Check { common, models, csv } => run_check(&common, &models, csv),
+        Request::Races { common, models, choice, csv } => run_races(&common, &models, &choice, csv),
         Request::Replay { common, file, model } => with_trace(
             &common,
             &[Place::Output],
@@ -113,7 +118,7 @@ fn run(request: Request) -> Outcome {
 /// The verdicts in the form that is asked for, and the exit status.
 fn judged(trace: &Trace, models: &[Model], csv: bool) -> Result<(String, u8), String> {
     let verdicts = check::judge(trace, models)?;
-    let words = if csv { check::csv(&verdicts) } else { check::report(trace, &verdicts) };
+    let words = if csv { check::csv(&verdicts) } else { check::report(trace, &verdicts)? };
     Ok((words, if check::any_race(&verdicts) { RACE } else { FREE }))
 }
 
@@ -131,6 +136,24 @@ fn run_check(common: &Common, models: &[Model], csv: bool) -> Outcome {
         &[Place::Output],
         |r| Outcome::out(refused_words(r, csv), REFUSED),
         |trace| judged(trace, models, csv).map(|(words, status)| Outcome::out(words, status)),
+    )
+}
+
+/// Writes every race under the models. The exit status tells of all of them, whatever is chosen to be shown.
+fn run_races(common: &Common, models: &[Model], choice: &Choice, csv: bool) -> Outcome {
+    with_trace(
+        common,
+        &[Place::Output],
+        |r| Outcome::out(refused_words(r, csv), REFUSED),
+        |trace| {
+            let all = races::find(trace, models)?;
+            let written = output::in_blocks(|out| match csv {
+                true => races::csv(out, trace, models, &all, choice),
+                false => races::report(out, trace, models, &all, choice),
+            });
+            written.map_err(not_said)?;
+            Ok(Outcome::out(String::new(), if races::any_race(&all) { RACE } else { FREE }))
+        },
     )
 }
 
@@ -212,7 +235,11 @@ fn say(words: &str) -> Result<(), String> {
     if words.is_empty() {
         return Ok(());
     }
-    output::to_standard(words.as_bytes()).map_err(|e| format!("cannot write to standard output: {e}"))
+    output::to_standard(words.as_bytes()).map_err(not_said)
+}
+
+fn not_said(e: io::Error) -> String {
+    format!("cannot write to standard output: {e}")
 }
 
 /// Says something on standard error. There is no place to tell of a failure.

@@ -4,12 +4,14 @@ use crate::args::Source;
 use crate::recording::{metadata, same_file};
 use crate::standard;
 use std::fs::{self, File, Metadata, OpenOptions, Permissions};
-use std::io::{self, ErrorKind, Write};
+use std::io::{self, BufWriter, ErrorKind, Write};
 use std::os::unix::fs::{fchown, FileTypeExt, MetadataExt, OpenOptionsExt, PermissionsExt};
 use std::path::{Path, PathBuf};
 
 /// Linux follows no more symbolic links in one path.
 const LINKS: usize = 40;
+/// The bytes of a block that is written at once.
+const BLOCK: usize = 1 << 16;
 /// How many names for the new file are tried, where other files have them.
 const NAMES: usize = 1000;
 
@@ -35,6 +37,13 @@ pub fn overwrites(trace: &Source, place: &Place) -> bool {
 
 pub fn to_standard(bytes: &[u8]) -> io::Result<()> {
     standard::output()?.write_all(bytes)
+}
+
+/// Writes to standard output block by block what need not be held as a whole.
+pub fn in_blocks(put: impl FnOnce(&mut BufWriter<File>) -> io::Result<()>) -> io::Result<()> {
+    let mut out = BufWriter::with_capacity(BLOCK, standard::output()?);
+    put(&mut out)?;
+    out.flush()
 }
 
 /// Whether a path names the file that standard output is.

@@ -176,8 +176,8 @@ fn table(s: &mut String, trace: &Trace, model: Model, ours: &Answered, theirs: &
     Ok(())
 }
 
-/// The traces and their rows, and the order in which the rows are put.
-fn heading(trace: &Trace) -> (String, &'static str) {
+/// The traces and their rows, and whether their order is that of a trace or of a join.
+pub fn heading(trace: &Trace) -> (String, &'static str) {
     let line = |label: &str, r: &Recording| format!("{label}: {} ({})\n", r.name, counted(u64::from(r.n), "row"));
     match &trace.source {
         Recorded::Alone(recording) => (line("Trace", recording), "trace"),

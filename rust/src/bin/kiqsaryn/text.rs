@@ -30,12 +30,20 @@ pub fn path_name(path: &Path) -> String {
     escape(path.as_os_str().as_encoded_bytes(), 400)
 }
 
+/// A range of bytes by its first and last, without a word.
+pub fn span(offset: u32, length: u32) -> String {
+    match length {
+        0 | 1 => offset.to_string(),
+        _ => format!("{offset} to {}", u64::from(offset) + u64::from(length) - 1),
+    }
+}
+
 /// A range of bytes by its first and last.
 pub fn bytes_of(offset: u32, length: u32) -> String {
     match length {
         0 => format!("no bytes (offset {offset}, length 0)"),
-        1 => format!("byte {offset}"),
-        _ => format!("bytes {offset} to {}", u64::from(offset) + u64::from(length) - 1),
+        1 => format!("byte {}", span(offset, length)),
+        _ => format!("bytes {}", span(offset, length)),
     }
 }
 
