@@ -171,7 +171,7 @@ fn first_of(races: usize) -> String {
 fn ending(most: usize) -> &'static str {
     match most {
         0 => "",
-        1 => "\nThere is no other race. After a repair, check again.\n",
+        1 => "\nThere is no other race under a model asked for. After a repair, check again.\n",
         _ => "\n'kiqsaryn races' shows every race. After a repair, check again.\n",
     }
 }

@@ -90,21 +90,17 @@ pub fn csv(out: &mut impl Write, trace: &Trace, models: &[Model], all: &[Found],
 struct Section<'a> {
     trace: &'a Trace,
     models: &'a [Model],
+    races: usize,
     groups: Groups<'a>,
     choice: &'a Choice,
     /// How many races are shown at most.
     limit: usize,
 }
 
-/// How many races and groups there are.
-fn tally<'a>(groups: impl Iterator<Item = &'a Group>) -> (usize, usize) {
-    groups.fold((0, 0), |(races, groups), group| (races + group.races, groups + 1))
-}
-
 impl<'a> Section<'a> {
     fn new(trace: &'a Trace, found: &'a Found, choice: &'a Choice) -> Section<'a> {
-        let limit = choice.limit.unwrap_or(LIMIT) as usize;
-        Section { trace, models: &found.models, groups: Groups::new(trace.rows(), &found.list), choice, limit }
+        let (races, groups) = (found.list.len() / PAIR, Groups::new(trace.rows(), &found.list));
+        Section { trace, models: &found.models, races, groups, choice, limit: choice.limit.unwrap_or(LIMIT) as usize }
     }
 
     fn is_chosen(&self, group: &Group) -> bool {
@@ -113,7 +109,8 @@ impl<'a> Section<'a> {
 
     /// How many races are chosen, and in how many groups.
     fn chosen(&self) -> (usize, usize) {
-        tally(self.groups.all.iter().filter(|group| self.is_chosen(group)))
+        let chosen = self.groups.all.iter().filter(|group| self.is_chosen(group));
+        chosen.fold((0, 0), |(races, groups), group| (races + group.races, groups + 1))
     }
 
     /// How many races are chosen and not shown.
@@ -123,19 +120,19 @@ impl<'a> Section<'a> {
 
     /// How many races there are, whatever is chosen; how many of them are chosen, and how many of these are shown.
     fn counts(&self) -> String {
-        let (races, groups) = tally(self.groups.all.iter());
-        if races == 0 {
+        if self.races == 0 {
             return "free".to_string();
         }
-        let mut s = format!("{}, in {}", counted(races as u64, "race"), counted(groups as u64, "group"));
+        let mut s = format!("{}, in {}", counted(self.races as u64, "race"), counted(self.groups.all.len() as u64, "group"));
         match self.chosen() {
-            _ if self.choice.file.is_none() && self.choice.process.is_none() => {}
+            _ if is_of_all(self.choice) => {}
             (0, _) => s.push_str("; chosen: none"),
             (races, groups) => s.push_str(&format!("; chosen: {races}, in {}", counted(groups as u64, "group"))),
         }
         match (self.hidden(), self.limit) {
             (0, _) => {}
             (_, 0) => s.push_str("; shown: none"),
+            (_, 1) => s.push_str("; shown: the first"),
             (_, limit) => s.push_str(&format!("; shown: the first {limit}")),
         }
         s
@@ -230,6 +227,11 @@ fn reason(trace: &Trace, model: Model, group: &Group, alike: usize) -> String {
     s
 }
 
+/// Whether the races of every file and process are chosen.
+fn is_of_all(choice: &Choice) -> bool {
+    choice.file.is_none() && choice.process.is_none()
+}
+
 /// Which races are chosen; nothing where all are.
 fn chosen(choice: &Choice) -> String {
     let words = match (choice.file, choice.process) {
@@ -250,16 +252,22 @@ pub fn report(out: &mut impl Write, trace: &Trace, models: &[Model], all: &[Foun
     }
     write!(out, "{}\nRaces:\n", chosen(choice))?;
     for model in models {
-        let counts = sections.iter().find(|s| s.models.contains(model)).map_or(String::new(), Section::counts);
+        let counts = sections.iter().find(|section| section.models.contains(model)).map_or(String::new(), Section::counts);
         write!(out, "{}", labelled(&format!("  {:8} ", model.name()), &counts))?;
     }
     for section in &sections {
         section.put(out)?;
     }
-    let (hidden, most) = sections.iter().map(|s| (s.hidden(), s.chosen().0)).max_by_key(|(_, most)| *most).unwrap_or_default();
-    if hidden > 0 {
-        let words = format!("Not every race is shown. --limit {most} shows all of them; with --csv there is no limit unless one is said.");
-        write!(out, "\n{}", labelled("", &words))?;
+    write!(out, "{}", ending(&sections, choice))
+}
+
+/// How to see the races that the limit leaves out, if it does.
+fn ending(sections: &[Section], choice: &Choice) -> String {
+    if sections.iter().all(|section| section.hidden() == 0) {
+        return String::new();
     }
-    Ok(())
+    let most = sections.iter().map(|section| section.chosen().0).max().unwrap_or(0);
+    let race = if is_of_all(choice) { "race" } else { "chosen race" };
+    let words = format!("Not every {race} is shown: --limit {most} shows all, and --csv has no limit of its own.");
+    format!("\n{}", labelled("", &words))
 }
