@@ -142,6 +142,7 @@ fn help_and_version() {
     for (args, part) in [
         (&["--help"][..], "kiqsaryn replay TRACE"),
         (&["check", "--help"], "kiqsaryn check shelf.csv --header yes"),
+        (&["races", "--limit", "many", "--help"], "kiqsaryn races shelf.csv --header yes --limit 0"),
         (&["replay", "-h"], "kiqsaryn replay shelf.csv --header yes --file 1 --model commit"),
         (&["diagram", "x", "--help"], "kiqsaryn diagram shelf.csv --header yes -o shelf.svg"),
         (&["write", "--out-header", "maybe", "-h"], "kiqsaryn write shelf.csv --header yes -o clean.csv"),
@@ -220,7 +221,7 @@ fn refusals_name_number_place_question_and_record() {
         ),
     ];
     for (header, input, parts) in cases {
-        for command in [&["check"][..], &["replay", "--file", "1", "--model", "commit"], &["diagram"], &["write"]] {
+        for command in [&["check"][..], &["races"], &["replay", "--file", "1", "--model", "commit"], &["diagram"], &["write"]] {
             let args: Vec<&str> = command.iter().copied().chain(["-", "--header", header]).collect();
             let o = run(&args, input);
             let text = if ["diagram", "write"].contains(&command[0]) { err(&o) } else { out(&o) };
@@ -547,6 +548,10 @@ fn no_input_makes_it_crash() {
                 args.extend(["--model", model]);
             }
             3 => args[0] = "write",
+            4 => {
+                args[0] = "races";
+                args.extend(["--limit", "3", "--file", &file]);
+            }
             _ => {}
         }
         let o = run(&args, &text);
@@ -1176,6 +1181,7 @@ fn a_full_trace() {
     for (args, expected) in [
         (&["check", "--model", "commit"][..], 0),
         (&["check"], 0),
+        (&["races"], 0),
         (&["replay", "--file", "1", "--model", "session"], 0),
         (&["diagram"], 0),
         (&["write"], 0),

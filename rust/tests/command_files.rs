@@ -48,7 +48,7 @@ fn standard_output_never_goes_over_the_trace() {
     let trace = f.read("t.csv");
     let pictures = ["diagram", "diagram -o -", "diagram -o /dev/stdout"];
     let texts = ["write", "write -o -", "write -o /dev/stdout", "write -o new.csv", "write -o new.csv --out-header no"];
-    for command in [&["check", "replay --file 1 --model commit"][..], &pictures, &texts].concat() {
+    for command in [&["check", "races", "races --csv", "replay --file 1 --model commit"][..], &pictures, &texts].concat() {
         for files in ["t.csv >> t.csv", "t.csv >> hard.csv", "- < t.csv >> hard.csv", "t.csv 1<> t.csv"] {
             let line = format!("kiqsaryn {command} --header yes {files}");
             let words = if command.ends_with("stdout") { "-o names the trace" } else { "standard output is the trace" };
@@ -231,9 +231,12 @@ fn permissions_hold() {
 // ---- Standard output
 
 /// Every command, with a trace that is accepted and one that is refused.
-const COMMANDS: [&str; 8] = [
+const COMMANDS: [&str; 11] = [
     "kiqsaryn check t.csv --header yes",
     "kiqsaryn check t.csv --header no --csv",
+    "kiqsaryn races t.csv --header yes",
+    "kiqsaryn races t.csv --header yes --csv",
+    "kiqsaryn races t.csv --header no",
     "kiqsaryn replay t.csv --header yes --file 1 --model commit",
     "kiqsaryn diagram t.csv --header yes",
     "kiqsaryn write t.csv --header yes",
@@ -279,7 +282,7 @@ fn a_trace_that_cannot_be_read_is_an_error() {
     let f = Folder::new("reading");
     f.make_folder("sub");
     symlink("sub", f.path("link")).expect("a link");
-    for command in ["check", "replay --file 1 --model commit", "diagram", "write"] {
+    for command in ["check", "races", "replay --file 1 --model commit", "diagram", "write"] {
         for (trace, name, why) in [
             ("none.csv", "none.csv", "No such file or directory"),
             ("t.csv/x", "t.csv/x", "Not a directory"),
@@ -318,7 +321,7 @@ fn a_read_that_fails_midway_is_an_error() {
     let mut memory = fails_midway();
     assert_eq!(memory.read(&mut bytes).expect("some bytes"), 100);
     memory.read(&mut bytes).expect_err("an error behind them");
-    for command in ["check", "replay --file 1 --model commit", "diagram", "diagram -o p.svg", "write", "write -o p.csv"] {
+    for command in ["check", "races --csv", "replay --file 1 --model commit", "diagram", "diagram -o p.svg", "write", "write -o p.csv"] {
         let line = format!("kiqsaryn {command} --header no -");
         let o = f.shell(&line).stdin(fails_midway()).output().expect("the command ends");
         failed(&o, &line, "cannot read standard input: Input/output error");

@@ -81,9 +81,9 @@ const WRONG: &[(&[&str], &[&str], &str)] = &[
     (&["join"], &[], "join takes two traces, FIRST and SECOND\n"),
     (&["join"], &["a.csv", "--headers", "yes,no"], "join takes two traces, FIRST and SECOND\n"),
     (&["join"], &["a.csv", "--header", "yes"], "join takes two traces, FIRST and SECOND\n"),
-    (&["join", "check", "diagram"], &["a.csv", "b.csv", "a.csv", "--headers", "yes,no"], "more than two traces are given\n"),
-    (&["join", "check", "replay", "diagram"], &["a.csv", "b.csv"], SAY_HEADERS),
-    (&["join", "check", "replay", "diagram"], &["a.csv", "b.csv", "--headers", "yes"], SAY_HEADERS),
+    (&["join", "check", "races", "diagram"], &["a.csv", "b.csv", "a.csv", "--headers", "yes,no"], "more than two traces are given\n"),
+    (&["join", "check", "races", "replay", "diagram"], &["a.csv", "b.csv"], SAY_HEADERS),
+    (&["join", "check", "races", "replay", "diagram"], &["a.csv", "b.csv", "--headers", "yes"], SAY_HEADERS),
     (&["join", "check"], &["a.csv", "b.csv", "--headers", "yes,maybe"], SAY_HEADERS),
     (&["join", "check"], &["a.csv", "b.csv", "--headers", "yes,no,no"], SAY_HEADERS),
     (&["join", "check"], &["a.csv", "b.csv", "--headers", "yes, no"], SAY_HEADERS),
@@ -92,12 +92,12 @@ const WRONG: &[(&[&str], &[&str], &str)] = &[
     (&["join", "check"], &["a.csv", "b.csv", "--headers=,"], SAY_HEADERS),
     (&["join", "check"], &["a.csv", "b.csv", "--headers"], "--headers has no value\n"),
     (&["join", "check"], &["a.csv", "b.csv", "--headers", "yes,no", "--headers", "yes,no"], "--headers is given twice\n"),
-    (&["join", "check", "replay", "diagram"], &["a.csv", "b.csv", "--header", "yes"], FOR_ONE),
-    (&["join", "check", "replay", "diagram"], &["a.csv", "b.csv", "--header", "yes", "--headers", "yes,no"], FOR_ONE),
-    (&["check", "replay", "diagram", "write"], &["a.csv", "--headers", "yes,no"], FOR_TWO),
-    (&["check", "replay", "diagram", "write"], &["a.csv", "--header", "yes", "--headers", "yes,no"], FOR_TWO),
+    (&["join", "check", "races", "replay", "diagram"], &["a.csv", "b.csv", "--header", "yes"], FOR_ONE),
+    (&["join", "check", "races", "replay", "diagram"], &["a.csv", "b.csv", "--header", "yes", "--headers", "yes,no"], FOR_ONE),
+    (&["check", "races", "replay", "diagram", "write"], &["a.csv", "--headers", "yes,no"], FOR_TWO),
+    (&["check", "races", "replay", "diagram", "write"], &["a.csv", "--header", "yes", "--headers", "yes,no"], FOR_TWO),
     (
-        &["join", "check", "replay", "diagram"],
+        &["join", "check", "races", "replay", "diagram"],
         &["-", "-", "--headers", "yes,no"],
         "standard input can be one of the two traces, not both\n",
     ),
@@ -114,7 +114,7 @@ const WRONG: &[(&[&str], &[&str], &str)] = &[
     (&["join"], &["a.csv", "b.csv", "--headers", "yes,no", "-o"], "-o has no value\n"),
     (&["join"], &["a.csv", "b.csv", "--headers", "yes,no", "--out-header", "yes"], "--out-header goes with -o\n"),
     (&["join"], &["a.csv", "b.csv", "--headers", "yes,no", "--out-header", "x", "-o", "c.csv"], "--out-header is yes or no, not \"x\"\n"),
-    (&["check"], &["a.csv", "b.csv", "--headers", "yes,no", "-o", "c.csv"], "this command has no option \"-o\"\n"),
+    (&["check", "races"], &["a.csv", "b.csv", "--headers", "yes,no", "-o", "c.csv"], "this command has no option \"-o\"\n"),
 ];
 
 #[test]
@@ -140,6 +140,7 @@ fn help_tells_of_two_traces() {
         (&["join", "--help"], "kiqsaryn join left.csv right.csv --headers yes,yes"),
         (&["join", "x", "-h"], "-o FILE"),
         (&["check", "--help"], "kiqsaryn check FIRST SECOND --headers yes|no,yes|no"),
+        (&["races", "--help"], "kiqsaryn races FIRST SECOND --headers yes|no,yes|no"),
         (&["replay", "--help"], "kiqsaryn replay FIRST SECOND --headers yes|no,yes|no"),
         (&["diagram", "--help"], "kiqsaryn diagram FIRST SECOND --headers yes|no,yes|no"),
     ] {
@@ -168,7 +169,7 @@ fn each_trace_is_told_and_then_the_join() {
             "  last row: 1,send,,,,8\n            process 1 sends message 8\n",
             "  process 1: 6 rows\n  file 1: 3 rows\n  send, recv and wait, of no file: 3 rows\n",
             "\nJoined: 11 rows, 5 of a.csv and 6 of b.csv\n",
-            "\nVerdicts:\n  commit   race, row 1 (row 1 of a.csv) and row 6 (row 3 of b.csv)\n",
+            "\nVerdicts:\n  commit   race, row 1 (row 1 of a.csv) and row 6 (row 3 of b.csv) (the only\n           race)\n",
             "\nRace of row 1 and row 6 under commit\n",
             "  row 1: \"0\",write,1,0,10,\n         process 0 writes bytes 0 to 9 of file 1\n         row 1 of a.csv\n",
             "  row 6: 1,read,1,5,10,\n         process 1 reads bytes 5 to 14 of file 1\n         row 3 of b.csv\n",
@@ -176,7 +177,7 @@ fn each_trace_is_told_and_then_the_join() {
             "    Needed:  process 0 commits file 1 after row 1, and that commit happens\n             before row 6.\n",
             "    Missing: process 0 has no commit of file 1 after row 1.\n",
             "    Order:   the last row of process 0 that happens before row 6 is row 2 (row\n             2 of a.csv) (send of message 7).\n",
-            "\nThis is the first race; there may be more. After a repair, check again.\n",
+            "\nThere is no other race under a model asked for. After a repair, check again.\n",
         ];
         assert_eq!(out(&o), want.concat(), "{command}");
     }
@@ -196,9 +197,9 @@ fn the_second_trace_may_be_named_first() {
     let o = pair.feed(&["check", "b.csv", "a.csv", "--headers", "no,yes", "--csv"], b"");
     assert_eq!(out(&o), "model,verdict,earlier,later\r\nposix,free,,\r\ncommit,race,2,5\r\nsession,race,2,5\r\nmpiio,race,2,5\r\n");
     pair.put(b"0,write,1,0,10,\r\n0,commit,1,,,\r\n0,write,1,5,1,\r\n", b"1,write,1,0,1,\r\n");
-    assert!(out(&pair.run("check", "no,no", &[])).contains("  posix    race, row 1 (row 1 of a.csv) and row 4 (row 1 of b.csv)\n"));
+    assert!(out(&pair.run("check", "no,no", &[])).contains("  posix    race, row 1 (row 1 of a.csv) and row 4 (row 1 of b.csv) ("));
     let o = pair.feed(&["check", "b.csv", "a.csv", "--headers", "no,no"], b"");
-    assert!(out(&o).contains("  posix    race, row 1 (row 1 of b.csv) and row 2 (row 1 of a.csv)\n"), "{}", out(&o));
+    assert!(out(&o).contains("  posix    race, row 1 (row 1 of b.csv) and row 2 (row 1 of a.csv) ("), "{}", out(&o));
 }
 
 /// Traces are called by their last names where these differ, and else by all.
@@ -227,7 +228,7 @@ fn names_of_the_traces() {
         let verdict = format!("race, row 1 (row 1 of {first_name}) and row 2 (row 1 of {second_name})");
         assert!(out(&o).replace("\n           ", " ").contains(&verdict), "{second}: {}", out(&o));
     }
-    for command in ["check", "replay --file 1 --model posix", "diagram"] {
+    for command in ["check", "races", "replay --file 1 --model posix", "diagram"] {
         let o = f.sh(&format!("kiqsaryn {command} one/t.csv {long} --headers no,no"));
         assert!(out(&o).contains(&"x".repeat(40)), "{command}: {}", out(&o));
     }
@@ -265,9 +266,10 @@ fn either_trace_can_be_standard_input() {
 // ---- Refusals of a trace
 
 /// Every command on two traces; the words of a refusal go to standard error where standard output is for the text or the picture.
-const COMMANDS: [(&[&str], bool); 6] = [
+const COMMANDS: [(&[&str], bool); 7] = [
     (&["join"], false),
     (&["check"], false),
+    (&["races"], false),
     (&["replay", "--file", "1", "--model", "commit"], false),
     (&["diagram"], true),
     (&["join", "-o", "-"], true),
@@ -288,10 +290,11 @@ fn refused(pair: &Pair, headers: &str, more: &[&str]) -> String {
     words.remove(0)
 }
 
-/// The line of `--csv` for a refusal, the same of `join` and `check`.
+/// The line of `--csv` for a refusal, the same of `join`, `check` and `races`.
 fn refused_csv(pair: &Pair, headers: &str, more: &[&str]) -> String {
-    let [a, b] = ["join", "check"].map(|command| pair.run(command, headers, &[&["--csv"], more].concat()));
+    let [a, b, c] = ["join", "check", "races"].map(|command| pair.run(command, headers, &[&["--csv"], more].concat()));
     assert_eq!((status(&a), out(&a), err(&a)), (2, out(&b), String::new()));
+    assert_eq!((status(&c), out(&c), err(&c)), (2, out(&b), String::new()));
     out(&a)
 }
 

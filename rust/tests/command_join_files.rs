@@ -115,7 +115,9 @@ fn no_trace_is_written_over() {
                 failed(&f.sh(&line), &line, "-o names one of the traces; nothing is written\n");
             }
         }
-        for command in ["join", "join -o -", "join -o new.csv", "check", "check --csv", "replay --file 1 --model commit", "diagram"] {
+        for command in
+            ["join", "join -o -", "join -o new.csv", "check", "check --csv", "races", "replay --file 1 --model commit", "diagram"]
+        {
             for name in [">> a.csv", ">> b.csv", "1<> hard.csv", ">> sub/soft.csv"] {
                 let line = format!("kiqsaryn {command} --headers no,yes {traces} {name}");
                 failed(&f.sh(&line), &line, "standard output is one of the traces; nothing is written\n");
@@ -202,7 +204,7 @@ fn a_trace_that_cannot_be_read_is_an_error() {
     let f = with_two("join-reading");
     f.make_folder("sub");
     f.put("secret.csv", SECOND, 0o000);
-    for command in ["join", "join -o c.csv", "check", "replay --file 1 --model commit", "diagram", "diagram -o c.svg"] {
+    for command in ["join", "join -o c.csv", "check", "races", "replay --file 1 --model commit", "diagram", "diagram -o c.svg"] {
         for (trace, input, name, why) in [
             ("none.csv", "", "none.csv", "No such file or directory"),
             ("a.csv/x", "", "a.csv/x", "Not a directory"),

@@ -99,14 +99,14 @@ fn synchronized(rows: &[Row], order: &Order, model: u32, x: usize, y: usize) -> 
     }
 }
 
+/// Every race, by the later row and then by the earlier row, as row numbers.
+pub fn races<'a>(rows: &'a [Row], order: &'a Order, model: u32) -> impl Iterator<Item = (u32, u32)> + 'a {
+    let pairs = (0..rows.len()).flat_map(|y| (0..y).map(move |x| (x, y)));
+    let racing = pairs.filter(move |(x, y)| conflict(rows[*x], rows[*y]) && !synchronized(rows, order, model, *x, *y));
+    racing.map(|(x, y)| (x as u32 + 1, y as u32 + 1))
+}
+
 /// The race with the smallest later row, then the smallest earlier row, by row numbers.
 pub fn first_race(rows: &[Row], order: &Order, model: u32) -> Option<(u32, u32)> {
-    for y in 0..rows.len() {
-        for x in 0..y {
-            if conflict(rows[x], rows[y]) && !synchronized(rows, order, model, x, y) {
-                return Some((x as u32 + 1, y as u32 + 1));
-            }
-        }
-    }
-    None
+    races(rows, order, model).next()
 }

@@ -42,8 +42,9 @@ kiqsaryn check FIRST SECOND --headers yes|no,yes|no [--processes N]
 
 Says what was read, to hold against the recorder, then the verdict under each
 model and how many races there are. For the first race it shows both rows, the
-bytes they share, and what is missing between them. Two traces are joined first (kiqsaryn join --help); each row is
-then shown with its own trace and its number there.
+bytes they share, and what is missing between them. Two traces are joined first
+(kiqsaryn join --help); each row is then shown with its own trace and its
+number there.
 
   --header yes|no   the first record holds the names (yes) or is row 1 (no)
   --headers A,B     the same for two traces: A for the first, B for the second
@@ -94,9 +95,10 @@ its own trace and its number there.
   --limit N         show at most N races under each model, the first ones by
                     later row and then by earlier row; 1000 if left out, and
                     with --csv all. 0 shows the counts and the groups alone
-  --csv             only the lines model,earlier,later (CR LF), by later row and
-                    then by earlier row, or refused,NUMBER,PLACE; of two traces
-                    their rows in the join, or refused,NUMBER,PLACE,TRACE
+  --csv             only the lines model,earlier,later (CR LF), by later row
+                    and then by earlier row, or refused,NUMBER,PLACE; of two
+                    traces their rows in the join, or
+                    refused,NUMBER,PLACE,TRACE (1 or 2, 0 for the join)
 
 --file, --process and --limit choose what is shown, also with --csv. The counts
 in words and the exit status are always of all races under the models asked
