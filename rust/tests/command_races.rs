@@ -403,6 +403,18 @@ fn check_says_how_many_races_there_are() {
     assert!(seen.iter().all(|n| *n > 20), "{seen:?}");
 }
 
+/// Under commit the race is in file 1, under session and mpiio it is in file 2: as many races, and not the same.
+#[test]
+fn models_with_as_many_other_races_are_told_apart() {
+    let text = "0,write,1,0,10,\r\n0,close,1,,,\r\n0,write,2,0,10,\r\n0,commit,2,,,\r\n0,send,,,,7\r\n1,recv,,,,7\r\n1,wait,,,,7\r\n\
+                1,open,1,,,\r\n1,read,1,5,10,\r\n1,open,2,,,\r\n1,read,2,5,10,\r\n";
+    let o = run(&["races", "-", "--header", "no", "--csv"], text.as_bytes());
+    assert_eq!(out(&o), "model,earlier,later\r\ncommit,1,9\r\nsession,3,11\r\nmpiio,3,11\r\n");
+    let o = run(&["races", "-", "--header", "no"], text.as_bytes());
+    let sections: Vec<String> = told(&out(&o)).1.iter().map(|s| format!("{}: {:?}", s.models.join(", "), s.groups[0].key)).collect();
+    assert_eq!(sections, ["commit: (1, 0, 1)", "session, mpiio: (2, 0, 1)"], "{}", out(&o));
+}
+
 // ---- Joins
 
 /// For each joined row its number and its own name: "7 (row 3 of b.csv)".

@@ -107,8 +107,9 @@ for. With --csv nothing tells what was left out.
 \"Alike: the same is missing for 2 of the 3 races\" counts the races of the
 group for which Needed and Missing would say the same as for the first but for
 row numbers: the same process comes first, with a read or with a write, and the
-same is not there: the row that publishes, the row that refreshes, both, or the
-order between them.
+same is not there: the row that publishes, the row that refreshes, both, the
+order between them, or that order because they stand the other way round in the
+trace.
 
 Exit status: 0 free, 1 race, 2 refused, 3 wrong command line or file error.
 
