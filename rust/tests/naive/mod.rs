@@ -8,6 +8,7 @@ pub mod lookup;
 pub mod machine;
 pub mod order;
 pub mod pairs;
+pub mod races;
 pub mod random;
 pub mod reading;
 pub mod rows;

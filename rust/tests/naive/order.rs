@@ -77,7 +77,8 @@ pub fn counts(rows: &[Row], order: &Order, process_limit: u32) -> Vec<u16> {
     all
 }
 
-fn conflict(a: Row, b: Row) -> bool {
+/// Do two rows name the same file and share a byte, are they of different processes, and is one a write?
+pub fn conflict(a: Row, b: Row) -> bool {
     let data = |r: Row| r.kind == READ || r.kind == WRITE;
     let end = |r: Row| u64::from(r.offset) + u64::from(r.length);
     let shared = u64::from(a.offset.max(b.offset)) < end(a).min(end(b));
@@ -99,14 +100,19 @@ fn synchronized(rows: &[Row], order: &Order, model: u32, x: usize, y: usize) -> 
     }
 }
 
-/// Every race, by the later row and then by the earlier row, as row numbers.
-pub fn races<'a>(rows: &'a [Row], order: &'a Order, model: u32) -> impl Iterator<Item = (u32, u32)> + 'a {
-    let pairs = (0..rows.len()).flat_map(|y| (0..y).map(move |x| (x, y)));
-    let racing = pairs.filter(move |(x, y)| conflict(rows[*x], rows[*y]) && !synchronized(rows, order, model, *x, *y));
-    racing.map(|(x, y)| (x as u32 + 1, y as u32 + 1))
+/// Do two rows conflict, the earlier at place x, and are they not properly synchronized?
+pub fn is_race(rows: &[Row], order: &Order, model: u32, x: usize, y: usize) -> bool {
+    conflict(rows[x], rows[y]) && !synchronized(rows, order, model, x, y)
 }
 
 /// The race with the smallest later row, then the smallest earlier row, by row numbers.
 pub fn first_race(rows: &[Row], order: &Order, model: u32) -> Option<(u32, u32)> {
-    races(rows, order, model).next()
+    for y in 0..rows.len() {
+        for x in 0..y {
+            if is_race(rows, order, model, x, y) {
+                return Some((x as u32 + 1, y as u32 + 1));
+            }
+        }
+    }
+    None
 }
