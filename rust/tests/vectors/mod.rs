@@ -28,8 +28,12 @@ pub fn lines(text: &str) -> impl Iterator<Item = Line<'_>> {
 }
 
 /// The files that hold calls of several kinds, and the lines with which these start. Each kind has its own test.
-const MIXED: [(&str, &[&str]); 3] =
-    [("barrier.txt", &["T", "J", "W"]), ("aimed_joins.txt", &["J", "W"]), ("limit48.txt", &["T", "M", "F", "U", "G"])];
+const MIXED: [(&str, &[&str]); 4] = [
+    ("barrier.txt", &["T", "J", "W"]),
+    ("aimed_joins.txt", &["J", "W"]),
+    ("limit48.txt", &["T", "M", "F", "U", "G"]),
+    ("races.txt", &["L", "O"]),
+];
 
 /// The lines of those calls that start so. In a file of several kinds the calls of the others are left out, and nothing else.
 pub fn calls<'a>(file: &str, text: &'a str, start: &'static str) -> impl Iterator<Item = Line<'a>> {
