@@ -10,7 +10,7 @@ mod vectors;
 use kiqsaryn::{check_trace, judge, list_len, list_races, races, verdict};
 use kiqsaryn::{Checked, Judged, Listed, Model, Refusal, Row, Settings, Verdict, PAIR, PROCESSES, ROWS, WRITE};
 use naive::order::{counts, Order};
-use naive::races::{by_old_numbers, is_allowed, Pair};
+use naive::races::{by_old_numbers, is_allowed, pairs_of, rise, Pair};
 use naive::reading::check;
 use naive::rows::numbers;
 use vectors::Line;
@@ -19,16 +19,6 @@ const FILE: &str = "races.txt";
 
 fn refused(number: u32, place: u32) -> Listed {
     Listed::Refused { refusal: Refusal::from_number(number).expect("a refusal"), place }
-}
-
-/// The numbers of a list two by two.
-fn pairs_of(list: &[u32]) -> Vec<Pair> {
-    list.chunks_exact(PAIR).map(|pair| (pair[0], pair[1])).collect()
-}
-
-/// Whether pairs rise by the later row and then by the earlier row, which stands before it.
-fn rise(pairs: &[Pair]) -> bool {
-    pairs.iter().all(|(earlier, later)| earlier < later) && pairs.windows(2).all(|w| (w[0].1, w[0].0) < (w[1].1, w[1].0))
 }
 
 // ---- Vectors

@@ -13,6 +13,7 @@ pub mod random;
 pub mod reading;
 pub mod rows;
 pub mod texts;
+pub mod wild;
 pub mod writing;
 
 /// The largest process limit. The naive version and the tests that make random calls take it from here; the library has its own.

@@ -3,7 +3,7 @@
 use super::barriers::{is_held, processes};
 use super::order::{is_race, Order};
 use super::random::Random;
-use kiqsaryn::{Row, SEND, WAIT};
+use kiqsaryn::{Row, PAIR, SEND, WAIT};
 
 /// The numbers of the earlier and of the later row.
 pub type Pair = (u32, u32);
@@ -23,6 +23,16 @@ pub fn list(pairs: &[Pair], list: &mut [u32]) -> Result<u32, u32> {
     let numbers: Vec<u32> = pairs.iter().flat_map(|(earlier, later)| [*earlier, *later]).collect();
     list.get_mut(..numbers.len()).ok_or(23u32)?.copy_from_slice(&numbers);
     Ok(pairs.len() as u32)
+}
+
+/// The numbers of a list two by two.
+pub fn pairs_of(list: &[u32]) -> Vec<Pair> {
+    list.chunks_exact(PAIR).map(|pair| (pair[0], pair[1])).collect()
+}
+
+/// Whether pairs rise by the later row and then by the earlier row, which stands before it.
+pub fn rise(pairs: &[Pair]) -> bool {
+    pairs.iter().all(|(earlier, later)| earlier < later) && pairs.windows(2).all(|w| (w[0].1, w[0].0) < (w[1].1, w[1].0))
 }
 
 // ---- Other orders of the same rows
