@@ -22,6 +22,18 @@ const NUMBERS: [u32; 6] = [0, SYNC, 1, 0, 0, 0];
 const GOOD: [u32; 2] = [1, PROCESSES];
 const BAD: [u32; 6] = [0, PROCESSES + 1, PROCESSES + 2, 2 * PROCESSES, u32::MAX / 6, u32::MAX];
 
+/// The number of the refusal under a process limit of each call that lists the races of one row; 0 for none.
+fn of_lists(process_limit: u32, counts_len: usize) -> [u32; 2] {
+    let s = Settings { header: 0, model: 1, row_limit: 1, process_limit, byte_limit: usize::MAX };
+    let (mut rows, mut counts, mut list) = ([7; 6], vec![7; counts_len], [7; 2]);
+    let listed = |answer: Listed| match answer {
+        Listed::Pairs(0) => 0,
+        Listed::Refused { refusal, place: 0 } => refusal.number(),
+        other => panic!("{other:?}"),
+    };
+    [listed(list_races(TEXT, s, &mut rows, &mut counts, &mut list)), listed(races(&NUMBERS, 1, process_limit, 1, &mut counts, &mut list))]
+}
+
 /// The number of the refusal under a process limit of each call that reads, counts, judges, writes or joins one row; 0 for none.
 fn of_traces(process_limit: u32, counts_len: usize) -> [u32; 7] {
     let s = Settings { header: 0, model: 1, row_limit: 1, process_limit, byte_limit: usize::MAX };
@@ -80,6 +92,7 @@ fn of_states(model: Option<u32>, process_limit: u32) -> [u32; 3] {
 fn every_call_takes_the_same_process_limits() {
     for limit in GOOD {
         assert_eq!(of_traces(limit, limit as usize), [0; 7], "{limit}");
+        assert_eq!(of_lists(limit, limit as usize), [0; 2], "{limit}");
         assert!(naive::is_process_limit(limit), "{limit}");
         for model in [None, Some(0), Some(1), Some(2), Some(3)] {
             assert_eq!(of_states(model, limit), [0; 3], "model {model:?}, {limit}");
@@ -90,6 +103,7 @@ fn every_call_takes_the_same_process_limits() {
         let numbers = of_traces(limit, counts);
         let first = if (counts as u64) < u64::from(limit) { 1 } else { 2 };
         assert_eq!(numbers, [first, first, first, first, 2, 2, first], "{limit}");
+        assert_eq!(of_lists(limit, counts), [first; 2], "{limit}");
         assert!(!naive::is_process_limit(limit), "{limit}");
         for model in [None, Some(0), Some(1), Some(2), Some(3)] {
             assert_eq!(of_states(model, limit), [2, 13, 13], "model {model:?}, {limit}");
