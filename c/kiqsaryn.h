@@ -4,16 +4,16 @@
  * and then how many elements it has; the pointer must not be null and must be aligned, also where the length is 0, and a slice lent for
  * writing must not overlap another one of the call. The contracts stand in crates/kiqsaryn/src/lib.rt.
  *
- * Stack: kiqsaryn_check_trace, kiqsaryn_judge, kiqsaryn_report and kiqsaryn_write take up to 200 KB of stack, for tables by message and by barrier;
- * kiqsaryn_fill_counts and kiqsaryn_verdict up to 18 KB, for tables of earlier rows; kiqsaryn_join up to 270 KB, for all; every other call less
- * than 4 KB. There is no heap and no state between calls.
+ * Stack: kiqsaryn_check_trace, kiqsaryn_judge, kiqsaryn_list_races, kiqsaryn_report and kiqsaryn_write take up to 200 KB of stack, for tables by
+ * message and by barrier; kiqsaryn_fill_counts, kiqsaryn_verdict and kiqsaryn_races up to 18 KB, for tables of earlier rows; kiqsaryn_join up to
+ * 270 KB, for all; every other call less than 4 KB. There is no heap and no state between calls.
  *
  * Models: 0 POSIX, 1 commit, 2 session, 3 MPI-IO. Kinds: 0 read, 1 write, 2 commit, 3 open, 4 close, 5 sync, 6 send, 7 recv, 8 wait, 9 barrier.
  * A recv posts a receive, before or behind the send of its message, and gives no order by itself; the receive is over at its wait, and the send
  * happens before the wait. A barrier row's message field holds the barrier's number, which has nothing to do with a message of that number; each row
  * of a barrier happens before every row behind a row of that barrier in any process. A row is six numbers: process, kind, file, offset, length,
- * message. A piece is three: start, length, row number (0 for unwritten bytes). A run is four: start, length, row number, mark (1 while
- * unpublished).
+ * message. A race is two: the earlier row's number, the later row's. A piece is three: start, length, row number (0 for unwritten bytes). A run is
+ * four: start, length, row number, mark (1 while unpublished).
  *
  * Refusals, the first question that is answered No:
  *   1 slices long enough          7 six fields                      13 lawful state
@@ -23,7 +23,7 @@
  *   5 the header's six names     11 offset + length                 17 the pieces fit the answer slice
  *   6 row and byte limit         12 sends and recvs in order        18 the text fits its slice from its place on
  * then 21 waits in order, which is asked behind 12, and 22 barriers in order, once every row has passed the others; and of a join: 19 no process has
- * rows in both files, 20 a next row can be taken.
+ * rows in both files, 20 a next row can be taken; and last, of a list of races: 23 the list is long enough for every race.
  *
  * 12: a send's message is unsent so far and not posted by this process, and a recv's is not posted so far and not sent by this process. 21: a
  * wait's message was posted earlier by this process, sent earlier, and not yet waited for. 22: no process repeats a barrier's number, none goes on
@@ -85,6 +85,44 @@ uint32_t kiqsaryn_fill_counts(const uint32_t *rows, size_t rows_len, uint32_t n,
  * as for the counts, and 2 also for a model that is not 0 to 3. */
 uint64_t kiqsaryn_verdict(const uint32_t *rows, size_t rows_len, uint32_t n, uint32_t process_limit, uint32_t model, uint16_t *counts,
                           size_t counts_len);
+
+/* How many numbers the list takes for a race. */
+#define KIQSARYN_PAIR 2
+
+/* Reads, refuses and fills rows and counts as kiqsaryn_judge does, and puts every race under the model into `list`: each once, by its later row and
+ * then by its earlier row, two numbers each, the earlier row's first. Behind the pairs the list keeps its numbers. The answer is the number of
+ * pairs, below 2^32, or a refusal's number times 2^32 plus the record's place. 23 comes last, with place 0, where the list is too short for all
+ * pairs: it keeps the list, and the rows and counts that were read. Any other refusal keeps the list too.
+ *
+ * The same rows in another order that keeps the rows of each process in order, each wait after its send, and every process at its barriers until all
+ * have arrived, have the same races, whichever row of a pair now stands first. A trace that is free under session is free under MPI-IO, and under
+ * commit where each close is a commit instead; one that is free under any model is free under POSIX. */
+uint64_t kiqsaryn_list_races(const uint8_t *text, size_t text_len, uint32_t header, uint32_t model, uint32_t row_limit, uint32_t process_limit,
+                             size_t byte_limit, uint32_t *rows, size_t rows_len, uint16_t *counts, size_t counts_len, uint32_t *list,
+                             size_t list_len);
+
+/* Puts every race of the first n rows under a model into `list`, as kiqsaryn_list_races does, with the counts filled on the way. The answer is the
+ * number of pairs, or a refusal's number times 2^32: 1, 2 and 10 as for the verdict, with nothing changed, and last 23, which keeps the list
+ * alone. */
+uint64_t kiqsaryn_races(const uint32_t *rows, size_t rows_len, uint32_t n, uint32_t process_limit, uint32_t model, uint16_t *counts,
+                        size_t counts_len, uint32_t *list, size_t list_len);
+
+/* The parts of both answers: the number of a refusal, 0 for none, and its place; else the number of pairs. A part that the answer does not have is
+ * 0. */
+static inline uint32_t kiqsaryn_listed_refusal(uint64_t listed) {
+    return (uint32_t)(listed >> 32);
+}
+static inline uint32_t kiqsaryn_listed_place(uint64_t listed) {
+    return listed >> 32 ? (uint32_t)listed : 0;
+}
+static inline uint32_t kiqsaryn_listed_pairs(uint64_t listed) {
+    return listed >> 32 ? 0 : (uint32_t)listed;
+}
+
+/* How many numbers a list must have to be long enough for the races of so many rows, at most 4,096, whatever these are. */
+static inline size_t kiqsaryn_list_len(uint32_t rows) {
+    return rows ? (size_t)rows * (rows - 1) : 0;
+}
 
 /* What the program verdict prints of a trace with header, put at the front of a slice of 256 bytes or more. The answer is its length, and 0
  * for a shorter slice. */

@@ -7,11 +7,12 @@
 #include <stdlib.h>
 #include <string.h>
 
-enum { STACK = 1 << 20, PAINT = 0xA5, ROWS = 4096, PROCESSES = KIQSARYN_PROCESSES, SPACE = 64, MAPS = 4 * SPACE * (PROCESSES + 1), TEXT = 1 << 16, SECOND = 7 };
+enum { STACK = 1 << 20, PAINT = 0xA5, ROWS = 4096, PROCESSES = KIQSARYN_PROCESSES, SPACE = 64, MAPS = 4 * SPACE * (PROCESSES + 1), TEXT = 1 << 16, SECOND = 7,
+       SESSION = 2, LIST = 1 << 8 };
 
 static uint8_t text[TEXT], out[TEXT];
 static size_t text_len;
-static uint32_t rows[6 * ROWS], maps[MAPS], pieces[3 * ROWS], of_rows[ROWS];
+static uint32_t rows[6 * ROWS], maps[MAPS], pieces[3 * ROWS], of_rows[ROWS], list[LIST];
 static uint16_t counts[ROWS * PROCESSES];
 static uint64_t parts[3 * ROWS];
 static uint32_t n;
@@ -49,6 +50,17 @@ static void fill_counts(void) { expect(kiqsaryn_fill_counts(rows, 6 * ROWS, n, P
 
 static void verdict(void) { expect(kiqsaryn_verdict(rows, 6 * ROWS, n, PROCESSES, 1, counts, ROWS * PROCESSES) == 0); }
 
+/* Nobody closes or opens the file of the trace: under session its pairs race. */
+static void list_races(void) {
+    uint64_t answer = kiqsaryn_list_races(text, text_len, 1, SESSION, ROWS, PROCESSES, TEXT, rows, 6 * ROWS, counts, ROWS * PROCESSES, list, LIST);
+    expect(kiqsaryn_listed_pairs(answer) > 0);
+}
+
+static void races(void) {
+    uint64_t answer = kiqsaryn_races(rows, 6 * ROWS, n, PROCESSES, SESSION, counts, ROWS * PROCESSES, list, LIST);
+    expect(kiqsaryn_listed_pairs(answer) > 0);
+}
+
 static void read_file(void) { expect(kiqsaryn_read_file(text, text_len, 1, ROWS, PROCESSES, rows, 6 * ROWS) == n); }
 
 static void join(void) {
@@ -79,9 +91,9 @@ static const struct {
     const char *name;
     void (*call)(void);
 } calls[] = {{"none", none}, {"check_trace", check_trace}, {"judge", judge}, {"report", report}, {"write", write_rows},
-             {"fill_counts", fill_counts}, {"verdict", verdict}, {"read_file", read_file}, {"make", make}, {"replay", replay}, {"step", step},
-             {"make_plain", make_plain}, {"replay_plain", replay_plain}, {"step_plain", step_plain}, {"lookup", lookup},
-             {"join", join}};
+             {"fill_counts", fill_counts}, {"verdict", verdict}, {"list_races", list_races}, {"races", races}, {"read_file", read_file},
+             {"make", make}, {"replay", replay}, {"step", step}, {"make_plain", make_plain}, {"replay_plain", replay_plain},
+             {"step_plain", step_plain}, {"lookup", lookup}, {"join", join}};
 
 static void *run(void *call) {
     (*(void (**)(void))call)();
