@@ -1,6 +1,6 @@
 /* Trace B with a wait through the library for C: in one call, with and without the wait, then from its text to the verdicts, its rows written as
- * text again, its read replayed on a machine for session and on the plain file, and bytes looked up in their maps. Then the same rows as two
- * controllers record them, joined. */
+ * text again, its read replayed on a machine for session and on the plain file, and bytes looked up in their maps. Then every race of rows that
+ * nothing orders, listed; and the same rows as trace B's, as two controllers record them, joined. */
 #include "kiqsaryn.h"
 #include <stdio.h>
 #include <string.h>
@@ -94,6 +94,31 @@ static void look_up(const uint32_t *map, const uint32_t *maps) {
     printf("byte %u: refused %u\n", (unsigned)UINT32_MAX, (unsigned)kiqsaryn_looked_refusal(kiqsaryn_lookup(map, 4 * SPACE, UINT32_MAX)));
 }
 
+/* Prints what a listing has answered, and the pairs that it has put into a list of this length. */
+static void print_listed(uint64_t listed, const uint32_t *list, size_t list_len) {
+    if (kiqsaryn_listed_refusal(listed))
+        printf("a list of %u: refused %u at %u\n", (unsigned)list_len, (unsigned)kiqsaryn_listed_refusal(listed),
+               (unsigned)kiqsaryn_listed_place(listed));
+    else
+        printf("a list of %u: %u races\n", (unsigned)list_len, (unsigned)kiqsaryn_listed_pairs(listed));
+    for (const uint32_t *pair = list; pair < list + KIQSARYN_PAIR * kiqsaryn_listed_pairs(listed); pair += KIQSARYN_PAIR)
+        printf("  rows %u and %u\n", (unsigned)pair[0], (unsigned)pair[1]);
+}
+
+/* Two processes write and read bytes of one file without a message. Lists the races under commit: from the text into a list that is too short by one
+ * number and into one that is just long enough, and from the rows that were read into one that is long enough for any four rows. */
+static void list_every_race(void) {
+    const char *text = "0,write,1,0,10,\r\n1,write,1,5,10,\r\n0,read,1,0,20,\r\n1,read,1,0,20,\r\n";
+    uint32_t rows[6 * ROWS], list[KIQSARYN_PAIR * 6];
+    uint16_t counts[ROWS * PROCESSES];
+    for (size_t list_len = KIQSARYN_PAIR * 3 - 1; list_len <= KIQSARYN_PAIR * 3; list_len++)
+        print_listed(kiqsaryn_list_races((const uint8_t *)text, strlen(text), 0, 1, ROWS, PROCESSES, SIZE_MAX, rows, 6 * ROWS, counts,
+                                         ROWS * PROCESSES, list, list_len),
+                     list, list_len);
+    size_t any = kiqsaryn_list_len(4);
+    print_listed(kiqsaryn_races(rows, 6 * ROWS, 4, PROCESSES, 1, counts, ROWS * PROCESSES, list, any), list, any);
+}
+
 int main(void) {
     const char *text = "process,kind,file,offset,length,message\r\n"
                        "0,write,1,0,10,\r\n0,commit,1,,,\r\n0,send,,,,7\r\n1,recv,,,,7\r\n1,wait,,,,7\r\n1,read,1,5,10,\r\n";
@@ -140,5 +165,6 @@ int main(void) {
     for (uint32_t i = 0; i < seen[5]; i++)
         printf("plain: %u bytes from %u are of row %u\n", (unsigned)pieces[3 * i + 1], (unsigned)pieces[3 * i], (unsigned)pieces[3 * i + 2]);
     look_up(map, maps);
+    list_every_race();
     return join_two();
 }
