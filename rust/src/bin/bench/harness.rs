@@ -9,8 +9,8 @@ pub type Run = Box<dyn FnMut() -> Duration>;
 pub struct Timed {
     pub library: Run,
     pub plain: Vec<(&'static str, Run)>,
-    /// Compares what all of them leave. For a replay it gives the runs of the published map, or the plain file's.
-    pub same: Box<dyn FnMut() -> Option<usize>>,
+    /// Compares what all of them leave. It may give a number for a column of its own, and the column's name.
+    pub same: Box<dyn FnMut() -> Option<(&'static str, usize)>>,
 }
 
 pub struct Case {
@@ -71,18 +71,18 @@ pub fn table(title: &str, cases: Vec<Case>) {
     let mut before = (String::new(), 0.0);
     for (k, case) in cases.into_iter().enumerate() {
         let mut runs = (case.make)();
-        let extents = (runs.same)();
+        let counted = (runs.same)();
         let times = best(&mut runs);
         if k == 0 {
             let plain: String = runs.plain.iter().map(|(name, _)| format!(" {name} | ratio |")).collect();
-            let extents = extents.map_or("", |_| " extents |");
-            println!("\n| {title} | rows |{extents} library | growth |{plain}");
-            println!("|---|---|---|---|{}{}", if extents.is_empty() { "" } else { "---|" }, "---|---|".repeat(runs.plain.len()));
+            let column = counted.map_or(String::new(), |(name, _)| format!(" {name} |"));
+            println!("\n| {title} | rows |{column} library | growth |{plain}");
+            println!("|---|---|---|---|{}{}", if column.is_empty() { "" } else { "---|" }, "---|---|".repeat(runs.plain.len()));
         }
         let growth = if before.0 == case.name { format!("{:.1}", times[0] / before.1) } else { String::new() };
-        let extents = extents.map_or(String::new(), |n| format!(" {n} |"));
+        let counted = counted.map_or(String::new(), |(_, n)| format!(" {n} |"));
         let plain: String = times[1..].iter().map(|t| format!(" {} | {:.2} |", told(*t), times[0] / t)).collect();
-        println!("| {} | {} |{extents} {} | {growth} |{plain}", case.name, case.rows, told(times[0]));
+        println!("| {} | {} |{counted} {} | {growth} |{plain}", case.name, case.rows, told(times[0]));
         before = (case.name, times[0]);
     }
 }

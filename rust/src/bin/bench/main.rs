@@ -1,4 +1,4 @@
-//! Times of reading, writing, joining, counts, verdict and replay next to plain Rust versions of the same rules, in the same run:
+//! Times of reading, writing, joining, counts, verdict, lists of races and replay next to plain Rust versions of the same rules, in the same run:
 //! `cargo run --release --offline --bin bench`. With words of a case (`bench replay commit scattered 512`) it runs the cases that have them all,
 //! and with `--once` before them only the library's call, once, for a profile; with `--once-plain` the first plain version's.
 
@@ -10,6 +10,7 @@ mod barriers;
 mod counts;
 mod harness;
 mod joining;
+mod listing;
 mod messages;
 mod reading;
 mod replay;
@@ -28,6 +29,7 @@ fn main() {
         ("joining", joining::cases()),
         ("counts", counts::cases()),
         ("verdict", verdict::cases()),
+        ("listing", listing::cases()),
         ("replay", replay::cases()),
     ] {
         cases.retain(|case| {

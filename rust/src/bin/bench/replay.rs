@@ -361,7 +361,8 @@ fn case(shape: Shape, model: Option<Model>, n: usize) -> Timed {
             assert_eq!(library(&all, &mut a.0, &mut a.1, &mut a.2), Replayed { rows: n as u32, refusal: None });
             assert_eq!(plain(model, h, &mut b.0, &all, &mut b.1, &mut b.2), (n, 0));
             assert!(a == b);
-            Some(a.0[..4 * h.map_space as usize].chunks(4).filter(|run| run[1] > 0).count())
+            // the runs of the published map, or of the plain file's
+            Some(("extents", a.0[..4 * h.map_space as usize].chunks(4).filter(|run| run[1] > 0).count()))
         }),
     }
 }
