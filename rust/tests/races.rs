@@ -38,7 +38,7 @@ struct Call {
 /// The numbers of a vector's list.
 fn pairs_in(line: &Line) -> Vec<u32> {
     let all = line.numbers("P");
-    assert!(all.len() % PAIR == 0 && rise(&pairs_of(&all)), "{line}: no list of races");
+    assert!(all.chunks_exact(PAIR).remainder().is_empty() && rise(&pairs_of(&all)), "{line}: no list of races");
     all
 }
 
