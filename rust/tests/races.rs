@@ -1,6 +1,6 @@
-//! Every vector of `vectors/races.txt`: the answer, the rows, the counts and the whole list, in one call and in parts, by the library and by the naive
-//! version; and for two orders of the same rows that their races are the same pairs. Then lists of every length, the most races that there can be,
-//! and calls whose numbers do not fit.
+//! Every vector of `vectors/races.txt`: the answer, the rows, the counts and the whole list, in one call and in parts, by the library and by the
+//! naive version; and for two orders of the same rows that their races are the same pairs. Then lists of every length, the most races that there can
+//! be, and calls whose numbers do not fit.
 
 #[allow(dead_code)]
 mod naive;

@@ -1,5 +1,5 @@
-//! Random traces and rows whose races are listed, by the library and by the naive rules: the answer, the rows, the counts and the whole list, of every
-//! length. The same rows in other allowed orders have the same races. What is free under one model is free under those that ask for less.
+//! Random traces and rows whose races are listed, by the library and by the naive rules: the answer, the rows, the counts and the whole list, of
+//! every length. The same rows in other allowed orders have the same races. What is free under one model is free under those that ask for less.
 //!
 //! By hand, more of them: `KIQSARYN_RACES=1000000 KIQSARYN_SEED=7 cargo test --offline --test random_races -- --nocapture`. A trace's own seed is the
 //! seed plus its number, so `KIQSARYN_RACES=1` with the seed that a failure prints repeats that trace alone.
@@ -45,8 +45,8 @@ struct Seen {
     wild_pairs: u64,
 }
 
-/// How often lists of each sort were lent: as long as all pairs need, a number short, shorter, a number longer, longer, and of no number, with races and
-/// without.
+/// How often lists of each sort were lent: as long as all pairs need, a number short, shorter, a number longer, longer, and of no number, with races
+/// and without.
 #[derive(Default, Debug)]
 struct Lists {
     exact: u64,
@@ -58,8 +58,8 @@ struct Lists {
     none_needed: u64,
 }
 
-/// Traces with a conflict that are free under session: those that are free under commit only once each close is named commit. And traces that are free
-/// under commit then, and race under session.
+/// Traces with a conflict that are free under session: those that are free under commit only once each close is named commit. And traces that are
+/// free under commit then, and race under session.
 #[derive(Default, Debug)]
 struct Renaming {
     needed: u64,
@@ -321,9 +321,9 @@ fn is_within(some: &[Pair], all: &[Pair]) -> bool {
     some.iter().all(|pair| all.contains(pair))
 }
 
-/// Fails unless what is free under session is free under MPI-IO, and under commit once each close is named commit; and what is free under any model is
-/// free under POSIX. Pair by pair: a race under POSIX is one under every model, one under MPI-IO is one under session, and one under commit of the rows
-/// so renamed is one under session of the rows as they are.
+/// Fails unless what is free under session is free under MPI-IO, and under commit once each close is named commit; and what is free under any model
+/// is free under POSIX. Pair by pair: a race under POSIX is one under every model, one under MPI-IO is one under session, and one under commit of the
+/// rows so renamed is one under session of the rows as they are.
 fn compare_models(rows: &[Row], process_limit: u32, listed: &[Vec<Pair>; 4], told: &str, seen: &mut Seen) {
     let renamed: Vec<Row> = rows.iter().map(|row| Row { kind: if row.kind == CLOSE { COMMIT } else { row.kind }, ..*row }).collect();
     let renamed = all_races(&renamed, process_limit, ON_COMMIT as u32);

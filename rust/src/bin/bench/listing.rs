@@ -1,5 +1,5 @@
-//! Every race of rows, listed into a list that is long enough for all that there can be, and into one that is long enough for those there are; next to
-//! plain Rust in the same steps, and to plain Rust that collects the races in a vector first.
+//! Every race of rows, listed into a list that is long enough for all that there can be, and into one that is long enough for those there are; next
+//! to plain Rust in the same steps, and to plain Rust that collects the races in a vector first.
 
 use crate::counts;
 use crate::harness::{timed, Case, Timed};
@@ -57,9 +57,9 @@ const RACING_TURN: usize = 20;
 /// The rows of a turn of a handover of one clip.
 const TURN: usize = 7;
 
-/// Handovers of random clips, of which every pair is in order and some half of the pairs meet; rows without messages, of which nothing is in order and no
-/// pair meets; handovers of own clips, where now and then a process writes to one clip of another file, which nobody publishes; and writes of one byte
-/// by all processes, which nothing orders: the most races that there can be.
+/// Handovers of random clips, of which every pair is in order and some half of the pairs meet; rows without messages, of which nothing is in order
+/// and no pair meets; handovers of own clips, where now and then a process writes to one clip of another file, which nobody publishes; and writes of
+/// one byte by all processes, which nothing orders: the most races that there can be.
 fn trace(shape: &str, model: Model, n: usize) -> Vec<u32> {
     let rows: Vec<[u32; 6]> = match shape {
         "free in order" => free("random clips", model, n),
