@@ -15,7 +15,8 @@ mod words;
 use explain::{explain, Rows};
 use kiqsaryn::{JoinSettings, Model, Row, PROCESSES, READ, ROWS};
 use naive::joining::{rows_of, taken, Taken};
-use naive::order::{counts, races, Order};
+use naive::order::{counts, Order};
+use naive::races::races;
 use naive::pairs::some_files;
 use naive::random::Random;
 use naive::rows::{numbers, some_rows_within};
@@ -41,7 +42,7 @@ impl Naive {
     fn of(rows: &[Row]) -> Naive {
         let order = Order::of(rows);
         let counts = counts(rows, &order, PROCESSES);
-        let races = Model::ALL.map(|model| races(rows, &order, model.number()).collect());
+        let races = Model::ALL.map(|model| races(rows, &order, model.number()));
         Naive { rows: rows.to_vec(), numbers: numbers(rows), counts, races }
     }
 
