@@ -1,8 +1,7 @@
 -- The list of every race in another allowed order of a trace's rows: it has the same pairs of rows, and as many.
-use Prim.Native.Nat.{ℕ, suc, _≤_, _<_}
+use Prim.Native.Nat.{ℕ, _≤_, _<_}
 use native.Mathlib.Omega.{arith}
-use native.Mathlib.Decide.{decLt}
-use mathlib.Core.Path.{_≡_, sym, ap, _∙_}
+use mathlib.Core.Path.{_≡_, sym, _∙_}
 use mathlib.Core.Logic.{_↔_, _⊎_, inl, inr}
 use mathlib.Core.Bool.{true}
 use mathlib.Core.List.{List}
@@ -14,7 +13,7 @@ use Rattle.trace.proofs.Laws.{Sound, accepted-kept}
 use Rattle.barriers.proofs.Kept.{Kept}
 use Rattle.races_meaning.specs.Races.{race}
 use Rattle.races_meaning.specs.Lists.{RowPair, racePairs}
-use Rattle.races_meaning.proofs.Lists.{pairOf, noPair, Stands, Before, Rising, stands-iff, listed-race, listed-rising}
+use Rattle.races_meaning.proofs.Lists.{pairOf, noPair, Stands, stands-iff, listed-race, listed-rising, rising-once, same-pair}
 use Rattle.races_meaning.proofs.Verdicts.{race-out}
 use Rattle.reorder.specs.Renumbering.{Renumbered}
 use Rattle.reorder.proofs.Moving.{turned}
@@ -46,28 +45,6 @@ among-iff rows model i j = (λ e. to (or-out (race rows model i j) (race rows mo
     from (k, inr s) = or-right (race rows model i j) _ (stands-iff rows model j i .1 (k, s))
 
 -- ---- How many races there are
-
--- A pair stands at one index of a list that rises.
-rising-once : (pairs : List RowPair) → Rising pairs → (k l : ℕ) → k < length pairs → l < length pairs →
-    getD pairs k noPair ≡ getD pairs l noPair → k ≡ l
-rising-once pairs up k l a b e = go (decLt k l) (decLt l k)
-  where
-    -- No pair comes before itself.
-    apart : (p : RowPair) → Before p p → ⊥
-    apart p (inl h) = omega arith
-    apart p (inr (q, h)) = omega arith
-
-    go : Dec (k < l) → Dec (l < k) → k ≡ l
-    go (yes h) d = absurd (apart _ (rw e at (up k l h b)))
-    go (no h) (yes d) = absurd (apart _ (rw (sym e) at (up l k d a)))
-    go (no h) (no d) = omega arith
-
--- Two equal pairs are of the same rows.
-same-pair : (a b c d : ℕ) → pairOf a b ≡ pairOf c d → (a ≡ c) × (b ≡ d)
-same-pair a b c d e =
-    let p : suc a ≡ suc c = ap (λ (x : RowPair). x .earlier) e in
-    let q : suc b ≡ suc d = ap (λ (x : RowPair). x .later) e in
-    (omega arith, omega arith)
 
 module _ (pairs : List RowPair) (k : ℕ) where
   -- An index at which a pair stands is within the list.

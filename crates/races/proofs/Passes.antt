@@ -5,12 +5,12 @@ use native.Mathlib.Numerals.{add-one}
 use native.Mathlib.Omega.{arith}
 use mathlib.Core.Path.{_≡_, refl, sym, ap, ap₂, _∙_}
 use mathlib.Core.Logic.{_⊎_, inl, inr}
-use mathlib.Core.Bool.{Bool, true, false, cond, not, _&&_, and-true, and-false}
+use mathlib.Core.Bool.{Bool, true, false, cond, _&&_, and-true, and-false}
 use mathlib.Core.List.{List, [], _∷_, append-nil}
 use lib.ListN.{length, getD, set, replicate, length-set, length-append, length-replicate}
 use lib.Seq.{getD-drop}
 use lib.Dec.{leb, ltb, eqb}
-use borrow.Author.Tests.{eq-eqb, ne-eqb, lt-ltb, le-ltb}
+use borrow.Author.Tests.{eq-eqb, ne-eqb, lt-ltb}
 use Rattle.rows.specs.Kinds.{READ, WRITE}
 use Rattle.rows.specs.Limits.{PROCESSES, MODELS, ROWS}
 use Rattle.models.specs.Table.{publishes, refreshes}
@@ -23,7 +23,7 @@ use Rattle.rows.proofs.Products.{block-before}
 use Rattle.happens_before.proofs.Filling.{rowsOf, length-rowsOf, cell-done}
 use Rattle.rows.proofs.Slices.{length-rows, row-in}
 use Rattle.races_meaning.specs.Races.{isData, shareByte, conflict, race}
-use Rattle.rows.specs.Counting.{leastFrom, lastBelow, LastBy}
+use Rattle.rows.specs.Counting.{lastBelow, LastBy}
 use Rattle.races_meaning.specs.Search.{isRefresh, refreshAt}
 use Rattle.races_meaning.specs.Scan.{noted, lastNoted, inOrder, seen}
 use Rattle.races_meaning.specs.Lists.{RowPair, pairsWith, pairsBelow, racePairs}

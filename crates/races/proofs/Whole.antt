@@ -3,17 +3,15 @@ use Prim.Native.Nat.{ℕ, suc, _+_, _*_, _-_, _≤_, _<_}
 use native.Mathlib.Nat.{mul-le-mul}
 use native.Mathlib.Numerals.{add-one}
 use native.Mathlib.Omega.{arith}
-use native.Mathlib.Decide.{decLt}
-use mathlib.Core.Path.{_≡_, refl, sym, ap, subst, _∙_}
-use mathlib.Core.Bool.{Bool, true, false, cond, not, _&&_}
+use mathlib.Core.Path.{_≡_, refl, sym, ap, _∙_}
+use mathlib.Core.Bool.{Bool, true, false, cond}
 use mathlib.Core.List.{List, [], _∷_, _++_}
 use lib.ListN.{length, getD, drop, replicate}
 use lib.Dec.{leb, ltb}
 use borrow.Author.Tests.{leb-true, ltb-true, lt-ltb, le-ltb, le-leb, lt-leb, ne-eqb}
 use Rattle.rows.specs.Limits.{MODELS, ROWS}
 use Rattle.rows.specs.Refusals.{SHORT-SLICE, LIMITS, LIST-SPACE}
-use Rattle.rows.specs.declared.Row.{Row}
-use Rattle.rows.specs.Rows.{rowsIn, rowAt}
+use Rattle.rows.specs.Rows.{rowsIn}
 use Rattle.rows.specs.Questions.{longEnough, isProcessLimit, firstNo}
 use Rattle.rows.proofs.Asking.{all-yes, none-no, none-appended, first-no, rest-decides}
 use Rattle.happens_before.specs.declared.Filled.{Filled}

@@ -6,12 +6,12 @@ use native.Mathlib.Omega.{arith}
 use native.Mathlib.Decide.{decLt}
 use mathlib.Core.Path.{_≡_, refl, sym, ap, subst, _∙_}
 use mathlib.Core.Logic.{_↔_, _⊎_, inl, inr}
-use mathlib.Core.Bool.{Bool, true, false, cond, false≢true}
+use mathlib.Core.Bool.{Bool, true, false, cond}
 use mathlib.Core.List.{List, [], _∷_, _++_, append-nil, append-assoc}
 use lib.ListN.{length, getD, length-append, List·getD-append}
 use lib.Seq.{getD-append-add}
 use Rattle.rows.specs.declared.Row.{Row}
-use Rattle.races_meaning.specs.Races.{race, free, racing, verdictOf}
+use Rattle.races_meaning.specs.Races.{race, verdictOf}
 use Rattle.races_meaning.specs.Lists.{RowPair, pairsWith, pairsBelow, racePairs, pairNumbers, firstOf}
 use Rattle.races_meaning.proofs.Verdicts.{race-out, First, free-iff, racing-iff}
 
@@ -36,6 +36,28 @@ Before p q = (p .later < q .later) ⊎ ((p .later ≡ q .later) × (p .earlier <
 -- Each pair comes before every pair behind it.
 abbrev pub Rising : List RowPair → Type 0
 Rising pairs = (i j : ℕ) → i < j → j < length pairs → Before (getD pairs i noPair) (getD pairs j noPair)
+
+-- A pair stands at one index of a list that rises.
+pub rising-once : (pairs : List RowPair) → Rising pairs → (k l : ℕ) → k < length pairs → l < length pairs →
+    getD pairs k noPair ≡ getD pairs l noPair → k ≡ l
+rising-once pairs up k l a b e = go (decLt k l) (decLt l k)
+  where
+    -- No pair comes before itself.
+    apart : (p : RowPair) → Before p p → ⊥
+    apart p (inl h) = omega arith
+    apart p (inr (q, h)) = omega arith
+
+    go : Dec (k < l) → Dec (l < k) → k ≡ l
+    go (yes h) d = absurd (apart _ (rw e at (up k l h b)))
+    go (no h) (yes d) = absurd (apart _ (rw (sym e) at (up l k d a)))
+    go (no h) (no d) = omega arith
+
+-- Two equal pairs are of the same rows.
+pub same-pair : (a b c d : ℕ) → pairOf a b ≡ pairOf c d → (a ≡ c) × (b ≡ d)
+same-pair a b c d e =
+    let p : suc a ≡ suc c = ap (λ (x : RowPair). x .earlier) e in
+    let q : suc b ≡ suc d = ap (λ (x : RowPair). x .later) e in
+    (omega arith, omega arith)
 
 module _ (a b : List RowPair) where
   -- A pair of the first part stands in the whole.
@@ -222,11 +244,8 @@ module _ (rows : List Row) (model : ℕ) where
       back : (k : ℕ) × Stands (pairsBelow rows model (length rows)) k (pairOf x y) → race rows model x y ≡ true
       back (k, s) =
           let (u, v, h, r, q) = out-below (length rows) k (pairOf x y) s in
-          let a : suc u ≡ suc x = ap (λ (p : RowPair). p .earlier) q in
-          let b : suc v ≡ suc y = ap (λ (p : RowPair). p .later) q in
-          let c : u ≡ x = omega arith in
-          let d : v ≡ y = omega arith in
-          rw (c, d) at r
+          let same = same-pair u v x y q in
+          rw (same .0, same .1) at r
 
   -- Whatever is listed is a race.
   pub listed-race : (k : ℕ) → k < length (racePairs rows model) →
@@ -265,10 +284,8 @@ module _ (rows : List Row) (model : ℕ) where
             where
               by : (k : ℕ) × Stands (racePairs rows model) k (pairOf x′ y′) → (y < y′) ⊎ ((y ≡ y′) × (x ≤ x′))
               by (zero, s) =
-                  let same : pairOf x y ≡ pairOf x′ y′ = sym q ∙ s .1 in
-                  let a : suc x ≡ suc x′ = ap (λ (z : RowPair). z .earlier) same in
-                  let b : suc y ≡ suc y′ = ap (λ (z : RowPair). z .later) same in
-                  inr (omega arith, omega arith)
+                  let same = same-pair x y x′ y′ (sym q ∙ s .1) in
+                  inr (same .1, omega (arith, same .0))
               by (suc k, s) = apart (rw (q, s .1) at (listed-rising 0 (suc k) (omega arith) (s .0)))
                 where
                   apart : Before (pairOf x y) (pairOf x′ y′) → (y < y′) ⊎ ((y ≡ y′) × (x ≤ x′))

@@ -2,13 +2,12 @@
 -- pass over the earlier rows. The law `race-seen` says that it finds the races.
 use Prim.Native.Nat.{ℕ, suc, _-_}
 use mathlib.Core.Bool.{Bool, cond, not, _&&_}
-use mathlib.Core.List.{List, [], _∷_}
-use lib.ListN.{length}
+use mathlib.Core.List.{List}
 use lib.Dec.{leb, ltb, eqb}
 use Rattle.rows.specs.Kinds.{WRITE}
 use Rattle.models.specs.Table.{publishes}
 use Rattle.rows.specs.declared.Row.{Row}
-use Rattle.rows.specs.Rows.{rowsIn, rowAt}
+use Rattle.rows.specs.Rows.{rowAt}
 use Rattle.happens_before.specs.Order.{count}
 use Rattle.races_meaning.specs.Races.{isWrite, sameFile, conflict}
 use Rattle.rows.specs.Counting.{lastBelow}

@@ -2,11 +2,11 @@
 use borrow.Author.Needs.{needs}
 use native.Mathlib.Omega.{arith}
 use denote.Ref.{now}
-use Prim.Native.Nat.{_-_, _*_, _<_, _≤_}
+use Prim.Native.Nat.{_-_, _*_, _<_}
 use lib.ListN.{length, getD}
 use mathlib.Core.Logic.{⊎-elim, inl, inr}
 use mathlib.Core.Path.{ap, _∙_}
-use Rattle.rows.specs.Limits.{PROCESSES, ROWS}
+use Rattle.rows.specs.Limits.{PROCESSES}
 use Rattle.rows.specs.Rows.{rowsIn}
 use Rattle.rows.proofs.Slices.{length-rows}
 use Rattle.races.proofs.Passes.{process-at, process-low, Putting, putting-start, putting-few, putting-next, putting-done}
