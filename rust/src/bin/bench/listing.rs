@@ -4,12 +4,60 @@
 use crate::counts;
 use crate::harness::{timed, Case, Timed};
 use crate::reading::PROCESSES;
-use crate::verdict::{free, search};
+use crate::verdict::free;
 use kiqsaryn::{list_len, races, Listed, Model, PAIR, WRITE};
 use std::hint::black_box;
 
 /// The most rows that there can be.
 const ROWS: usize = kiqsaryn::ROWS as usize;
+
+/// Shows each race to `found`, by its later row and then by its earlier row, in the steps by which the plain verdict finds the first: for each later row
+/// one pass for the last publishing rows, unless writes publish by themselves, and one for the earlier row, whose bytes are compared last.
+#[inline(always)]
+fn search(rows: &[u32], n: usize, processes: usize, model: u32, counts: &[u16], mut found: impl FnMut(u32, u32)) {
+    let publishes = |k: u32| matches!((model, k), (0, 1) | (1, 2) | (2, 4) | (3, 4) | (3, 5));
+    let refreshes = |k: u32| matches!((model, k), (0, 0) | (1, 0) | (2, 3) | (3, 3) | (3, 5));
+    let own = publishes(1);
+    let row = |i: usize| &rows[i * 6..i * 6 + 6];
+    let before = |i: usize, j: usize| {
+        let p = row(i)[0] as usize;
+        counts[i * processes + p] <= counts[j * processes + p]
+    };
+    for y in 0..n {
+        let b = row(y);
+        if b[1] > 1 {
+            continue;
+        }
+        let refresh =
+            if refreshes(0) { Some(y) } else { (0..y).rev().find(|k| refreshes(row(*k)[1]) && row(*k)[2] == b[2] && row(*k)[0] == b[0]) };
+        let mut last = [0usize; PROCESSES];
+        if let Some(o) = refresh.filter(|_| !own) {
+            for c in 0..y {
+                if row(c)[1] > 1 && publishes(row(c)[1]) && row(c)[2] == b[2] && before(c, o) {
+                    last[row(c)[0] as usize] = c + 1;
+                }
+            }
+        }
+        for x in 0..y {
+            let a = row(x);
+            if a[1] > 1 || a[1] + b[1] == 0 || a[0] == b[0] || a[2] != b[2] {
+                continue;
+            }
+            let ordered = if a[1] == 1 && !own { x + 1 < last[a[0] as usize] } else { before(x, y) };
+            if !ordered && share(a, b) {
+                found(x as u32 + 1, y as u32 + 1);
+            }
+        }
+    }
+}
+
+/// Whether the ranges of two rows share a byte.
+#[inline(always)]
+fn share(a: &[u32], b: &[u32]) -> bool {
+    let start = a[3].max(b[3]);
+    let end = (a[3] as u64 + a[4] as u64).min(b[3] as u64 + b[4] as u64);
+    (start as u64) < end
+}
 
 /// The same steps: in one go where the list is long enough for all races that there can be; else they are counted first. None where it is too short.
 #[inline(never)]
@@ -22,7 +70,6 @@ fn plain(rows: &[u32], n: usize, model: u32, counts: &mut [u16], list: &mut [u32
     search(rows, n, PROCESSES, model, counts, |earlier, later| {
         room.next().expect("room for all").copy_from_slice(&[earlier, later]);
         pairs += 1;
-        true
     });
     Some(pairs)
 }
@@ -33,7 +80,6 @@ fn counted(rows: &[u32], n: usize, model: u32, counts: &[u16]) -> usize {
     let mut pairs = 0;
     search(rows, n, PROCESSES, model, counts, |_, _| {
         pairs += 1;
-        true
     });
     pairs
 }
@@ -45,7 +91,6 @@ fn by_vector(rows: &[u32], n: usize, model: u32, counts: &mut [u16], pairs: &mut
     pairs.clear();
     search(rows, n, PROCESSES, model, counts, |earlier, later| {
         pairs.push([earlier, later]);
-        true
     });
     let numbers = pairs.as_flattened();
     list.get_mut(..numbers.len())?.copy_from_slice(numbers);

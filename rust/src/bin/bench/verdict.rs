@@ -8,14 +8,15 @@ use crate::reading::PROCESSES;
 use kiqsaryn::{verdict, Model, Row, Verdict, CLOSE, COMMIT, OPEN, READ, RECV, SEND, SYNC, WAIT, WRITE};
 use std::hint::black_box;
 
-/// Shows each race to `found`, by its later row and then by its earlier row, until that answers no. For each later row there is one pass for the last
-/// publishing rows, unless writes publish by themselves, and one for the earlier row, whose bytes are compared last.
-#[inline(always)]
-pub fn search(rows: &[u32], n: usize, processes: usize, model: u32, counts: &[u16], mut found: impl FnMut(u32, u32) -> bool) {
+/// The same steps over the same slices: counts, then for each later row one pass for the last publishing rows, unless writes publish by
+/// themselves, and one for the earlier row, whose bytes are compared last.
+#[inline(never)]
+pub fn plain(rows: &[u32], n: usize, processes: usize, model: u32, counts: &mut [u16]) -> Option<(u32, u32)> {
     let publishes = |k: u32| matches!((model, k), (0, 1) | (1, 2) | (2, 4) | (3, 4) | (3, 5));
     let refreshes = |k: u32| matches!((model, k), (0, 0) | (1, 0) | (2, 3) | (3, 3) | (3, 5));
     let own = publishes(1);
     let row = |i: usize| &rows[i * 6..i * 6 + 6];
+    counts::plain(rows, n, processes, counts);
     let before = |i: usize, j: usize| {
         let p = row(i)[0] as usize;
         counts[i * processes + p] <= counts[j * processes + p]
@@ -41,31 +42,17 @@ pub fn search(rows: &[u32], n: usize, processes: usize, model: u32, counts: &[u1
                 continue;
             }
             let ordered = if a[1] == 1 && !own { x + 1 < last[a[0] as usize] } else { before(x, y) };
-            if !ordered && share(a, b) && !found(x as u32 + 1, y as u32 + 1) {
-                return;
+            if ordered {
+                continue;
+            }
+            let start = a[3].max(b[3]);
+            let end = (a[3] as u64 + a[4] as u64).min(b[3] as u64 + b[4] as u64);
+            if (start as u64) < end {
+                return Some((x as u32 + 1, y as u32 + 1));
             }
         }
     }
-}
-
-/// Whether the ranges of two rows share a byte.
-#[inline(always)]
-fn share(a: &[u32], b: &[u32]) -> bool {
-    let start = a[3].max(b[3]);
-    let end = (a[3] as u64 + a[4] as u64).min(b[3] as u64 + b[4] as u64);
-    (start as u64) < end
-}
-
-/// The same steps over the same slices: counts, then the first race.
-#[inline(never)]
-pub fn plain(rows: &[u32], n: usize, processes: usize, model: u32, counts: &mut [u16]) -> Option<(u32, u32)> {
-    counts::plain(rows, n, processes, counts);
-    let mut first = None;
-    search(rows, n, processes, model, counts, |earlier, later| {
-        first = Some((earlier, later));
-        false
-    });
-    first
+    None
 }
 
 fn pairs(rows: &[u32], n: usize, model: u32) -> Option<(u32, u32)> {
