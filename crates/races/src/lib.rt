@@ -125,6 +125,7 @@ fn put_all(
     ensures listed { λ r. ⌜ now (list .exit) ≡ roomLeft (racePairs (rowsIn n (now (rows .entry))) model) (now (list .entry)) ⌝ }
 {
     if list.len() + n < n * n {
+        // A list of one number has no room for a pair.
         let mut nothing = [0u32; 1];
         let needed = put_races(rows, n, processes, model, counts, &mut nothing);
         if list.len() < PAIR * needed {
@@ -364,7 +365,7 @@ fn put_pair(list: &mut [u32], k: usize, earlier: u32, later: u32)
 }
 
 // Row x before the later row races with it; `last` is the index of the last noted row of the process of x, plus one. Bytes are compared last: of
-// two rows that may conflict and are not in order, a shared byte is a race, and ends the search.
+// two rows that may conflict and are not in order, a shared byte is a race, and no other pair is asked for its bytes.
 fn is_race(rows: &[u32], counts: &[u16], later: Later, x: usize, last: usize) -> bool
     requires { ⌜ Given (later .n) (later .processes) (later .model) (now rows) (now counts) ⌝ }
     requires { ⌜ (later .y < later .n) × (x < later .n) × (later .refresh ≡ refreshAt (rowsIn (later .n) (now rows)) (later .model) (later .y)) × (later .refresh ≤ later .n) × (later .own ≡ publishes (later .model) WRITE) ⌝ }
