@@ -2,6 +2,7 @@
 
 use crate::explain::explain;
 use crate::input::{short_names, Join, Recorded, Trace};
+use crate::json;
 use crate::races;
 use crate::recording::Recording;
 use crate::text::{counted, describe, escape, labelled, size};
@@ -37,6 +38,15 @@ pub fn csv(verdicts: &[(Model, Verdict)]) -> String {
         }
     }
     s
+}
+
+/// The verdicts as one JSON object.
+pub fn json(_trace: &Trace, verdicts: &[(Model, Verdict)]) -> Result<String, String> {
+    let of = |(model, v): &(Model, Verdict)| {
+        let race = if *v == Verdict::Free { "free" } else { "race" };
+        json::object(&[("model", json::string(model.name())), ("verdict", json::string(race))])
+    };
+    Ok(json::object(&[("models", json::list(verdicts.iter().map(of)))]))
 }
 
 /// A record as it stands behind a label, what it says, and where it comes from if that is known.
@@ -159,6 +169,14 @@ fn race(trace: &Trace, models: &[Model], earlier: u32, later: u32) -> String {
     s
 }
 
+/// The word for a trace without races. Of a trace without rows it says that nothing was judged.
+pub fn free(trace: &Trace) -> &'static str {
+    match trace.rows().n {
+        0 => "free (the trace has no row: nothing was judged)",
+        _ => "free",
+    }
+}
+
 /// Which race of how many the first is.
 fn first_of(races: usize) -> String {
     match races {
@@ -192,7 +210,7 @@ fn judged(trace: &Trace, verdicts: &[(Model, Verdict)]) -> Result<String, String
                 most = most.max(races);
                 format!("race, {} and {} ({})", trace.row_name(*earlier), trace.row_name(*later), first_of(races))
             }
-            _ => "free".to_string(),
+            _ => free(trace).to_string(),
         };
         s.push_str(&labelled(&format!("  {:8} ", model.name()), &words));
     }

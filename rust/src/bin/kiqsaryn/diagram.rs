@@ -1,6 +1,7 @@
 //! `diagram`: the trace as an SVG picture. Lanes stand side by side, one for each process that occurs; rows go from top to bottom in the
 //! order of the trace, one to a line, so that boxes never cover each other.
 
+use crate::args::Crop;
 use crate::check::judge;
 use crate::explain::explain;
 use crate::input::{Recorded, Trace};
@@ -359,7 +360,7 @@ fn beginning(title: &str, width: usize, height: usize) -> String {
 }
 
 /// The whole picture. An error is a sentence.
-pub fn svg(trace: &Trace, model: Model) -> Result<String, String> {
+pub fn svg(trace: &Trace, model: Model, _crop: &Crop) -> Result<String, String> {
     let race = match judge(trace, &[model])?.first() {
         Some((_, Verdict::Race { earlier, later })) => Some((*earlier, *later)),
         _ => None,

@@ -1,32 +1,41 @@
 //! The command `kiqsaryn`: reads a trace, or two that it joins, asks the proved library, and prints its answers in words.
 
 mod alike;
+mod answers;
 mod args;
 mod barriers;
 mod check;
+mod completions;
 mod diagram;
 mod explain;
 mod groups;
 mod help;
 mod input;
+mod json;
+mod manual;
 mod messages;
+mod near;
 mod output;
 mod posted;
 mod races;
 mod recording;
 mod refused;
 mod replay;
+mod report;
+mod returned;
 mod standard;
+mod table;
 mod text;
 mod turns;
 mod words;
 mod write;
 
-use args::{Choice, Common, Inputs, Output, Request};
+use answers::{answer_each, Answers};
+use args::{Choice, Common, Form, Inputs, Output, Reads, Request};
 use input::{Loaded, Trace};
 use kiqsaryn::Model;
-use output::Place;
-use std::io::{self, Write};
+use output::{Failed, Place};
+use std::io::{self, ErrorKind, Write};
 use std::path::PathBuf;
 use std::process::ExitCode;
 
@@ -35,8 +44,8 @@ const RACE: u8 = 1;
 const REFUSED: u8 = 2;
 const WRONG: u8 = 3;
 
-/// All that is to be written, and the exit status. Nothing is written before it is complete, save for the races, which may be millions of lines:
-/// `run_races` writes them block by block, once the library has listed them.
+/// All that is to be written, and the exit status. Nothing is written before it is complete, save for the answers of `check`, `races` and `replay`,
+/// which may be about many traces, or millions of lines long: these are written block by block.
 struct Outcome {
     out: String,
     err: String,
@@ -60,6 +69,20 @@ impl Outcome {
     }
 }
 
+/// What is said where output to one of the places would overwrite a trace; nothing is said on standard error where that is the trace.
+fn overwriting(common: &Common, places: &[Place]) -> Option<Outcome> {
+    let trace = match &common.inputs {
+        Inputs::One(_) => "the trace itself",
+        Inputs::Two(_) => "one of the traces",
+    };
+    let overwrites = |place: &&Place| common.inputs.all().iter().any(|input| output::overwrites(&input.source, place));
+    Some(match places.iter().find(overwrites)? {
+        Place::File(_) => Outcome::failed(&format!("-o names {trace}; nothing is written")),
+        Place::Output => Outcome::failed(&format!("standard output is {trace}; nothing is written")),
+        Place::Error => Outcome::err(String::new(), WRONG),
+    })
+}
+
 /// Loads one trace or the join of two, and does the rest with it if it is accepted. Output to places of which one would overwrite a trace is not
 /// begun.
 fn with_trace(
@@ -68,17 +91,8 @@ fn with_trace(
     refused: impl Fn(&input::Refused) -> Outcome,
     accepted: impl Fn(&Trace) -> Result<Outcome, String>,
 ) -> Outcome {
-    let trace = match &common.inputs {
-        Inputs::One(_) => "the trace itself",
-        Inputs::Two(_) => "one of the traces",
-    };
-    let overwrites = |place: &&Place| common.inputs.all().iter().any(|input| output::overwrites(&input.source, place));
-    match places.iter().find(overwrites) {
-        Some(Place::File(_)) => return Outcome::failed(&format!("-o names {trace}; nothing is written")),
-        Some(Place::Output) => return Outcome::failed(&format!("standard output is {trace}; nothing is written")),
-        // A sentence on standard error would be written over the trace too.
-        Some(Place::Error) => return Outcome::err(String::new(), WRONG),
-        None => {}
+    if let Some(outcome) = overwriting(common, places) {
+        return outcome;
     }
     let done = match input::load(common) {
         Ok(Loaded::Accepted(trace)) => accepted(&trace),
@@ -92,28 +106,87 @@ fn run(request: Request) -> Outcome {
     match request {
         Request::Help(topic) => Outcome::out(help::help(topic), FREE),
         Request::Version => Outcome::out(format!("kiqsaryn {}\n", env!("CARGO_PKG_VERSION")), FREE),
-        Request::Check { common, models, csv } => run_check(&common, &models, csv),
-        Request::Races { common, models, choice, csv } => run_races(&common, &models, &choice, csv),
-        Request::Replay { common, file, model } => with_trace(
+        Request::Manual => Outcome::out(manual::page(), FREE),
+        Request::Completions(shell) => Outcome::out(completions::script(shell), FREE),
+        Request::Check { each, models, form } => run_check(&each, &models, form),
+        Request::Races { each, models, choice, form } => run_races(&each, &models, &choice, form),
+        Request::Replay { each, reads, model, form } => run_replay(&each, &reads, model, form),
+        Request::Explain { common, row, models } => with_trace(
             &common,
             &[Place::Output],
             |r| Outcome::out(refused::report(r), REFUSED),
-            |trace| Ok(Outcome::out(replay::report(trace, file, model)?, FREE)),
+            |trace| Ok(Outcome::out(returned::report(trace, row, &models)?, FREE)),
         ),
-        Request::Diagram { common, model, output } => with_trace(
+        Request::Report { common, models, limit, output } => run_report(&common, &models, limit, output),
+        Request::Diagram { common, model, crop, output } => with_trace(
             &common,
             &[output.as_deref().map_or(Place::Output, Place::File)],
             |r| Outcome::err(refused::report(r), REFUSED),
-            |trace| Ok(Outcome { file: output.clone(), ..Outcome::out(diagram::svg(trace, model)?, FREE) }),
+            |trace| Ok(Outcome { file: output.clone(), ..Outcome::out(diagram::svg(trace, model, &crop)?, FREE) }),
         ),
         Request::Write { common, out_header, output } => run_write(&common, out_header, output),
-        Request::Join { common, models, csv, output: Output::Nowhere, .. } => run_check(&common, &models, csv),
+        Request::Join { common, models, csv, output: Output::Nowhere, .. } => {
+            run_check(&[common], &models, if csv { Form::Csv } else { Form::Words })
+        }
         Request::Join { common, models, csv, out_header, output: Output::Standard } => run_join(&common, &models, csv, out_header, None),
         Request::Join { common, models, csv, out_header, output: Output::File(file) } => {
             run_join(&common, &models, csv, out_header, Some(file))
         }
     }
 }
+
+// ---- Answers about each of several traces
+
+/// Says of each trace in turn what `answer` writes of it.
+fn run_each(each: &[Common], name: &str, form: Form, answer: impl Fn(&mut Answers, &Trace) -> Result<u8, Failed>) -> Outcome {
+    if let Some(outcome) = each.iter().find_map(|common| overwriting(common, &[Place::Output])) {
+        return outcome;
+    }
+    match answer_each(each, name, form, answer) {
+        Ok(status) => Outcome::out(String::new(), status),
+        Err(e) => Outcome::err(not_said(&e), WRONG),
+    }
+}
+
+fn run_check(each: &[Common], models: &[Model], form: Form) -> Outcome {
+    run_each(each, "check", form, |answers, trace| {
+        let verdicts = check::judge(trace, models)?;
+        match form {
+            Form::Words => answers.say(&check::report(trace, &verdicts)?)?,
+            Form::Csv => answers.say_lines(&check::csv(&verdicts))?,
+            Form::Json => answers.say(&check::json(trace, &verdicts)?)?,
+        }
+        Ok(if check::any_race(&verdicts) { RACE } else { FREE })
+    })
+}
+
+/// Writes every race under the models. The exit status tells of all of them, whatever is chosen to be shown.
+fn run_races(each: &[Common], models: &[Model], choice: &Choice, form: Form) -> Outcome {
+    run_each(each, "races", form, |answers, trace| {
+        let all = races::find(trace, models)?;
+        match form {
+            Form::Words => races::report(answers.out()?, trace, models, &all, choice)?,
+            Form::Csv => {
+                let lead = answers.lead("model,earlier,later\r\n")?;
+                races::csv(answers.out()?, &lead, trace, models, &all, choice)?;
+            }
+            Form::Json => races::json(answers.out()?, trace, models, &all, choice)?,
+        }
+        Ok(if races::any_race(&all) { RACE } else { FREE })
+    })
+}
+
+fn run_replay(each: &[Common], reads: &Reads, model: Model, form: Form) -> Outcome {
+    run_each(each, "replay", form, |answers, trace| {
+        match form {
+            Form::Json => replay::put_json(answers.out()?, trace, reads, model)?,
+            _ => replay::put(answers.out()?, trace, reads, model)?,
+        }
+        Ok(FREE)
+    })
+}
+
+// ---- One trace, or one join
 
 /// The verdicts in the form that is asked for, and the exit status.
 fn judged(trace: &Trace, models: &[Model], csv: bool) -> Result<(String, u8), String> {
@@ -130,29 +203,15 @@ fn refused_words(r: &input::Refused, csv: bool) -> String {
     }
 }
 
-fn run_check(common: &Common, models: &[Model], csv: bool) -> Outcome {
+/// Writes the page to hand over. Its exit status is that of `check`.
+fn run_report(common: &Common, models: &[Model], limit: u32, output: Option<PathBuf>) -> Outcome {
     with_trace(
         common,
-        &[Place::Output],
-        |r| Outcome::out(refused_words(r, csv), REFUSED),
-        |trace| judged(trace, models, csv).map(|(words, status)| Outcome::out(words, status)),
-    )
-}
-
-/// Writes every race under the models. The exit status tells of all of them, whatever is chosen to be shown.
-fn run_races(common: &Common, models: &[Model], choice: &Choice, csv: bool) -> Outcome {
-    with_trace(
-        common,
-        &[Place::Output],
-        |r| Outcome::out(refused_words(r, csv), REFUSED),
+        &[output.as_deref().map_or(Place::Output, Place::File)],
+        |r| Outcome::err(refused::report(r), REFUSED),
         |trace| {
-            let all = races::find(trace, models)?;
-            let written = output::in_blocks(|out| match csv {
-                true => races::csv(out, trace, models, &all, choice),
-                false => races::report(out, trace, models, &all, choice),
-            });
-            written.map_err(not_said)?;
-            Ok(Outcome::out(String::new(), if races::any_race(&all) { RACE } else { FREE }))
+            let status = if check::any_race(&check::judge(trace, models)?) { RACE } else { FREE };
+            Ok(Outcome { file: output.clone(), ..Outcome::out(report::html(trace, models, limit as usize)?, status) })
         },
     )
 }
@@ -199,6 +258,8 @@ fn run_write(common: &Common, header: bool, output: Option<PathBuf>) -> Outcome 
     )
 }
 
+// ---- Output
+
 /// Writes all at once. A failure has exit status 3.
 fn finish(outcome: Outcome) -> u8 {
     complain(&outcome.err);
@@ -206,18 +267,20 @@ fn finish(outcome: Outcome) -> u8 {
     let to_standard = outcome.file.as_deref().is_none_or(output::is_standard);
     match put(&outcome).and_then(|()| tell(&outcome, to_standard)) {
         Ok(()) => outcome.status,
-        Err(e) => {
-            complain(&format!("kiqsaryn: {e}\n"));
+        Err(words) => {
+            complain(&words);
             WRONG
         }
     }
 }
 
-/// Writes what goes to standard output or to a file.
+/// Writes what goes to standard output or to a file. An error is what is said of it.
 fn put(outcome: &Outcome) -> Result<(), String> {
     match &outcome.file {
-        Some(path) => output::to_file(path, outcome.out.as_bytes()).map_err(|e| format!("cannot write {}: {e}", text::path_name(path))),
-        None => say(&outcome.out),
+        Some(path) => {
+            output::to_file(path, outcome.out.as_bytes()).map_err(|e| format!("kiqsaryn: cannot write {}: {e}\n", text::path_name(path)))
+        }
+        None => say(&outcome.out).map_err(|e| not_said(&e)),
     }
 }
 
@@ -227,19 +290,23 @@ fn tell(outcome: &Outcome, to_standard: bool) -> Result<(), String> {
         complain(&outcome.after);
         return Ok(());
     }
-    say(&outcome.after).map_err(|e| format!("{e}; the file is written"))
+    say(&outcome.after).map_err(|e| format!("kiqsaryn: cannot write to standard output: {e}; the file is written\n"))
 }
 
 /// Says something on standard output. Where nothing is to be said, nothing fails.
-fn say(words: &str) -> Result<(), String> {
+fn say(words: &str) -> io::Result<()> {
     if words.is_empty() {
         return Ok(());
     }
-    output::to_standard(words.as_bytes()).map_err(not_said)
+    output::to_standard(words.as_bytes())
 }
 
-fn not_said(e: io::Error) -> String {
-    format!("cannot write to standard output: {e}")
+/// What is said of a failure to write to standard output: nothing where its reader has closed the pipe, since that reader wants no more.
+fn not_said(e: &io::Error) -> String {
+    match e.kind() {
+        ErrorKind::BrokenPipe => String::new(),
+        _ => format!("kiqsaryn: cannot write to standard output: {e}\n"),
+    }
 }
 
 /// Says something on standard error. There is no place to tell of a failure.

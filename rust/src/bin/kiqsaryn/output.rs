@@ -39,11 +39,42 @@ pub fn to_standard(bytes: &[u8]) -> io::Result<()> {
     standard::output()?.write_all(bytes)
 }
 
-/// Writes to standard output block by block what need not be held as a whole.
-pub fn in_blocks(put: impl FnOnce(&mut BufWriter<File>) -> io::Result<()>) -> io::Result<()> {
-    let mut out = BufWriter::with_capacity(BLOCK, standard::output()?);
-    put(&mut out)?;
-    out.flush()
+/// Why writing block by block ended early: a failure to write, or a sentence.
+pub enum Failed {
+    Write(io::Error),
+    Sentence(String),
+}
+
+impl From<io::Error> for Failed {
+    fn from(e: io::Error) -> Failed {
+        Failed::Write(e)
+    }
+}
+
+impl From<String> for Failed {
+    fn from(sentence: String) -> Failed {
+        Failed::Sentence(sentence)
+    }
+}
+
+/// Standard output, written block by block: what is written need not be held as a whole. Where nothing is written, nothing fails.
+#[derive(Default)]
+pub struct Blocks {
+    out: Option<BufWriter<File>>,
+}
+
+impl Write for Blocks {
+    fn write(&mut self, bytes: &[u8]) -> io::Result<usize> {
+        let out = match self.out.take() {
+            Some(out) => out,
+            None => BufWriter::with_capacity(BLOCK, standard::output()?),
+        };
+        self.out.insert(out).write(bytes)
+    }
+
+    fn flush(&mut self) -> io::Result<()> {
+        self.out.as_mut().map_or(Ok(()), BufWriter::flush)
+    }
 }
 
 /// Whether a path names the file that standard output is.

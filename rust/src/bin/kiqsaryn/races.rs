@@ -1,10 +1,11 @@
 //! `races`: every race under each model, as the library lists them, and in groups.
 
 use crate::args::Choice;
-use crate::check::{sentence, sentences, what_was_joined, why};
+use crate::check::{free, sentence, sentences, what_was_joined, why};
 use crate::explain::shared;
 use crate::groups::{pairs, Group, Groups, Key, Pair};
 use crate::input::{Recorded, Trace};
+use crate::json;
 use crate::replay::heading;
 use crate::text::{counted, labelled, refusal_of_library, span};
 use kiqsaryn::{list_len, races, Listed, Model, Row, PAIR, READ};
@@ -69,19 +70,25 @@ pub fn names(models: &[Model]) -> String {
     models.iter().map(|m| m.name()).collect::<Vec<&str>>().join(", ")
 }
 
-/// Writes a line for each race that is chosen, in the order of the list, model by model.
-pub fn csv(out: &mut impl Write, trace: &Trace, models: &[Model], all: &[Found], choice: &Choice) -> io::Result<()> {
+/// Writes a line for each race that is chosen, in the order of the list, model by model. Each line starts with the lead.
+pub fn csv(out: &mut impl Write, lead: &str, trace: &Trace, models: &[Model], all: &[Found], choice: &Choice) -> io::Result<()> {
     let rows = trace.rows();
     let limit = choice.limit.unwrap_or(u32::MAX) as usize;
-    write!(out, "model,earlier,later\r\n")?;
     for model in models {
         let list = of_model(all, *model).map_or(&[][..], |found| &found.list);
         let is_chosen = |pair: &Pair| Key::of(rows, *pair).is_some_and(|key| key.is_chosen(choice));
         for (earlier, later) in pairs(list).filter(is_chosen).take(limit) {
-            write!(out, "{},{earlier},{later}\r\n", model.name())?;
+            write!(out, "{lead}{},{earlier},{later}\r\n", model.name())?;
         }
     }
     Ok(())
+}
+
+/// The counts of the races under each model, as one JSON object.
+pub fn json(out: &mut impl Write, trace: &Trace, models: &[Model], all: &[Found], _choice: &Choice) -> io::Result<()> {
+    let of = |model: &Model| of_model(all, *model).map_or(0, |found| found.list.len() / PAIR);
+    let counts = models.iter().map(|m| json::object(&[("model", json::string(m.name())), ("races", of(m).to_string())]));
+    write!(out, "{}", json::object(&[("trace", json::string(heading(trace).1)), ("models", json::list(counts))]))
 }
 
 // ---- In words
@@ -121,7 +128,7 @@ impl<'a> Section<'a> {
     /// How many races there are, whatever is chosen; how many of them are chosen, and how many of these are shown.
     fn counts(&self) -> String {
         if self.races == 0 {
-            return "free".to_string();
+            return free(self.trace).to_string();
         }
         let mut s = format!("{}, in {}", counted(self.races as u64, "race"), counted(self.groups.all.len() as u64, "group"));
         match self.chosen() {

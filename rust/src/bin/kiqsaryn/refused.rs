@@ -3,6 +3,7 @@
 use crate::barriers::{self, is_arrival, listed};
 use crate::check::what_was_read_of_two;
 use crate::input::{row_of, short_names, JoinRefused, Refused, TraceRefused, Which};
+use crate::json;
 use crate::messages::{Around, Numbered};
 use crate::recording::{byte_limit, Recording};
 use crate::text::{counted, escape, labelled};
@@ -26,6 +27,16 @@ pub fn csv(r: &Refused) -> String {
         None => ",0",
     };
     format!("refused,{},{place}{file}\r\n", refusal.number())
+}
+
+/// The refusal as one JSON object.
+pub fn json(r: &Refused) -> String {
+    let (refusal, place) = match r {
+        Refused::Trace(r) => (r.refusal, r.place),
+        Refused::Join(r) => (r.refusal, r.place),
+    };
+    let refused = [("number", refusal.number().to_string()), ("row", place.to_string()), ("question", json::string(refusal.question()))];
+    json::object(&[("refused", json::object(&refused))])
 }
 
 pub fn report(r: &Refused) -> String {

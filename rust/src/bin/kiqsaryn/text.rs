@@ -25,9 +25,33 @@ pub fn escape(bytes: &[u8], most: usize) -> String {
     s
 }
 
-/// A path as printable text on one line.
+/// The most bytes of a path that are shown.
+const PATH: usize = 400;
+
+/// A path as printable text on one line: letters of every script as they are, and other bytes escaped.
 pub fn path_name(path: &Path) -> String {
-    escape(path.as_os_str().as_encoded_bytes(), 400)
+    let bytes = path.as_os_str().as_encoded_bytes();
+    let mut s = String::new();
+    for chunk in bytes.utf8_chunks() {
+        for c in chunk.valid().chars() {
+            match c {
+                '\\' => s.push_str("\\\\"),
+                c if is_shown(c) => s.push(c),
+                c => s.push_str(&escape(c.encode_utf8(&mut [0; 4]).as_bytes(), 4)),
+            }
+        }
+        s.push_str(&escape(chunk.invalid(), 4));
+    }
+    match s.char_indices().nth(PATH) {
+        Some((at, _)) => format!("{} ... (cut here)", &s[..at]),
+        None => s,
+    }
+}
+
+/// Whether a letter of a name is shown as it is: no control character, and none that turns the direction of a line or is not seen.
+fn is_shown(c: char) -> bool {
+    let hidden = ['\u{200b}'..='\u{200f}', '\u{2028}'..='\u{202e}', '\u{2060}'..='\u{206f}', '\u{feff}'..='\u{feff}'];
+    !c.is_control() && !hidden.iter().any(|range| range.contains(&c))
 }
 
 /// A range of bytes by its first and last, without a word.
@@ -88,12 +112,17 @@ pub fn refusal_of_library(what: &str, refusal: Refusal) -> String {
     format!("{what}: refusal {}, {} Please report this trace.", refusal.number(), refusal.question())
 }
 
-/// Breaks text between words into lines of at most `width` bytes; a longer word has a line of its own.
+/// How many letters a text has.
+pub fn letters(text: &str) -> usize {
+    text.chars().count()
+}
+
+/// Breaks text between words into lines of at most `width` letters; a longer word has a line of its own.
 pub fn wrap(text: &str, width: usize) -> Vec<String> {
     let mut lines = Vec::new();
     let mut line = String::new();
     for word in text.split(' ') {
-        if !line.is_empty() && line.len() + 1 + word.len() > width {
+        if !line.is_empty() && letters(&line) + 1 + letters(word) > width {
             lines.push(std::mem::take(&mut line));
         }
         if !line.is_empty() {
@@ -109,11 +138,11 @@ pub fn wrap(text: &str, width: usize) -> Vec<String> {
 pub fn labelled(label: &str, text: &str) -> String {
     let mut s = String::new();
     let mut lead = label.to_string();
-    for line in wrap(text, WIDTH.saturating_sub(label.len())) {
+    for line in wrap(text, WIDTH.saturating_sub(letters(label))) {
         s.push_str(&lead);
         s.push_str(&line);
         s.push('\n');
-        lead = " ".repeat(label.len());
+        lead = " ".repeat(letters(label));
     }
     s
 }

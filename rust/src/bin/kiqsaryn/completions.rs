@@ -1,0 +1,163 @@
+//! Completions for bash and zsh, made from the table of commands and options.
+
+use crate::args::Shell;
+use crate::table::{filled, Command, Opt, Value, COMMANDS, SHELLS};
+
+pub fn script(shell: Shell) -> String {
+    match shell {
+        Shell::Bash => bash(),
+        Shell::Zsh => zsh(),
+    }
+}
+
+fn command_names() -> String {
+    COMMANDS.iter().map(|c| c.name).chain(["--help", "--version"]).collect::<Vec<&str>>().join(" ")
+}
+
+/// The words that a command takes in the place of a file.
+fn operands(command: &Command) -> Option<String> {
+    match command.name {
+        "completions" => Some(SHELLS.join(" ")),
+        "help" => Some(COMMANDS.iter().map(|c| c.name).collect::<Vec<&str>>().join(" ")),
+        _ => None,
+    }
+}
+
+// ---- bash
+
+/// The names of an option, with a bar between.
+fn bash_names(option: &Opt) -> String {
+    match option.short {
+        "" => option.name.to_string(),
+        short => format!("{}|{short}", option.name),
+    }
+}
+
+/// What completes the value of each option: words, a file, or nothing.
+fn bash_values(command: &Command) -> String {
+    let mut s = String::new();
+    for option in command.options {
+        let reply = match option.value {
+            Value::None => continue,
+            Value::Word(_, words) => format!("COMPREPLY=($(compgen -W '{}' -- \"$word\"))", words.join(" ")),
+            Value::Any(_) if option.name == "--headers" => {
+                "COMPREPLY=($(compgen -W 'yes,yes yes,no no,yes no,no' -- \"$word\"))".to_string()
+            }
+            Value::Any(_) => "COMPREPLY=()".to_string(),
+            Value::File(_) => "compopt -o filenames; COMPREPLY=($(compgen -f -- \"$word\"))".to_string(),
+        };
+        s.push_str(&format!(
+            "        {}:{}) {reply}; return ;;\n",
+            command.name,
+            bash_names(option).replace('|', &format!("|{}:", command.name))
+        ));
+    }
+    s
+}
+
+fn bash_options(command: &Command) -> String {
+    let names: Vec<&str> = command.options.iter().map(|o| o.name).chain(["--help"]).collect();
+    format!("        {}) options='{}' ;;\n", command.name, names.join(" "))
+}
+
+fn bash() -> String {
+    let values: String = COMMANDS.iter().map(bash_values).collect();
+    let options: String = COMMANDS.iter().map(bash_options).collect();
+    let operands = COMMANDS
+        .iter()
+        .filter_map(|c| Some(format!("        {}) COMPREPLY=($(compgen -W '{}' -- \"$word\")); return ;;\n", c.name, operands(c)?)));
+    let operands: String = operands.collect();
+    format!(
+        "# bash completion for kiqsaryn
+_kiqsaryn() {{
+    local word=${{COMP_WORDS[COMP_CWORD]}} before=${{COMP_WORDS[COMP_CWORD-1]}} command=${{COMP_WORDS[1]}} options=
+    COMPREPLY=()
+    if ((COMP_CWORD == 1)); then
+        COMPREPLY=($(compgen -W '{}' -- \"$word\"))
+        return
+    fi
+    case $command:$before in
+{values}    esac
+    case $command in
+{options}    esac
+    if [[ $word == -* ]]; then
+        COMPREPLY=($(compgen -W \"$options\" -- \"$word\"))
+        return
+    fi
+    case $command in
+{operands}    esac
+    compopt -o filenames
+    COMPREPLY=($(compgen -f -- \"$word\"))
+}}
+complete -F _kiqsaryn kiqsaryn
+",
+        command_names()
+    )
+}
+
+// ---- zsh
+
+/// A text within single quotes and within the brackets of an option of zsh.
+fn zsh_text(text: &str) -> String {
+    filled(text).replace('\\', "\\\\").replace('\'', "'\\''").replace('[', "\\[").replace(']', "\\]").replace(':', "\\:")
+}
+
+fn zsh_option(option: &Opt) -> String {
+    let value = match option.value {
+        Value::None => String::new(),
+        Value::Word(name, words) => format!(":{}:({})", zsh_text(name), words.join(" ")),
+        Value::Any(name) if option.name == "--headers" => format!(":{}:(yes,yes yes,no no,yes no,no)", zsh_text(name)),
+        Value::Any(name) => format!(":{}:", zsh_text(name)),
+        Value::File(name) => format!(":{}:_files", zsh_text(name)),
+    };
+    let text = zsh_text(option.text);
+    let many = if option.many { "*" } else { "" };
+    match option.short {
+        "" => format!("                '{many}{}[{text}]{value}' \\\n", option.name),
+        short => format!("                '({short} {0})'{{{short},{0}}}'[{text}]{value}' \\\n", option.name),
+    }
+}
+
+fn zsh_command(command: &Command) -> String {
+    let options: String = command.options.iter().map(zsh_option).collect();
+    let rest = operands(command).map_or("'*:trace:_files'".to_string(), |words| format!("'1:word:({words})'"));
+    format!(
+        "        {})
+            _arguments -s \\
+{options}                '(- *)'{{-h,--help}}'[show the options]' \\
+                {rest}
+            ;;
+",
+        command.name
+    )
+}
+
+fn zsh() -> String {
+    let briefs: String = COMMANDS.iter().map(|c| format!("        '{}:{}'\n", c.name, zsh_text(c.brief))).collect();
+    let commands: String = COMMANDS.iter().map(zsh_command).collect();
+    format!(
+        "#compdef kiqsaryn
+# zsh completion for kiqsaryn
+_kiqsaryn() {{
+    local -a commands
+    commands=(
+{briefs}    )
+    if ((CURRENT == 2)); then
+        _describe -t commands 'kiqsaryn command' commands
+        _arguments '(- *)--help[show the commands]' '(- *)--version[show the version]'
+        return
+    fi
+    local command=$words[2]
+    shift words
+    ((CURRENT--))
+    case $command in
+{commands}    esac
+}}
+if [[ $funcstack[1] == _kiqsaryn ]]; then
+    _kiqsaryn \"$@\"
+else
+    compdef _kiqsaryn kiqsaryn
+fi
+"
+    )
+}
