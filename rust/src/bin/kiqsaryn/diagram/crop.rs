@@ -1,0 +1,160 @@
+//! Which rows a picture shows.
+
+use super::race::{Depth, Race};
+use crate::args::Crop;
+use crate::input::Trace;
+use crate::text::counted;
+use kiqsaryn::{Row, BARRIER, RECV, SEND, WAIT};
+use std::collections::BTreeSet;
+
+/// Above so many rows, the picture of a race leaves out those between that its explanation, messages and barriers do not need.
+const MANY: usize = 200;
+/// The same in a picture that stands in a page: those are always left out, and above so many rows also messages and barriers.
+const MANY_IN_PAGE: usize = 60;
+
+/// The rows that are drawn, and what is said of the choice where not all are.
+pub struct Drawn {
+    pub rows: BTreeSet<u32>,
+    pub said: String,
+}
+
+/// How many rows are drawn, and which.
+fn said(trace: &Trace, rows: &BTreeSet<u32>, which: &str) -> String {
+    let (n, all) = (rows.len() as u64, u64::from(trace.rows().n));
+    if n == all {
+        return String::new();
+    }
+    let are = if n == 1 { "is" } else { "are" };
+    format!("{n} of {} {are} drawn: {which}.", counted(all, "row"))
+}
+
+/// Every row.
+pub fn all(trace: &Trace) -> Drawn {
+    Drawn { rows: trace.rows().all().map(|(k, _)| k).collect(), said: String::new() }
+}
+
+/// The rows of a race, so deep.
+fn race_at(trace: &Trace, race: &Race, depth: Depth) -> Drawn {
+    let rows = trace.rows();
+    let drawn = race.rows(&rows, depth);
+    let folded = race.rows(&rows, Depth::Whole).len() - drawn.len();
+    let mut which = "the two that race, those of their processes between, those that the explanation names, and".to_string();
+    which.push_str(" those by which messages and barriers lead there");
+    if folded > 0 {
+        which.push_str(&format!(
+            "; {} between that the explanation does not need {} left out",
+            counted(folded as u64, "row"),
+            if folded == 1 { "is" } else { "are" }
+        ));
+    }
+    let said = said(trace, &drawn, &which);
+    Drawn { rows: drawn, said }
+}
+
+/// The rows of a race, of each depth that a picture can have, the best first.
+pub fn of_race(trace: &Trace, race: &Race) -> Vec<Drawn> {
+    let depths = [Depth::Whole, Depth::Messages, Depth::Bare].map(|depth| race_at(trace, race, depth));
+    shallow_enough(depths.into(), MANY)
+}
+
+/// The rows of a race for a picture that stands in a page, the best choice first.
+pub fn of_race_in_page(trace: &Trace, race: &Race) -> Vec<Drawn> {
+    let depths = [Depth::Messages, Depth::Bare].map(|depth| race_at(trace, race, depth));
+    shallow_enough(depths.into(), MANY_IN_PAGE)
+}
+
+/// Those of the choices that have at most so many rows, and the last in any case.
+fn shallow_enough(choices: Vec<Drawn>, most: usize) -> Vec<Drawn> {
+    let last = choices.len().saturating_sub(1);
+    choices.into_iter().enumerate().filter(|(k, drawn)| *k == last || drawn.rows.len() <= most).map(|(_, drawn)| drawn).collect()
+}
+
+// ---- Rows that are chosen
+
+fn is_of_no_file(row: Row) -> bool {
+    [SEND, RECV, WAIT, BARRIER].contains(&row.kind)
+}
+
+/// "1, 2 and 5".
+fn listed(numbers: &BTreeSet<u32>) -> String {
+    let words: Vec<String> = numbers.iter().map(u32::to_string).collect();
+    match words.split_last() {
+        Some((last, [])) => last.clone(),
+        Some((last, others)) => format!("{} and {last}", others.join(", ")),
+        None => String::new(),
+    }
+}
+
+/// "process 1", "processes 1 and 2".
+fn named(one: &str, many: &str, numbers: &BTreeSet<u32>) -> String {
+    format!("{} {}", if numbers.len() == 1 { one } else { many }, listed(numbers))
+}
+
+/// Whether the choice names rows that there are. An error is a sentence.
+fn ask(trace: &Trace, crop: &Crop) -> Result<(), String> {
+    let rows = trace.rows();
+    let there = counted(u64::from(rows.n), "row");
+    if let Some((first, last)) = crop.rows {
+        if first > last {
+            return Err(format!("--rows takes the smaller row first: --rows {last}-{first}"));
+        }
+        if first == 0 || last > rows.n {
+            return Err(format!("--rows {first}-{last}: the trace has {there}, and rows are counted from 1"));
+        }
+    }
+    let processes: BTreeSet<u32> = rows.all().map(|(_, r)| r.process).collect();
+    if let Some(p) = crop.processes.iter().find(|p| !processes.contains(p)) {
+        return Err(match processes.len() {
+            0 => format!("process {p} has no row: the trace has no row"),
+            1 => format!("process {p} has no row; {} has", named("process", "processes", &processes)),
+            _ => format!("process {p} has no row; {} have", named("process", "processes", &processes)),
+        });
+    }
+    let files: BTreeSet<u32> = rows.all().filter(|(_, r)| !is_of_no_file(*r)).map(|(_, r)| r.file).collect();
+    match crop.file.filter(|f| !files.contains(f)) {
+        None => Ok(()),
+        Some(f) if files.is_empty() => Err(format!("file {f} has no row: no row of the trace is of a file")),
+        Some(f) if files.len() == 1 => Err(format!("file {f} has no row; {} has", named("file", "files", &files))),
+        Some(f) => Err(format!("file {f} has no row; {} have", named("file", "files", &files))),
+    }
+}
+
+/// The choice in words.
+fn choice(crop: &Crop) -> String {
+    let mut words = Vec::new();
+    if let Some((first, last)) = crop.rows {
+        words.push(if first == last { format!("row {first}") } else { format!("rows {first} to {last}") });
+    }
+    if !crop.processes.is_empty() {
+        words.push(format!("rows of {}", named("process", "processes", &crop.processes.iter().copied().collect())));
+    }
+    if let Some(f) = crop.file {
+        words.push(format!("rows of file {f}, with the messages and barriers of the processes that have such rows"));
+    }
+    words.join("; of these, ")
+}
+
+/// The rows that are chosen. An error is a sentence.
+pub fn chosen(trace: &Trace, crop: &Crop) -> Result<Drawn, String> {
+    ask(trace, crop)?;
+    let rows = trace.rows();
+    let is_in = |(k, r): &(u32, Row)| {
+        let in_rows = crop.rows.is_none_or(|(first, last)| (first..=last).contains(k));
+        in_rows && (crop.processes.is_empty() || crop.processes.contains(&r.process))
+    };
+    let within: Vec<(u32, Row)> = rows.all().filter(is_in).collect();
+    let drawn: BTreeSet<u32> = match crop.file {
+        None => within.iter().map(|(k, _)| *k).collect(),
+        Some(f) => {
+            let of_file = |r: &Row| !is_of_no_file(*r) && r.file == f;
+            let processes: BTreeSet<u32> = within.iter().filter(|(_, r)| of_file(r)).map(|(_, r)| r.process).collect();
+            let with_others = |r: &Row| of_file(r) || is_of_no_file(*r) && processes.contains(&r.process);
+            within.iter().filter(|(_, r)| with_others(r)).map(|(k, _)| *k).collect()
+        }
+    };
+    if drawn.is_empty() {
+        return Err(format!("no row is chosen: {}", choice(crop)));
+    }
+    let said = said(trace, &drawn, &choice(crop));
+    Ok(Drawn { rows: drawn, said })
+}
