@@ -24,8 +24,7 @@ fn said(trace: &Trace, rows: &BTreeSet<u32>, which: &str) -> String {
     if n == all {
         return String::new();
     }
-    let are = if n == 1 { "is" } else { "are" };
-    format!("{n} of {} {are} drawn: {which}.", counted(all, "row"))
+    format!("{n} of {} drawn: {which}.", are(all, "row"))
 }
 
 /// Every row.
@@ -33,22 +32,38 @@ pub fn all(trace: &Trace) -> Drawn {
     Drawn { rows: trace.rows().all().map(|(k, _)| k).collect(), said: String::new() }
 }
 
+/// Which rows of a race are drawn, in words.
+fn which(trace: &Trace, race: &Race, drawn: &BTreeSet<u32>, depth: Depth) -> String {
+    let rows = trace.rows();
+    let process = |k: u32| rows.row(k).map_or(0, |r| r.process);
+    let (p, q) = (process(race.earlier), process(race.later));
+    let is_between = |k: &u32| (race.earlier..=race.later).contains(k) && [p, q].contains(&process(*k));
+    let span = format!("from row {} to row {}", race.earlier, race.later);
+    let mut which = format!("those of process {p} and process {q} {span}");
+    if drawn.iter().any(|k| !is_between(k)) {
+        which.push_str(", those that the explanation names, and those of the messages and barriers that bring its order");
+    }
+    let folded = race.rows(&rows, Depth::Whole).len() - drawn.len();
+    let needed = match depth {
+        Depth::Bare => "the explanation needs",
+        Depth::Whole | Depth::Messages => "the explanation, messages and barriers need",
+    };
+    if folded > 0 {
+        which.push_str(&format!("; of these, only the rows that {needed}, and {} not", are(folded as u64, "row")));
+    }
+    which
+}
+
+/// "1 row is", "2 rows are".
+fn are(n: u64, one: &str) -> String {
+    format!("{} {}", counted(n, one), if n == 1 { "is" } else { "are" })
+}
+
 /// The rows of a race, so deep.
 fn race_at(trace: &Trace, race: &Race, depth: Depth) -> Drawn {
-    let rows = trace.rows();
-    let drawn = race.rows(&rows, depth);
-    let folded = race.rows(&rows, Depth::Whole).len() - drawn.len();
-    let mut which = "the two that race, those of their processes between, those that the explanation names, and".to_string();
-    which.push_str(" those by which messages and barriers lead there");
-    if folded > 0 {
-        which.push_str(&format!(
-            "; {} between that the explanation does not need {} left out",
-            counted(folded as u64, "row"),
-            if folded == 1 { "is" } else { "are" }
-        ));
-    }
-    let said = said(trace, &drawn, &which);
-    Drawn { rows: drawn, said }
+    let rows = race.rows(&trace.rows(), depth);
+    let said = said(trace, &rows, &which(trace, race, &rows, depth));
+    Drawn { rows, said }
 }
 
 /// The rows of a race, of each depth that a picture can have, the best first.

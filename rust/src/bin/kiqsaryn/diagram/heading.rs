@@ -18,7 +18,8 @@ const LINE: usize = 20;
 const RISE: usize = 12;
 const SAMPLE: usize = 34;
 const APART: usize = 14;
-/// Between the words and the lanes.
+/// Between the words and the samples, between their lines, and between them and the lanes.
+const ABOVE: usize = 6;
 const BELOW: usize = 8;
 
 /// The end of a long name.
@@ -85,6 +86,9 @@ impl Heading {
         if !drawn.said.is_empty() {
             heading.say("", &drawn.said);
         }
+        if let Some(words) = race.and_then(|race| not_drawn(race, drawn)) {
+            heading.say("race", &words);
+        }
         heading
     }
 
@@ -116,7 +120,7 @@ impl Heading {
 
     /// Where the samples of the shapes start.
     fn below_lines(&self) -> usize {
-        MARGIN + LINE * self.lines.len()
+        MARGIN + LINE * self.lines.len() + ABOVE
     }
 
     /// Where the lanes can start.
@@ -140,6 +144,16 @@ impl Heading {
         if let Some(line) = self.legend {
             put_legend(s, self.below_lines(), line, id);
         }
+    }
+}
+
+/// Which rows of a race are not drawn, if one is not.
+fn not_drawn(race: &Race, drawn: &Drawn) -> Option<String> {
+    let missing: Vec<u32> = [race.earlier, race.later].into_iter().filter(|k| !drawn.rows.contains(k)).collect();
+    match missing[..] {
+        [] => None,
+        [one] => Some(format!("Row {one} of the race is not drawn.")),
+        _ => Some(format!("The race is not drawn: row {} and row {} are not chosen.", race.earlier, race.later)),
     }
 }
 
