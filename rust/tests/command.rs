@@ -31,7 +31,7 @@ mod words;
 
 use explain::{explain, Claim, Explanation, Rows};
 use posted::Posted;
-use running::picture::{nothing_overlaps, row_boxes, well_formed, RowBox};
+use running::picture::well_formed;
 use running::{err, example_traces, examples, feed, out, run, status, words_of, EXE};
 
 const NAMES: &str = "process,kind,file,offset,length,message\r\n";
@@ -72,15 +72,6 @@ fn replay_prints_what_stands_beside_the_examples() {
         let trace = format!("{name}.csv");
         let o = run(&["replay", &trace, "--header", "yes", "--file", "1", "--model", model], b"");
         let want = std::fs::read_to_string(examples().join(format!("{name}.replay.txt"))).expect("the output beside it");
-        assert_eq!((out(&o), status(&o)), (want, 0), "{name}");
-    }
-}
-
-#[test]
-fn diagram_draws_what_stands_beside_the_examples() {
-    for name in ["commit_missing", "barrier_commit_too_late"] {
-        let o = run(&["diagram", &format!("{name}.csv"), "--header", "yes"], b"");
-        let want = std::fs::read_to_string(examples().join(format!("{name}.svg"))).expect("the picture beside it");
         assert_eq!((out(&o), status(&o)), (want, 0), "{name}");
     }
 }
@@ -1103,71 +1094,6 @@ fn replays_of_many_pieces() {
     assert_eq!(out(&o).lines().last(), Some(format!("Reads: 60, bytes read: 180000, stale bytes: {stale}").as_str()));
 }
 
-// ---- Pictures
-
-/// The lines of all barriers, from each box to the box of the same barrier in the next lane.
-fn barrier_lines(rows: &[Row], boxes: &[RowBox]) -> Vec<String> {
-    let mut lines = Vec::new();
-    for number in 0..BARRIERS {
-        let of_this = rows.iter().zip(boxes).filter(|(r, _)| r.kind == BARRIER && r.message == number);
-        let mut boxes: Vec<&RowBox> = of_this.map(|(_, b)| b).collect();
-        boxes.sort_by_key(|b| b.area.left);
-        lines.extend(boxes.windows(2).map(|two| format!("<path class=\"meet\" d=\"{}\"/>", two[0].arrow_to(two[1]))));
-    }
-    lines
-}
-
-#[test]
-fn a_picture_shows_every_row_and_message() {
-    let mut dice = Dice(4_242);
-    for _ in 0..40 {
-        let rows = random_rows(&mut dice, 120, 9);
-        let o = run(&["diagram", "-", "--header", "no", "--model", "mpiio"], csv_of(&rows).as_bytes());
-        let picture = out(&o);
-        well_formed(&picture);
-        nothing_overlaps(&picture);
-        let boxes = row_boxes(&picture);
-        assert_eq!((boxes.len(), picture.matches("<g><title>row ").count()), (rows.len(), rows.len()));
-        let lines = barrier_lines(&rows, &boxes);
-        assert!(lines.iter().all(|line| picture.contains(line)), "{lines:?} in {picture}");
-        assert_eq!(picture.matches("<path class=\"meet\"").count(), lines.len());
-        let at = |kind: u32, message: u32| rows.iter().position(|r| r.kind == kind && r.message == message);
-        let waits = rows.iter().enumerate().filter(|(_, r)| r.kind == WAIT);
-        let arrows = waits.map(|(k, r)| boxes[at(SEND, r.message).expect("its send")].arrow_to(&boxes[k]));
-        let arrows: Vec<String> = arrows.map(|path| format!("<path class=\"arrow\" d=\"{path}\"/>")).collect();
-        assert!(arrows.iter().all(|arrow| picture.contains(arrow)), "{arrows:?} in {picture}");
-        assert_eq!(picture.matches("<path class=\"arrow\"").count(), arrows.len() + 1, "messages and the legend's");
-        for (r, b) in rows.iter().zip(&boxes).filter(|(r, _)| r.kind == BARRIER) {
-            assert!(b.text.ends_with(&format!(" barrier b{}", r.message)) && b.class == "barrier", "{b:?}");
-        }
-        for (r, b) in rows.iter().zip(&boxes).filter(|(r, _)| [SEND, RECV, WAIT].contains(&r.kind)) {
-            let lack = match r.kind {
-                RECV if at(SEND, r.message).is_none() => ", not sent",
-                _ if at(WAIT, r.message).is_none() => ", not waited for",
-                _ => "",
-            };
-            assert!(b.text.ends_with(&format!(" {} m{}{lack}", kiqsaryn::KINDS[r.kind as usize], r.message)), "{b:?}");
-            assert_eq!(b.class, if r.kind == RECV { "posted" } else { "message" }, "{b:?}");
-        }
-        let mut processes: Vec<u32> = rows.iter().map(|r| r.process).collect();
-        processes.sort();
-        processes.dedup();
-        assert_eq!(picture.matches("<path class=\"lane\"").count(), processes.len());
-        let racing = if picture.contains(">Race under mpiio: ") { 2 } else { 0 };
-        assert_eq!(picture.matches(" racing\"").count(), racing + 1, "the pair and the legend's");
-    }
-}
-
-#[test]
-fn a_picture_of_a_strange_name_is_well_formed() {
-    let path = scratch("a&b<c>\"d'.csv");
-    std::fs::copy(examples().join("commit_missing.csv"), &path).expect("a copy");
-    let o = run(&["diagram", path.to_str().expect("a path"), "--header", "yes"], b"");
-    std::fs::remove_file(&path).expect("the copy is removed");
-    assert_eq!(status(&o), 0);
-    well_formed(&out(&o));
-}
-
 /// A full trace, of as many rows and processes as there can be, goes through every command.
 #[test]
 fn a_full_trace() {
@@ -1183,15 +1109,11 @@ fn a_full_trace() {
         (&["check"], 0),
         (&["races"], 0),
         (&["replay", "--file", "1", "--model", "session"], 0),
-        (&["diagram"], 0),
         (&["write"], 0),
     ] {
         let args: Vec<&str> = args.iter().copied().chain(["-", "--header", "no"]).collect();
         let o = run(&args, text.as_bytes());
         assert_eq!(status(&o), expected, "{args:?}: {}", err(&o));
         assert!(!o.stdout.is_empty());
-        if args[0] == "diagram" {
-            well_formed(&out(&o));
-        }
     }
 }

@@ -1,11 +1,11 @@
-//! Barriers as the command `kiqsaryn` shows them: the order that they bring, barriers out of order, rows that a join holds back, and pictures.
+//! Barriers as the command `kiqsaryn` shows them: the order that they bring, barriers out of order, and rows that a join holds back.
 
 #[allow(dead_code)]
 mod running;
 
 use kiqsaryn::{PROCESSES, ROWS};
 use running::pair::Pair;
-use running::picture::{nothing_overlaps, row_boxes, well_formed};
+use running::picture::keeps_the_rules;
 use running::{err, examples, out, run, status};
 
 // ---- The order that a barrier brings
@@ -78,7 +78,8 @@ fn a_full_trace_of_barriers() {
     }
     (0..ROWS % (4 * PROCESSES)).for_each(|_| text += "0,commit,1,,,\r\n");
     assert_eq!(text.lines().count(), ROWS as usize);
-    for args in [&["check"][..], &["check", "--csv"], &["replay", "--file", "1", "--model", "commit"], &["diagram"], &["write"]] {
+    let picture = &["diagram", "--rows", "1-480"];
+    for args in [&["check"][..], &["check", "--csv"], &["replay", "--file", "1", "--model", "commit"], picture, &["write"]] {
         let o = run(&[args, &["-", "--header", "no"]].concat(), text.as_bytes());
         assert_eq!(status(&o), 0, "{args:?}: {}", err(&o));
     }
@@ -197,8 +198,8 @@ fn a_join_holds_rows_back_at_a_barrier() {
     assert!(status(&o) == 1 && out(&o).contains(order), "{}", out(&o));
     let picture = out(&pair.run("diagram", "no,no", &[]));
     assert!(picture.contains(">2 A2 barrier b7</text>") && picture.contains(">5 B3 barrier b7</text>"), "{picture}");
-    assert_eq!(picture.matches("<path class=\"meet\"").count(), 1);
-    nothing_overlaps(&picture);
+    assert_eq!(picture.matches("<path class=\"meet\"").count(), 2, "the barrier's and the legend's");
+    keeps_the_rules(&picture);
 }
 
 /// What is said of a join that is refused, behind the line with its number.
@@ -261,29 +262,4 @@ fn a_join_whose_barriers_are_wrong_is_told_so() {
                     \x20 before it:   row 1 (row 1 of a.csv): process 0 arrives at barrier 7\n\
                     \x20 note:        row 1 arrives at barrier 7 already: a process arrives once at\n               each barrier.\n";
     assert_eq!(refused_join(&pair, "22,3"), [QUESTION, repeated].concat());
-}
-
-// ---- Pictures
-
-/// The line of a barrier runs through its boxes from lane to lane, whatever the order in which the processes arrive.
-#[test]
-fn a_picture_draws_a_barrier_across_the_lanes() {
-    let rows =
-        "0,write,1,0,10,\r\n2,barrier,,,,7\r\n0,commit,1,,,\r\n1,open,2,,,\r\n0,barrier,,,,7\r\n1,barrier,,,,7\r\n1,read,1,5,10,\r\n";
-    let picture = out(&run(&["diagram", "-", "--header", "no"], rows.as_bytes()));
-    well_formed(&picture);
-    nothing_overlaps(&picture);
-    let boxes = row_boxes(&picture);
-    for (from, to) in [(4, 5), (5, 1)] {
-        let line = format!("<path class=\"meet\" d=\"{}\"/>", boxes[from].arrow_to(&boxes[to]));
-        assert!(picture.contains(&line), "{line} in {picture}");
-    }
-    assert_eq!(picture.matches("<path class=\"meet\"").count(), 2);
-    let texts = [1, 4, 5].map(|k| (boxes[k].class.as_str(), boxes[k].text.as_str()));
-    assert_eq!(texts, [("barrier", "2 barrier b7"), ("barrier", "5 barrier b7"), ("barrier", "6 barrier b7")]);
-    assert!(picture.contains("<title>row 2: process 2 arrives at barrier 7</title>"), "{picture}");
-    assert!(picture.contains(">barrier</text>\n") && picture.contains(", b barrier. "), "the legend in {picture}");
-    // One process alone has a box and no line.
-    let picture = out(&run(&["diagram", "-", "--header", "no"], b"3,barrier,,,,7\r\n"));
-    assert!(picture.contains(">1 barrier b7</text>") && !picture.contains("<path class=\"meet\""), "{picture}");
 }

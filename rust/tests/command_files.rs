@@ -267,7 +267,7 @@ fn output_that_cannot_be_written_is_an_error() {
 #[test]
 fn a_reader_that_stops_early_is_told_as_an_error() {
     let f = Folder::new("head");
-    f.put("long.csv", &"0,write,1,0,10,\r\n".repeat(4_096), 0o644);
+    f.put("long.csv", &"0,write,1,0,10,\r\n".repeat(900), 0o644);
     for output in ["", "-o /dev/stdout"] {
         let o = f.sh(&format!("{{ kiqsaryn diagram long.csv --header no {output}; echo $? >&2; }} | head -c 1"));
         assert_eq!(out(&o), "<");

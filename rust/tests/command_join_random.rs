@@ -17,7 +17,7 @@ use naive::reading::{faults, Entry};
 use naive::texts::{damage_bytes, header, record, text, Record};
 use naive::writing;
 use running::pair::Pair;
-use running::picture::{nothing_overlaps, well_formed};
+use running::picture::{keeps_the_rules, well_formed};
 use running::{err, out, status};
 
 /// The lengths of slices for the most rows.
@@ -127,9 +127,9 @@ fn compare_accepted(pair: &Pair, case: &Case, taken: &[Taken]) -> usize {
         let from = if args[0] == "check" { "Verdicts:" } else { "\n\n" };
         names += same_besides_own_names(&out(&two), &out(&one), from, &origins);
     }
-    let picture = out(&pair.run("diagram", &headers, &[]));
-    well_formed(&picture);
-    nothing_overlaps(&picture);
+    keeps_the_rules(&out(&pair.run("diagram", &headers, &[])));
+    let picture = out(&pair.run("diagram", &headers, &["--all"]));
+    keeps_the_rules(&picture);
     assert_eq!(picture.matches("<g><title>row ").count(), rows.len());
     for (k, (file, number)) in (1..).zip(&origins) {
         let letter = ["A", "B"][*file as usize - 1];
@@ -304,7 +304,9 @@ fn a_full_join() {
     }
     first += "0,sync,1,,,\r\n";
     let pair = Pair::new("full", first.as_bytes(), second.as_bytes());
-    for args in [&["join"][..], &["check", "--model", "commit"], &["replay", "--file", "1", "--model", "session"], &["diagram"]] {
+    for args in
+        [&["join"][..], &["check", "--model", "commit"], &["replay", "--file", "1", "--model", "session"], &["diagram", "--rows", "1-200"]]
+    {
         let o = pair.run(args[0], "no,no", &args[1..]);
         assert_eq!((status(&o), err(&o)), (0, String::new()), "{args:?}");
         assert!(out(&o).contains("4096 rows") || args[0] == "replay", "{args:?}");

@@ -93,8 +93,7 @@ fn notes(trace: &Trace, race: &Race, layout: &Layout) -> Vec<Note> {
 
 /// The race that is asked for, or else the first under the model, if there is one. An error is a sentence.
 fn race_of(trace: &Trace, model: Model, crop: &Crop) -> Result<Option<(u32, u32)>, String> {
-    if let Some((one, other)) = crop.race {
-        let (earlier, later) = (one.min(other), one.max(other));
+    if let Some((earlier, later)) = crop.race {
         let is_race = |list: &[u32]| list.chunks_exact(PAIR).any(|pair| pair == [earlier, later]);
         return match find(trace, &[model])?.iter().any(|found| is_race(&found.list)) {
             true => Ok(Some((earlier, later))),

@@ -37,19 +37,19 @@ fn which(trace: &Trace, race: &Race, drawn: &BTreeSet<u32>, depth: Depth) -> Str
     let rows = trace.rows();
     let process = |k: u32| rows.row(k).map_or(0, |r| r.process);
     let (p, q) = (process(race.earlier), process(race.later));
+    let both = format!("process {p} and process {q}");
+    let folded = race.rows(&rows, Depth::Whole).len() - drawn.len();
+    if folded > 0 {
+        let needed = match depth {
+            Depth::Bare => "the race and its explanation need",
+            Depth::Whole | Depth::Messages => "the race, its explanation, and the messages and barriers between need",
+        };
+        return format!("those that {needed}. Of {both} {} left out between", are(folded as u64, "row"));
+    }
     let is_between = |k: &u32| (race.earlier..=race.later).contains(k) && [p, q].contains(&process(*k));
-    let span = format!("from row {} to row {}", race.earlier, race.later);
-    let mut which = format!("those of process {p} and process {q} {span}");
+    let mut which = format!("those of {both} from row {} to row {}", race.earlier, race.later);
     if drawn.iter().any(|k| !is_between(k)) {
         which.push_str(", those that the explanation names, and those of the messages and barriers that bring its order");
-    }
-    let folded = race.rows(&rows, Depth::Whole).len() - drawn.len();
-    let needed = match depth {
-        Depth::Bare => "the explanation needs",
-        Depth::Whole | Depth::Messages => "the explanation, messages and barriers need",
-    };
-    if folded > 0 {
-        which.push_str(&format!("; of these, only the rows that {needed}, and {} not", are(folded as u64, "row")));
     }
     which
 }
@@ -108,14 +108,8 @@ fn named(one: &str, many: &str, numbers: &BTreeSet<u32>) -> String {
 /// Whether the choice names rows that there are. An error is a sentence.
 fn ask(trace: &Trace, crop: &Crop) -> Result<(), String> {
     let rows = trace.rows();
-    let there = counted(u64::from(rows.n), "row");
-    if let Some((first, last)) = crop.rows {
-        if first > last {
-            return Err(format!("--rows takes the smaller row first: --rows {last}-{first}"));
-        }
-        if first == 0 || last > rows.n {
-            return Err(format!("--rows {first}-{last}: the trace has {there}, and rows are counted from 1"));
-        }
+    if let Some((first, last)) = crop.rows.filter(|(first, last)| !(1..=*last).contains(first) || *last > rows.n) {
+        return Err(format!("--rows {first}-{last}: the trace has {}, and rows are counted from 1", counted(u64::from(rows.n), "row")));
     }
     let processes: BTreeSet<u32> = rows.all().map(|(_, r)| r.process).collect();
     if let Some(p) = crop.processes.iter().find(|p| !processes.contains(p)) {
