@@ -65,12 +65,14 @@ fn a_picture_is_what_stands_beside_the_example() {
 
 #[test]
 fn a_picture_of_a_strange_name_is_well_formed() {
-    let path = std::path::PathBuf::from(env!("CARGO_TARGET_TMPDIR")).join("diagram-a&b<c>\"d'.csv");
-    std::fs::copy(examples().join("commit_missing.csv"), &path).expect("a copy");
-    let o = run(&["diagram", path.to_str().expect("a path"), "--header", "yes"], b"");
-    std::fs::remove_file(&path).expect("the copy is removed");
-    assert_eq!(status(&o), 0);
-    well_formed(&out(&o));
+    for name in ["a&b<c>\"d'.csv", "\u{e9}t\u{e9} \u{65e5}\u{672c}.csv", "x\u{ffff}\u{1}\n.csv"] {
+        let path = std::path::PathBuf::from(env!("CARGO_TARGET_TMPDIR")).join(format!("diagram-{name}"));
+        std::fs::copy(examples().join("commit_missing.csv"), &path).expect("a copy");
+        let o = run(&["diagram", path.to_str().expect("a path"), "--header", "yes"], b"");
+        std::fs::remove_file(&path).expect("the copy is removed");
+        assert_eq!(status(&o), 0);
+        well_formed(&out(&o));
+    }
 }
 
 /// Colours for a dark screen stand in the style, and paper gets those of a light one.
@@ -218,6 +220,17 @@ fn a_barrier_goes_across_the_lanes() {
     // One process alone has a box and no line.
     let alone = picture(b"3,barrier,,,,7\r\n", &[]);
     assert!(alone.contains(">1 barrier b7</text>") && alone.matches("<path class=\"meet\"").count() == 1, "the legend's in {alone}");
+}
+
+/// The picture of a race shows where each of its processes arrives at a barrier, also outside.
+#[test]
+fn a_barrier_that_comes_too_late_is_drawn() {
+    let text = "2,open,3,,,\r\n0,write,1,0,10,\r\n0,commit,1,,,\r\n0,barrier,,,,4\r\n1,read,1,0,5,\r\n1,open,2,,,\r\n1,barrier,,,,4\r\n\
+                2,barrier,,,,4\r\n1,read,1,5,5,\r\n";
+    let picture = picture(text.as_bytes(), &[]);
+    let texts: Vec<String> = row_boxes(&picture).into_iter().map(|b| b.text).collect();
+    let barriers = ["4 barrier b4, 1 not drawn", "7 barrier b4, 1 not drawn"];
+    assert_eq!(texts, ["2 write f1 0-9", "3 commit f1", barriers[0], "5 read f1 0-4", barriers[1]]);
 }
 
 // ---- The picture of a race
@@ -537,17 +550,21 @@ fn a_picture_of_a_wide_race_is_folded() {
     let tags: Vec<(u32, &str)> = boxes.iter().filter(|b| !b.tag.is_empty()).map(|b| (b.number, b.tag.as_str())).collect();
     assert_eq!((tags[0], tags[tags.len() - 1]), ((1, "Race"), (4093, "Race")));
     assert!(tags.iter().any(|(_, tag)| *tag == "Found") && tags.iter().any(|(_, tag)| *tag == "Order"), "{tags:?}");
-    assert!(whole.contains(" of 4096 rows are drawn: those that the race"), "{whole}");
+    let words = " of 4096 rows are drawn: those of process 0 and process 1 from row 1 to row 4093";
+    assert!(words_in(&whole).contains(words), "{whole}");
     // A thousand rows of both processes between, of which none is needed.
     let filler: String = (0..1_000).map(|k| format!("{},read,9,{k},1,\r\n", k % 2)).collect();
     let text = format!("0,write,1,0,10,\r\n{filler}1,read,1,5,10,\r\n");
     let folded = picture(text.as_bytes(), &[]);
     assert_eq!(numbers(&row_boxes(&folded)), [1, 1002].into());
-    assert!(
-        folded.contains("... 500 rows</text>")
-            && words_in(&folded).contains(" Of process 0 and process 1 1000 rows are left out between. "),
-        "{folded}"
-    );
+    assert!(folded.contains("... 500 rows</text>"), "{folded}");
+    assert!(words_in(&folded).contains(" need. Between, 1000 rows of process 0 and process 1 are left out. "), "{folded}");
+    // Messages are left out where there are too many of them.
+    let messages: String =
+        (0..1_364).map(|k| format!("{0},recv,,,,{k}\r\n{1},send,,,,{k}\r\n{0},wait,,,,{k}\r\n", k % 2, 1 - k % 2)).collect();
+    let text = format!("0,write,1,0,10,\r\n{messages}1,read,1,5,10,\r\n");
+    let folded = picture(text.as_bytes(), &[]);
+    assert_eq!(numbers(&row_boxes(&folded)), [1, 4092, 4093, 4094].into(), "the race, and the last message to process 1");
     let short: String = filler.lines().take(190).map(|l| format!("{l}\r\n")).collect();
     let text = format!("0,write,1,0,10,\r\n{short}1,read,1,5,10,\r\n");
     assert_eq!(drawn(text.as_bytes(), &[]).len(), 192, "so many are drawn");

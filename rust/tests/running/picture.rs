@@ -3,7 +3,7 @@
 /// Well-formed XML as far as these pictures use it: tags in pairs, attributes in quotes, no bare & or <, and nothing from elsewhere.
 pub fn well_formed(text: &str) {
     let body = text.strip_prefix("<?xml version=\"1.0\" encoding=\"UTF-8\"?>\n").expect("the first line");
-    assert!(text.chars().all(|c| c == '\n' || (' '..='~').contains(&c)), "plain text");
+    assert!(text.chars().all(|c| c == '\n' || !c.is_control() && !['\u{fffe}', '\u{ffff}'].contains(&c)), "plain text");
     let entities = |s: &str| {
         for part in s.split('&').skip(1) {
             assert!(["amp;", "lt;", "gt;", "quot;"].iter().any(|e| part.starts_with(e)), "&{part}");

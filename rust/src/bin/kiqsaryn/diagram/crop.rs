@@ -44,12 +44,13 @@ fn which(trace: &Trace, race: &Race, drawn: &BTreeSet<u32>, depth: Depth) -> Str
             Depth::Bare => "the race and its explanation need",
             Depth::Whole | Depth::Messages => "the race, its explanation, and the messages and barriers between need",
         };
-        return format!("those that {needed}. Of {both} {} left out between", are(folded as u64, "row"));
+        let is = if folded == 1 { "is" } else { "are" };
+        return format!("those that {needed}. Between, {} of {both} {is} left out", counted(folded as u64, "row"));
     }
     let is_between = |k: &u32| (race.earlier..=race.later).contains(k) && [p, q].contains(&process(*k));
     let mut which = format!("those of {both} from row {} to row {}", race.earlier, race.later);
     if drawn.iter().any(|k| !is_between(k)) {
-        which.push_str(", those that the explanation names, and those of the messages and barriers that bring its order");
+        which.push_str(", those that the explanation names, and those of the messages and barriers that go with them");
     }
     which
 }

@@ -13,6 +13,7 @@ const IN_HEAD: usize = 20;
 /// The free space above and below the words in a gap's line and in a band of heads, where the line of the lane stops.
 const FREE: usize = 3;
 
+/// A text as it stands in an element or an attribute.
 pub fn xml(text: &str) -> String {
     let mut s = String::new();
     for c in text.chars() {
@@ -21,6 +22,8 @@ pub fn xml(text: &str) -> String {
             '<' => s.push_str("&lt;"),
             '>' => s.push_str("&gt;"),
             '"' => s.push_str("&quot;"),
+            // XML does not have these two.
+            '\u{fffe}' | '\u{ffff}' => s.push('?'),
             _ => s.push(c),
         }
     }

@@ -91,12 +91,22 @@ impl Race {
             return bare;
         }
         let between = rows.all().filter(|(k, r)| is_between(*k, *r)).map(|(k, _)| k);
-        let whole: BTreeSet<u32> = between.chain(bare.iter().copied()).collect();
+        let whole = with_barriers(rows, between.chain(bare.iter().copied()).collect());
         if depth == Depth::Whole {
             return whole;
         }
         with_messages(rows, &whole, bare)
     }
+}
+
+/// Rows, and of the barriers among them the rows of every process that has one of the rows.
+fn with_barriers(rows: &Rows, mut all: BTreeSet<u32>) -> BTreeSet<u32> {
+    let of_all: Vec<Row> = all.iter().filter_map(|k| rows.row(*k)).collect();
+    let processes: BTreeSet<u32> = of_all.iter().map(|r| r.process).collect();
+    let barriers: BTreeSet<u32> = of_all.iter().filter(|r| r.kind == BARRIER).map(|r| r.message).collect();
+    let is_of_them = |r: Row| r.kind == BARRIER && barriers.contains(&r.message) && processes.contains(&r.process);
+    all.extend(rows.all().filter(|(_, r)| is_of_them(*r)).map(|(k, _)| k));
+    all
 }
 
 /// The kept rows, and of all of them the barriers, the messages of which both ends are there, and short stretches between rows that are kept.
