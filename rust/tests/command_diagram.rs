@@ -83,10 +83,8 @@ fn a_dark_screen_has_its_own_colours() {
     let dark = dark.split_once("\n}\n</style>").expect("their end").0;
     for rule in dark.lines() {
         let selector = rule.split('{').next().expect("a selector");
-        assert!(
-            selector.starts_with("svg.kiqsaryn ") && light.contains(&format!("\n{selector}{{")) || selector == "svg.kiqsaryn text",
-            "{rule}"
-        );
+        let is_of_pictures = selector == "svg.kiqsaryn" || selector.starts_with("svg.kiqsaryn ");
+        assert!(is_of_pictures && light.contains(&format!("{selector}{{")), "{rule}");
     }
     for colour in ["fill:#", "stroke:#"] {
         let outside = picture.replace(&picture[picture.find("<style>").expect("a style")..picture.find("</style>").expect("its end")], "");

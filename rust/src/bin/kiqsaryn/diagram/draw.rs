@@ -7,7 +7,7 @@ use crate::text::{counted, describe};
 use kiqsaryn::{BARRIER, READ, RECV, SEND, WAIT, WRITE};
 
 /// How far the foot of letters stands below the top of a box, of a gap's line and of a band of heads.
-const IN_BOX: usize = 15;
+pub const IN_BOX: usize = 15;
 const IN_GAP: usize = 15;
 const IN_HEAD: usize = 20;
 /// The free space above and below the words in a gap's line and in a band of heads, where the line of the lane stops.

@@ -1,7 +1,7 @@
 //! What stands above the lanes: the traces, the verdict, why rows race, which rows are drawn, and what the shapes mean.
 
 use super::crop::Drawn;
-use super::draw::{put_arrow, put_line, put_text, rect};
+use super::draw::{put_arrow, put_line, put_text, rect, IN_BOX};
 use super::labels::LETTERS;
 use super::layout::{wide, BOX, MARGIN, PADDING};
 use super::race::Race;
@@ -13,11 +13,17 @@ use kiqsaryn::Model;
 /// Bytes in a line of text above the lanes, and in the shortened name of a trace.
 const TEXT: usize = 100;
 const NAME: usize = 70;
-/// Sizes in pixels: a line of text, from the top of one to the foot of its letters, a sample of a line, and from one sample to the next.
+/// Sizes in pixels: a line of text, from the margin to the foot of the first line's letters, from the samples to the foot of the letters of the line
+/// below them, a sample of a line, from it to its words, and from them to the next sample.
 const LINE: usize = 20;
-const RISE: usize = 12;
+const FIRST: usize = 8;
+const LAST: usize = 12;
 const SAMPLE: usize = 34;
+const BESIDE: usize = 8;
 const APART: usize = 14;
+/// Letters of the title are larger: so many letters of a line of text are as wide as so many of the title.
+const LETTERS_OF_TEXT: usize = 5;
+const LETTERS_OF_TITLE: usize = 4;
 /// Between the words and the samples, between their lines, and between them and the lanes.
 const ABOVE: usize = 6;
 const BELOW: usize = 8;
@@ -131,7 +137,10 @@ impl Heading {
 
     /// Where the widest line ends.
     pub fn right(&self) -> usize {
-        let words = self.lines.iter().map(|(class, line)| if *class == "big" { line.len() * 5 / 4 + 1 } else { line.len() });
+        let words = self.lines.iter().map(|(class, line)| match *class {
+            "big" => (line.len() * LETTERS_OF_TEXT).div_ceil(LETTERS_OF_TITLE),
+            _ => line.len(),
+        });
         let boxes: usize = BOXES.iter().map(|(_, words)| wide(words.len()) + 2 * PADDING + APART).sum();
         let legend = self.legend.map_or(0, |line| wide(line.len()).max(boxes));
         MARGIN + wide(words.max().unwrap_or(0)).max(legend)
@@ -139,7 +148,7 @@ impl Heading {
 
     pub fn put(&self, s: &mut String, id: &str) {
         for (k, (class, line)) in self.lines.iter().enumerate() {
-            put_text(s, class, MARGIN, MARGIN + LINE * k + RISE - 4, line);
+            put_text(s, class, MARGIN, MARGIN + LINE * k + FIRST, line);
         }
         if let Some(line) = self.legend {
             put_legend(s, self.below_lines(), line, id);
@@ -177,7 +186,7 @@ fn put_legend(s: &mut String, y: usize, line: &str, id: &str) {
         let width = wide(words.len()) + 2 * PADDING;
         s.push_str(&rect(class, x, y, width));
         s.push('\n');
-        put_text(s, "", x + PADDING, y + 15, words);
+        put_text(s, "", x + PADDING, y + IN_BOX, words);
         x += width + APART;
     }
     let y = y + BOX + BELOW;
@@ -189,9 +198,9 @@ fn put_legend(s: &mut String, y: usize, line: &str, id: &str) {
             "arrow" => put_arrow(s, id, &corners),
             _ => put_line(s, class, &corners),
         }
-        put_text(s, "", x + SAMPLE + 8, y + 15, words);
-        x += SAMPLE + 8 + wide(words.len()) + APART;
+        put_text(s, "", x + SAMPLE + BESIDE, y + IN_BOX, words);
+        x += SAMPLE + BESIDE + wide(words.len()) + APART;
     }
-    put_text(s, "", x, y + 15, LEFT_OUT);
-    put_text(s, "", MARGIN, y + BOX + BELOW + RISE, line);
+    put_text(s, "", x, y + IN_BOX, LEFT_OUT);
+    put_text(s, "", MARGIN, y + BOX + BELOW + LAST, line);
 }

@@ -39,7 +39,7 @@ pub enum Depth {
 /// A stretch of so few rows is drawn, since a word on it would take as much space.
 const SHORT: usize = 2;
 
-/// A race, its explanation, the marked rows, and the other rows that the explanation needs.
+/// A race, its explanation, which names the two rows by their numbers alone, the marked rows, and the other rows that the explanation needs.
 pub struct Race {
     pub earlier: u32,
     pub later: u32,
@@ -58,7 +58,7 @@ impl Race {
         for claim in explanation.iter().flat_map(|e| &e.claims) {
             race.take(&rows, *claim);
         }
-        race.words = explanation.and_then(|e| words(&e, &rows, &mut trace.naming(&[])));
+        race.words = explanation.and_then(|e| words(&e, &rows, &mut trace.naming(&[earlier, later])));
         race
     }
 

@@ -1,7 +1,8 @@
 //! How pictures look. Every rule stands under the class of a picture, so that a page can hold the style once for all its pictures. Colours stand in
 //! the style alone: a dark screen has its own, and paper gets those of a light screen.
 
-pub const STYLE: &str = "svg.kiqsaryn text{font-family:monospace;font-size:12px;fill:#111}
+pub const STYLE: &str = "svg.kiqsaryn{background:#fff}
+svg.kiqsaryn text{font-family:monospace;font-size:12px;fill:#111}
 svg.kiqsaryn .big{font-size:15px;font-weight:bold}
 svg.kiqsaryn .head{font-weight:bold;text-anchor:middle}
 svg.kiqsaryn .gap{font-style:italic;text-anchor:middle;fill:#666}
@@ -25,6 +26,7 @@ svg.kiqsaryn .tip{fill:#333;stroke:none}
 svg.kiqsaryn .meet{stroke:#5b2a9d;stroke-width:3;fill:none}
 svg.kiqsaryn .pair{stroke:#b00020;stroke-width:1.5;stroke-dasharray:5 4;fill:none}
 @media screen and (prefers-color-scheme:dark){
+svg.kiqsaryn{background:#15171b}
 svg.kiqsaryn text{fill:#e8e8e8}
 svg.kiqsaryn .gap{fill:#a0a0a0}
 svg.kiqsaryn .race{fill:#ff8a93}
