@@ -1,14 +1,29 @@
 //! What every picture keeps to.
 
+/// Fails if a text has a bare &.
+fn entities(text: &str) {
+    for part in text.split('&').skip(1) {
+        assert!(["amp;", "lt;", "gt;", "quot;"].iter().any(|e| part.starts_with(e)), "&{part}");
+    }
+}
+
+/// Fails unless the attributes behind a tag's name stand in quotes, bring nothing from elsewhere, and have no colours.
+fn attributes(tag: &str, text: &str) {
+    let parts: Vec<&str> = text.split('"').collect();
+    assert!(parts.len() % 2 == 1 && parts.last() == Some(&""), "{tag}");
+    for pair in parts.chunks_exact(2) {
+        let attribute = pair[0].trim_start().strip_suffix('=').expect("an attribute");
+        assert!(!attribute.contains("href") && !attribute.contains("src"), "{tag}");
+        assert!(!pair[1].contains("http") || attribute == "xmlns", "{tag}");
+        assert!(!["fill", "stroke", "style"].contains(&attribute), "colours stand in the style alone: {tag}");
+        entities(pair[1]);
+    }
+}
+
 /// Well-formed XML as far as these pictures use it: tags in pairs, attributes in quotes, no bare & or <, and nothing from elsewhere.
 pub fn well_formed(text: &str) {
     let body = text.strip_prefix("<?xml version=\"1.0\" encoding=\"UTF-8\"?>\n").expect("the first line");
     assert!(text.chars().all(|c| c == '\n' || !c.is_control() && !['\u{fffe}', '\u{ffff}'].contains(&c)), "plain text");
-    let entities = |s: &str| {
-        for part in s.split('&').skip(1) {
-            assert!(["amp;", "lt;", "gt;", "quot;"].iter().any(|e| part.starts_with(e)), "&{part}");
-        }
-    };
     let mut open = Vec::new();
     let mut roots = 0;
     let mut rest = body;
@@ -25,15 +40,7 @@ pub fn well_formed(text: &str) {
         let (tag, closed) = tag.strip_suffix('/').map_or((tag, false), |t| (t, true));
         let mut parts = tag.splitn(2, ' ');
         let name = parts.next().expect("a name");
-        let attributes: Vec<&str> = parts.next().unwrap_or("").split('"').collect();
-        assert!(attributes.len() % 2 == 1 && attributes.last() == Some(&""), "{tag}");
-        for pair in attributes.chunks_exact(2) {
-            let attribute = pair[0].trim_start().strip_suffix('=').expect("an attribute");
-            assert!(!attribute.contains("href") && !attribute.contains("src"), "{tag}");
-            assert!(!pair[1].contains("http") || attribute == "xmlns", "{tag}");
-            assert!(!["fill", "stroke", "style"].contains(&attribute), "colours stand in the style alone: {tag}");
-            entities(pair[1]);
-        }
+        attributes(tag, parts.next().unwrap_or(""));
         roots += u32::from(open.is_empty());
         if !closed {
             open.push(name);
