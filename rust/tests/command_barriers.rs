@@ -6,7 +6,7 @@ mod running;
 use kiqsaryn::{PROCESSES, ROWS};
 use running::pair::Pair;
 use running::picture::keeps_the_rules;
-use running::{err, examples, out, run, status};
+use running::{err, examples, out, run, status, without_places};
 
 // ---- The order that a barrier brings
 
@@ -202,12 +202,12 @@ fn a_join_holds_rows_back_at_a_barrier() {
     keeps_the_rules(&picture);
 }
 
-/// What is said of a join that is refused, behind the line with its number.
+/// What is said of a join that is refused, behind the line with its number, but for the lines that name places.
 fn refused_join(pair: &Pair, csv: &str) -> String {
     let o = pair.run("check", "no,no", &["--csv"]);
     assert_eq!((out(&o), status(&o)), (format!("refused,{csv},0\r\n"), 2));
     let told = out(&pair.run("join", "no,no", &[]));
-    told.split_once(" There is no verdict.\n").expect("a refusal").1.to_string()
+    without_places(told.split_once(" There is no verdict.\n").expect("a refusal").1)
 }
 
 const STUCK: &str = "  answered No: Can one of the next rows be taken: if it is a wait, has a taken\n\

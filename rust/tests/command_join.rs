@@ -8,7 +8,7 @@ use kiqsaryn::{PROCESSES, ROWS};
 use running::folder::Folder;
 use running::pair::Pair;
 use running::picture::well_formed;
-use running::{err, examples, feed, out, run, status, EXE};
+use running::{err, examples, feed, out, run, status, without_places, EXE};
 use std::fs;
 use std::io::Write;
 use std::process::{Command, Output, Stdio};
@@ -352,7 +352,7 @@ fn the_first_trace_is_asked_first() {
 
 // ---- Refusals of the join
 
-/// What is said behind what was read of both traces.
+/// What is said behind what was read of both traces, but for the lines that name places.
 fn refused_join(pair: &Pair, number_and_place: &str) -> String {
     let words = refused(pair, "no,no", &[]);
     assert_eq!(refused_csv(pair, "no,no", &[]), format!("refused,{number_and_place},0\r\n"));
@@ -360,7 +360,7 @@ fn refused_join(pair: &Pair, number_and_place: &str) -> String {
         &words,
         &["First trace: a.csv\n\nRead, to hold against the recorder:\n", "\nSecond trace: b.csv\n\nRead, to hold", "\n\nRefused: "],
     );
-    words[words.find("Refused: ").expect("a refusal")..].to_string()
+    without_places(&words[words.find("Refused: ").expect("a refusal")..])
 }
 
 /// The first lines of a refusal and the question.

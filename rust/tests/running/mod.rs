@@ -57,3 +57,9 @@ pub fn out(o: &Output) -> String {
 pub fn err(o: &Output) -> String {
     words_of(&o.stderr)
 }
+
+/// What is said of a refused join but for the lines that name places in its traces.
+pub fn without_places(words: &str) -> String {
+    let names_place = |line: &&str| line.starts_with("  place: ") || line.trim_start().starts_with("At line ");
+    words.split_inclusive('\n').filter(|line| !names_place(line)).collect()
+}

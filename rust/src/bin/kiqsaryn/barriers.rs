@@ -99,12 +99,12 @@ impl Refused {
         all.unfinished(processes).into_iter().map(told).collect()
     }
 
-    /// The rows before that the refusal is about, on a line each, and what is wrong.
-    pub fn report(&self) -> String {
+    /// The rows before that the refusal is about, and what is wrong, in sentences.
+    pub fn wrong(&self) -> (Vec<&Numbered>, Vec<String>) {
         let processes: BTreeSet<u32> = self.rows.iter().map(|n| n.row.process).collect();
         let mut arrivals = Arrivals::default();
         let Some(at) = self.place.checked_sub(1).and_then(|at| self.rows.get(at)) else {
-            return String::new();
+            return (Vec::new(), Vec::new());
         };
         self.rows.iter().take(self.place - 1).for_each(|n| arrivals.note(n.row));
         let (shown, mut notes) = self.wrong_row(at.row, &arrivals, &processes);
@@ -112,6 +112,12 @@ impl Refused {
             self.rows.iter().skip(self.place - 1).for_each(|n| arrivals.note(n.row));
             notes = self.unfinished(&arrivals, &processes);
         }
+        (shown, notes)
+    }
+
+    /// The rows before that the refusal is about, on a line each, and what is wrong.
+    pub fn report(&self) -> String {
+        let (shown, notes) = self.wrong();
         let mut s = String::new();
         for n in shown {
             s.push_str(&labelled("  before it:   ", &format!("row {}{}: {}", n.number, n.own, describe(n.row))));

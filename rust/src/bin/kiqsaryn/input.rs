@@ -142,6 +142,9 @@ pub struct TraceRefused {
     pub rows: Vec<Row>,
     /// Whether the trace starts with a byte order mark.
     pub mark: bool,
+    /// The bytes as they were put to the library, and where the record starts among them.
+    pub text: Vec<u8>,
+    pub start: usize,
 }
 
 /// Two traces of which each is accepted, and their join is not: the question, and the place in the join.
@@ -206,6 +209,8 @@ impl Unasked<'_> {
             record: record(&self.text, header, place).to_vec(),
             rows,
             mark: self.text.starts_with(b"\xef\xbb\xbf"),
+            start: record_start(&self.text, header, place),
+            text: self.text,
         }
     }
 }

@@ -8,6 +8,8 @@ mod check;
 mod completions;
 mod diagram;
 mod explain;
+mod fields;
+mod found;
 mod groups;
 mod help;
 mod input;

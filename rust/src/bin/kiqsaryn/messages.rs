@@ -69,18 +69,22 @@ impl Around {
         not_posted.into_iter().chain(not_sent).chain(again).collect()
     }
 
+    /// What is wrong with the row, in sentences.
+    pub fn wrong(&self) -> Vec<String> {
+        match self.row.kind {
+            SEND => self.wrong_end("sends", RECV, "posts the receive for"),
+            RECV => self.wrong_end("posts a receive for", SEND, "sends"),
+            _ => self.wrong_wait(),
+        }
+    }
+
     /// The rows before that have the message, on a line each, and what is wrong.
     pub fn report(&self) -> String {
         let mut s = String::new();
         for b in self.before.iter().filter(|b| self.shares(b.row)) {
             s.push_str(&labelled("  before it:   ", &format!("row {}{}: {}", b.number, b.own, describe(b.row))));
         }
-        let wrong = match self.row.kind {
-            SEND => self.wrong_end("sends", RECV, "posts the receive for"),
-            RECV => self.wrong_end("posts a receive for", SEND, "sends"),
-            _ => self.wrong_wait(),
-        };
-        wrong.iter().for_each(|note| s.push_str(&labelled("  note:        ", note)));
+        self.wrong().iter().for_each(|note| s.push_str(&labelled("  note:        ", note)));
         s
     }
 }

@@ -2,13 +2,15 @@
 
 use crate::barriers::{self, is_arrival, listed};
 use crate::check::what_was_read_of_two;
+use crate::fields::line_and_column;
+use crate::found::{point, Point};
 use crate::input::{row_of, short_names, JoinRefused, Refused, TraceRefused, Which};
 use crate::json;
 use crate::messages::{Around, Numbered};
-use crate::recording::{byte_limit, Recording};
+use crate::recording::{byte_limit, record_start, Recording};
 use crate::text::{counted, escape, labelled};
 use crate::turns::{turns, Own, Turns};
-use kiqsaryn::{Refusal, Row, ROWS, SEND};
+use kiqsaryn::{Refusal, Row, PROCESSES, ROWS, SEND};
 use std::collections::BTreeMap;
 
 /// The most bytes of a record that are shown.
@@ -46,10 +48,54 @@ pub fn report(r: &Refused) -> String {
     }
 }
 
+// ---- Where it is wrong
+
+/// Where a trace is wrong: the line and the column from 1, as an editor shows them, and the byte from 0. The field there, by its name, and what is
+/// wrong, in words, as far as the number tells.
+pub struct Place {
+    pub line: usize,
+    pub byte: usize,
+    pub column: usize,
+    pub field: Option<&'static str>,
+    pub found: Option<String>,
+}
+
+pub fn place(r: &TraceRefused) -> Place {
+    let Point { at, field, found } = point(&r.text, r.start, r.refusal, r.processes);
+    let (line, column) = line_and_column(&r.text, at);
+    Place { line, byte: at, column, field, found: found.or_else(|| order(r)) }
+}
+
+/// What is wrong with the order of messages or barriers, in sentences.
+fn order(r: &TraceRefused) -> Option<String> {
+    let sentences = match r.refusal {
+        Refusal::BarrierOrder => barriers_of(r).wrong().1,
+        Refusal::MessageOrder | Refusal::WaitOrder => around(r)?.wrong(),
+        _ => Vec::new(),
+    };
+    Some(sentences.join(" ")).filter(|s| !s.is_empty())
+}
+
+/// "line 3, byte 57 (from 0), column 3".
+fn spot(place: &Place) -> String {
+    format!("line {}, byte {} (from 0), column {}", place.line, place.byte, place.column)
+}
+
+/// Where a row of a recording is wrong, for a refusal of the join.
+fn spot_of_row(recordings: &[Recording; 2], own: &Own, refusal: Refusal) -> String {
+    let Some(recording) = recordings.get(own.recording) else {
+        return String::new();
+    };
+    let start = record_start(&recording.text, recording.header, own.number);
+    let byte = point(&recording.text, start, refusal, PROCESSES).at;
+    let (line, column) = line_and_column(&recording.text, byte);
+    spot(&Place { line, byte, column, field: None, found: None })
+}
+
 // ---- One trace
 
 fn trace_report(r: &TraceRefused) -> String {
-    let place = match r.place {
+    let at = match r.place {
         0 => "the header".to_string(),
         k => format!("row {k}"),
     };
@@ -58,18 +104,31 @@ fn trace_report(r: &TraceRefused) -> String {
         Which::First => "First trace",
         Which::Second => "Second trace",
     };
-    let mut s = format!("{label}: {}\n\nRefused: number {}, at {place}. There is no verdict.\n", r.name, r.refusal.number());
+    let wrong = place(r);
+    let mut s = format!("{label}: {}\n\nRefused: number {}, at {at}. There is no verdict.\n", r.name, r.refusal.number());
+    s.push_str(&labelled("  place:       ", &format!("{}, {}", r.name, spot(&wrong))));
     s.push_str(&format!("  read:        {}, header {}\n", counted(r.bytes as u64, "byte"), if r.header { "yes" } else { "no" }));
     s.push_str(&labelled("  answered No: ", r.refusal.question()));
     s.push_str(&format!("  the record:  {}\n", shown(r)));
-    s.push_str(&match r.refusal {
-        Refusal::BarrierOrder => barriers_of(r).report(),
-        _ => around(r).map_or(String::new(), |around| around.report()),
-    });
+    s.push_str(&found(r, &wrong));
     for note in notes(r) {
         s.push_str(&labelled("  note:        ", &note));
     }
     s
+}
+
+/// What is wrong at the place, and the rows that it is about.
+fn found(r: &TraceRefused, wrong: &Place) -> String {
+    let label = match wrong.field {
+        Some(_) if r.refusal != Refusal::Malformed => "  field:       ",
+        _ => "  found:       ",
+    };
+    match (r.refusal, &wrong.found) {
+        (Refusal::BarrierOrder, _) => barriers_of(r).report(),
+        (Refusal::MessageOrder | Refusal::WaitOrder, _) => around(r).map_or(String::new(), |around| around.report()),
+        (_, Some(found)) => labelled(label, found),
+        (_, None) => String::new(),
+    }
 }
 
 fn shown(r: &TraceRefused) -> String {
@@ -112,9 +171,6 @@ fn notes(r: &TraceRefused) -> Vec<String> {
         notes.push("the trace starts with a byte order mark (bytes EF BB BF). Save it without one.".to_string());
     }
     match r.refusal {
-        Refusal::Malformed if r.record.ends_with(b"\n") && !r.record.ends_with(b"\r\n") => {
-            notes.push("the record has a line feed (LF) with no carriage return (CR) before it. Records end in CR LF.".to_string());
-        }
         Refusal::TooManyRows if r.place > ROWS => notes.push(format!("a trace has at most {ROWS} rows.")),
         Refusal::Header => notes.push(format!("{} says that the first record{of} holds the names.", r.said)),
         Refusal::NumberRange => notes.push(format!(
@@ -122,7 +178,9 @@ fn notes(r: &TraceRefused) -> Vec<String> {
             r.processes.saturating_sub(1),
             r.processes
         )),
-        _ if r.place == 1 && !r.header => notes.push(format!("{} says that the first record{of} is row 1.", r.said)),
+        _ if r.place == 1 && !r.header && r.refusal != Refusal::Malformed => {
+            notes.push(format!("{} says that the first record{of} is row 1.", r.said))
+        }
         _ => {}
     }
     notes
@@ -168,8 +226,10 @@ fn in_both(recordings: &[Recording; 2]) -> String {
     let both: Vec<(&u32, &Own, &Own)> = first.iter().filter_map(|(p, a)| Some((p, a, second.get(p)?))).collect();
     let mut s = String::new();
     if let Some((process, a, b)) = both.first() {
-        s.push_str(&labelled(&format!("  {:13}", format!("process {process}:")), &own_record(recordings, a)));
-        s.push_str(&labelled(&" ".repeat(15), &own_record(recordings, b)));
+        for (label, own) in [(format!("process {process}:"), a), (String::new(), b)] {
+            s.push_str(&labelled(&format!("  {label:13}"), &own_record(recordings, own)));
+            s.push_str(&labelled(&" ".repeat(15), &format!("At {}.", spot_of_row(recordings, own, Refusal::SharedProcess))));
+        }
     }
     if both.len() > 1 {
         let all: Vec<String> = both.iter().map(|(p, _, _)| p.to_string()).collect();
@@ -209,6 +269,7 @@ fn waiting_row(recordings: &[Recording; 2], turns: &Turns, label: &str, own: &Ow
     let Row { process, message, .. } = own.row;
     let mut s = labelled(label, &own_record(recordings, own));
     let mut say = |sentence: String| s.push_str(&labelled(&" ".repeat(label.len()), &sentence));
+    say(format!("At {}.", spot_of_row(recordings, own, Refusal::Stuck)));
     if turns.lacks_send(own.row) {
         let sent = match not_taken_row(recordings, turns, |r| r.kind == SEND && r.message == message) {
             None => "no row of the two traces sends".to_string(),
@@ -235,7 +296,14 @@ fn joined_barriers(r: &JoinRefused) -> String {
         return String::new();
     };
     let rows = turns.taken.iter().zip(1..).map(|(own, number)| numbered(&r.recordings, own, number)).collect();
-    labelled("  the record:  ", &own_record(&r.recordings, at)) + &barriers::Refused { rows, place }.report()
+    joined_record(&r.recordings, at, r.refusal) + &barriers::Refused { rows, place }.report()
+}
+
+/// The record of a joined row, and where it is wrong in the trace that it comes from.
+fn joined_record(recordings: &[Recording; 2], own: &Own, refusal: Refusal) -> String {
+    let name = short_names(recordings)[own.recording.min(1)];
+    let place = labelled("  place:       ", &format!("{name}, {}", spot_of_row(recordings, own, refusal)));
+    place + &labelled("  the record:  ", &own_record(recordings, own))
 }
 
 /// A joined row with its number in the join and its own name behind it.
@@ -249,8 +317,8 @@ fn joined_row(r: &JoinRefused) -> String {
     let Some((last, before)) = turns.taken.split_last().filter(|_| turns.taken.len() == r.place as usize) else {
         return String::new();
     };
-    let mut s = labelled("  the record:  ", &own_record(&r.recordings, last));
     let names = short_names(&r.recordings);
+    let mut s = joined_record(&r.recordings, last, r.refusal);
     if r.refusal == Refusal::TooManyRows {
         let [first, second] = [0, 1].map(|k| format!("{} has {}", names[k], r.recordings[k].n));
         s.push_str(&labelled("  note:        ", &format!("a trace has at most {ROWS} rows, and so has a join. {first}, {second}.")));
