@@ -15,6 +15,12 @@ mod args;
 mod explain;
 #[path = "../src/bin/kiqsaryn/input.rs"]
 mod input;
+#[path = "../src/bin/kiqsaryn/mend.rs"]
+mod mend;
+#[path = "../src/bin/kiqsaryn/near.rs"]
+mod near;
+#[path = "../src/bin/kiqsaryn/output.rs"]
+mod output;
 #[path = "../src/bin/kiqsaryn/posted.rs"]
 mod posted;
 #[path = "../src/bin/kiqsaryn/recording.rs"]
@@ -24,6 +30,8 @@ mod replay;
 mod running;
 #[path = "../src/bin/kiqsaryn/standard.rs"]
 mod standard;
+#[path = "../src/bin/kiqsaryn/table.rs"]
+mod table;
 #[path = "../src/bin/kiqsaryn/text.rs"]
 mod text;
 #[path = "../src/bin/kiqsaryn/words.rs"]
@@ -1060,7 +1068,8 @@ fn replays_count_stale_bytes() {
         let rows = random_rows(&mut dice, 30, 3);
         let text = csv_of(&rows);
         let (numbers, n, counts) = read_rows(&text, 3);
-        let recording = recording::Recording { name: "x".into(), text: text.clone().into_bytes(), header: false, n, rows: numbers };
+        let (name, bytes, mended) = ("x".to_string(), text.len(), Vec::new());
+        let recording = recording::Recording { name, text: text.clone().into_bytes(), header: false, n, rows: numbers, bytes, mended };
         let trace = input::Trace { source: input::Recorded::Alone(recording), processes: 3, counts };
         for model in Model::ALL {
             let report = replay::report(&trace, 1, model).expect("a replay");

@@ -8,7 +8,11 @@ mod args;
 mod explain;
 #[path = "../src/bin/kiqsaryn/input.rs"]
 mod input;
+#[path = "../src/bin/kiqsaryn/mend.rs"]
+mod mend;
 mod naive;
+#[path = "../src/bin/kiqsaryn/near.rs"]
+mod near;
 #[path = "../src/bin/kiqsaryn/posted.rs"]
 mod posted;
 #[path = "../src/bin/kiqsaryn/recording.rs"]
@@ -16,6 +20,8 @@ mod recording;
 mod running;
 #[path = "../src/bin/kiqsaryn/standard.rs"]
 mod standard;
+#[path = "../src/bin/kiqsaryn/table.rs"]
+mod table;
 #[path = "../src/bin/kiqsaryn/text.rs"]
 mod text;
 #[path = "../src/bin/kiqsaryn/write.rs"]
@@ -156,7 +162,8 @@ fn the_longest_trace() {
 #[test]
 fn a_refusal_of_the_writer_is_told_as_an_error() {
     let trace = |n: u32, rows: &[u32]| {
-        let recording = recording::Recording { name: "x".to_string(), text: Vec::new(), header: false, n, rows: rows.to_vec() };
+        let (name, text, mended) = ("x".to_string(), Vec::new(), Vec::new());
+        let recording = recording::Recording { name, text, header: false, n, rows: rows.to_vec(), bytes: 0, mended };
         input::Trace { source: input::Recorded::Alone(recording), processes: 2, counts: Vec::new() }
     };
     for (n, rows, words) in [

@@ -1,10 +1,12 @@
 //! Traces put to the library: one by itself, or two that are joined.
 
-use crate::args::{Common, Input, Inputs};
+use crate::args::{Common, Input, Inputs, Mend, Source};
 use crate::explain::Rows;
-use crate::recording::{byte_limit, is_one_pipe, name_of, read, record, record_start, Recording};
+use crate::mend::{mend, Mended};
+use crate::recording::{byte_limit, is_one_pipe, name_of, read, read_to_mend, record, record_start, Recording};
 use crate::text::refusal_of_library;
 use kiqsaryn::{check_trace, fill_counts, join, read_file, Checked, JoinSettings, Joined, Part, Refusal, Row, Settings, ROWS};
+use std::path::PathBuf;
 
 /// An accepted trace with its happens-before counts: that of one recording, or the join of two.
 pub struct Trace {
@@ -131,8 +133,9 @@ pub struct TraceRefused {
     pub refusal: Refusal,
     pub place: u32,
     pub header: bool,
-    /// How the header word was said.
+    /// How the header word was said, and how the other word is said.
     pub said: String,
+    pub said_other: String,
     pub processes: u32,
     /// The bytes read up to the limit, and whether reading stopped there.
     pub bytes: usize,
@@ -140,11 +143,20 @@ pub struct TraceRefused {
     pub record: Vec<u8>,
     /// The rows up to the first that cannot be read, where one of them is refused for its message or for a barrier; else none.
     pub rows: Vec<Row>,
-    /// Whether the trace starts with a byte order mark.
-    pub mark: bool,
     /// The bytes as they were put to the library, and where the record starts among them.
     pub text: Vec<u8>,
     pub start: usize,
+    /// How they came from the bytes of the file, where these were mended.
+    pub mended: Option<Mended>,
+    /// The file that the trace was read from; none for standard input.
+    pub path: Option<PathBuf>,
+}
+
+impl TraceRefused {
+    /// The bytes of the file.
+    pub fn file(&self) -> &[u8] {
+        self.mended.as_ref().map_or(&self.text, |mended| &mended.file)
+    }
 }
 
 /// Two traces of which each is accepted, and their join is not: the question, and the place in the join.
@@ -163,13 +175,15 @@ pub enum Loaded {
 struct Unasked<'a> {
     input: &'a Input,
     which: Which,
-    said: String,
+    /// How the header word was said, and how the other word is said.
+    said: [String; 2],
     text: Vec<u8>,
+    mended: Option<Mended>,
     processes: u32,
 }
 
 /// Whether the refusal is about messages or barriers and their order, so that other rows tell what is wrong.
-fn is_of_order(refusal: Refusal) -> bool {
+pub fn is_of_order(refusal: Refusal) -> bool {
     [Refusal::MessageOrder, Refusal::WaitOrder, Refusal::BarrierOrder].contains(&refusal)
 }
 
@@ -190,27 +204,35 @@ impl Unasked<'_> {
     }
 
     fn recording(self, n: u32, rows: Vec<u32>) -> Recording {
-        Recording { name: name_of(&self.input.source), text: self.text, header: self.input.header, n, rows }
+        let (bytes, mended) = self.mended.map_or((self.text.len(), Vec::new()), |mended| (mended.file.len(), mended.done));
+        Recording { name: name_of(&self.input.source), text: self.text, header: self.input.header, n, rows, bytes, mended }
     }
 
     fn refused(self, refusal: Refusal, place: u32) -> TraceRefused {
         let (header, limit) = (self.input.header, byte_limit(self.input.header));
         let rows = if is_of_order(refusal) { self.readable() } else { Vec::new() };
+        let [said, said_other] = self.said;
+        let path = match &self.input.source {
+            Source::Standard => None,
+            Source::Path(path) => Some(path.clone()),
+        };
         TraceRefused {
             name: name_of(&self.input.source),
             which: self.which,
             refusal,
             place,
             header,
-            said: self.said,
+            said,
+            said_other,
             processes: self.processes,
-            bytes: self.text.len().min(limit),
+            bytes: self.mended.as_ref().map_or(self.text.len().min(limit), |mended| mended.file.len()),
             stopped: self.text.len() > limit,
             record: record(&self.text, header, place).to_vec(),
             rows,
-            mark: self.text.starts_with(b"\xef\xbb\xbf"),
             start: record_start(&self.text, header, place),
             text: self.text,
+            mended: self.mended,
+            path,
         }
     }
 }
@@ -229,13 +251,34 @@ fn yes_or_no(header: bool) -> &'static str {
     }
 }
 
-/// Reads a trace and asks the library. An error is a sentence.
-fn load_one(input: &Input, processes: u32) -> Result<Loaded, String> {
-    let said = format!("--header {}", yes_or_no(input.header));
-    let trace = Unasked { input, which: Which::Only, said, text: read(input)?, processes };
+/// What the library answers to a trace by itself, and the rows and the counts that it fills.
+pub fn ask(text: &[u8], header: bool, processes: u32) -> (Checked, Vec<u32>, Vec<u16>) {
     let mut rows = vec![0; ROWS as usize * 6];
     let mut counts = vec![0; ROWS as usize * processes as usize];
-    match check_trace(&trace.text, settings(input.header, processes, byte_limit(input.header)), &mut rows, &mut counts) {
+    let checked = check_trace(text, settings(header, processes, byte_limit(header)), &mut rows, &mut counts);
+    (checked, rows, counts)
+}
+
+/// Whether the library reads this record, alone, as the names where it is to be the header, and else as a row.
+pub fn reads_as(record: &[u8], header: bool, processes: u32) -> bool {
+    let mut rows = vec![0; ROWS as usize * 6];
+    let rows_read = u32::from(!header);
+    read_file(record, u32::from(header), ROWS, processes, &mut rows) == Checked::Accepted(rows_read)
+}
+
+/// Reads a trace, mends it where that is told, and asks the library. An error is a sentence.
+fn load_one(input: &Input, processes: u32, options: Mend) -> Result<Loaded, String> {
+    let said = [input.header, !input.header].map(|header| format!("--header {}", yes_or_no(header)));
+    let (text, mended) = match options == Mend::default() {
+        true => (read(input)?, None),
+        false => {
+            let mut mended = mend(read_to_mend(input)?, options);
+            (std::mem::take(&mut mended.text), Some(mended))
+        }
+    };
+    let trace = Unasked { input, which: Which::Only, said, text, mended, processes };
+    let (checked, rows, mut counts) = ask(&trace.text, input.header, processes);
+    match checked {
         Checked::Accepted(n) => {
             if fill_counts(&rows, n, processes, &mut counts).is_err() {
                 return Err("the counts of the rows are missing; please report this trace".to_string());
@@ -315,9 +358,13 @@ fn load_two(inputs: &[Input; 2], processes: u32) -> Result<Loaded, String> {
     if is_one_pipe(&first.source, &second.source) {
         return Err("both traces are the same pipe; each needs its own".to_string());
     }
-    let said = format!("--headers {},{}", yes_or_no(first.header), yes_or_no(second.header));
-    let unasked = |input, which| Ok::<_, String>(Unasked { input, which, said: said.clone(), text: read(input)?, processes });
-    let (first, second) = (unasked(first, Which::First)?, unasked(second, Which::Second)?);
+    let said = |a: bool, b: bool| format!("--headers {},{}", yes_or_no(a), yes_or_no(b));
+    let (a, b) = (first.header, second.header);
+    let unasked = |input, which, other: String| {
+        let said = [said(a, b), other];
+        Ok::<_, String>(Unasked { input, which, said, text: read(input)?, mended: None, processes })
+    };
+    let (first, second) = (unasked(first, Which::First, said(!a, b))?, unasked(second, Which::Second, said(a, !b))?);
     let recordings = recorded(first).and_then(|first| Ok([first, recorded(second)?]));
     match recordings {
         Ok(recordings) => joined(recordings, processes),
@@ -328,7 +375,7 @@ fn load_two(inputs: &[Input; 2], processes: u32) -> Result<Loaded, String> {
 /// Reads the traces of a command and asks the library. An error is a sentence.
 pub fn load(common: &Common) -> Result<Loaded, String> {
     match &common.inputs {
-        Inputs::One(input) => load_one(input, common.processes),
+        Inputs::One(input) => load_one(input, common.processes, common.mend),
         Inputs::Two(inputs) => load_two(inputs, common.processes),
     }
 }

@@ -1,6 +1,7 @@
 //! A trace file as it was read: its bytes, its records as they stand, and its rows.
 
 use crate::args::{Input, Source};
+use crate::mend::Doings;
 use crate::standard;
 use crate::text::path_name;
 use kiqsaryn::{Row, FILES, PROCESSES, ROWS};
@@ -31,6 +32,9 @@ pub struct Recording {
     pub header: bool,
     pub n: u32,
     pub rows: Vec<u32>,
+    /// How many bytes the file has, and what was mended of them before they were put to the library.
+    pub bytes: usize,
+    pub mended: Doings,
 }
 
 impl Recording {
@@ -124,4 +128,18 @@ fn read_bytes(source: &Source, limit: usize) -> io::Result<Vec<u8>> {
 /// The bytes of a trace, never more of them than an acceptable one can have and one. An error is a sentence.
 pub fn read(input: &Input) -> Result<Vec<u8>, String> {
     read_bytes(&input.source, byte_limit(input.header)).map_err(|e| format!("cannot read {}: {e}", name_of(&input.source)))
+}
+
+/// How many times as many bytes a text that is mended may have, and how many more: two for each character, spaces, a mark.
+const TIMES: usize = 4;
+const MORE: usize = 64;
+
+/// The bytes of a trace that is to be mended. One that goes on behind as many bytes as are mended is not read in part. An error is a sentence.
+pub fn read_to_mend(input: &Input) -> Result<Vec<u8>, String> {
+    let (name, limit) = (name_of(&input.source), TIMES * byte_limit(input.header) + MORE);
+    let file = read_bytes(&input.source, limit).map_err(|e| format!("cannot read {name}: {e}"))?;
+    match file.len() > limit {
+        true => Err(format!("{name} has more than {limit} bytes; a trace that long is not mended")),
+        false => Ok(file),
+    }
 }

@@ -2,10 +2,12 @@
 
 use crate::barriers::{self, is_arrival, listed};
 use crate::check::what_was_read_of_two;
+use crate::cure::cure;
 use crate::fields::line_and_column;
 use crate::found::{point, Point};
-use crate::input::{row_of, short_names, JoinRefused, Refused, TraceRefused, Which};
+use crate::input::{reads_as, row_of, short_names, JoinRefused, Refused, TraceRefused, Which};
 use crate::json;
+use crate::mend::in_words;
 use crate::messages::{Around, Numbered};
 use crate::recording::{byte_limit, record_start, Recording};
 use crate::text::{counted, escape, labelled};
@@ -62,8 +64,9 @@ pub struct Place {
 
 pub fn place(r: &TraceRefused) -> Place {
     let Point { at, field, found } = point(&r.text, r.start, r.refusal, r.processes);
-    let (line, column) = line_and_column(&r.text, at);
-    Place { line, byte: at, column, field, found: found.or_else(|| order(r)) }
+    let (text, at, byte) = r.mended.as_ref().map_or((&r.text[..], at, at), |mended| mended.origin(at));
+    let (line, column) = line_and_column(text, at);
+    Place { line, byte, column, field, found: found.or_else(|| order(r)) }
 }
 
 /// What is wrong with the order of messages or barriers, in sentences.
@@ -104,17 +107,33 @@ fn trace_report(r: &TraceRefused) -> String {
         Which::First => "First trace",
         Which::Second => "Second trace",
     };
-    let wrong = place(r);
-    let mut s = format!("{label}: {}\n\nRefused: number {}, at {at}. There is no verdict.\n", r.name, r.refusal.number());
+    let (wrong, of) = (place(r), if r.mended.is_some() { " of the text as mended" } else { "" });
+    let mut s = format!("{label}: {}\n\nRefused: number {}, at {at}{of}. There is no verdict.\n", r.name, r.refusal.number());
     s.push_str(&labelled("  place:       ", &format!("{}, {}", r.name, spot(&wrong))));
     s.push_str(&format!("  read:        {}, header {}\n", counted(r.bytes as u64, "byte"), if r.header { "yes" } else { "no" }));
+    let labels = std::iter::once("  mended:      ").chain(std::iter::repeat("               "));
+    for (done, label) in r.mended.iter().flat_map(|mended| &mended.done).zip(labels) {
+        s.push_str(&labelled(label, &in_words(done)));
+    }
     s.push_str(&labelled("  answered No: ", r.refusal.question()));
     s.push_str(&format!("  the record:  {}\n", shown(r)));
     s.push_str(&found(r, &wrong));
     for note in notes(r) {
         s.push_str(&labelled("  note:        ", &note));
     }
-    s
+    s + &cured(r)
+}
+
+/// The habits of a file that the refusal comes from, and the command that mends them, on a line that a shell takes as it stands.
+fn cured(r: &TraceRefused) -> String {
+    let Some(cure) = cure(r) else {
+        return String::new();
+    };
+    let recognized = labelled("  recognized:  ", &cure.recognized);
+    match cure.command {
+        Some(command) => recognized + &format!("  cure:        {command}\n") + &labelled(&" ".repeat(15), &cure.then),
+        None => recognized + &labelled("  cure:        ", &cure.then),
+    }
 }
 
 /// What is wrong at the place, and the rows that it is about.
@@ -158,32 +177,42 @@ fn barriers_of(r: &TraceRefused) -> barriers::Refused {
 /// Facts about the record that help to repair it.
 fn notes(r: &TraceRefused) -> Vec<String> {
     let mut notes = Vec::new();
-    let of = match r.which {
-        Which::Only => "",
-        Which::First => " of the first trace",
-        Which::Second => " of the second trace",
-    };
     if r.stopped {
         let most = byte_limit(r.header);
-        notes.push(format!("reading stopped after {most} bytes. No trace that can be accepted is longer."));
-    }
-    if r.mark {
-        notes.push("the trace starts with a byte order mark (bytes EF BB BF). Save it without one.".to_string());
+        notes.push(match r.mended {
+            None => format!("reading stopped after {most} bytes. No trace that can be accepted is longer."),
+            Some(_) => format!("no text of more than {most} bytes can be accepted."),
+        });
     }
     match r.refusal {
         Refusal::TooManyRows if r.place > ROWS => notes.push(format!("a trace has at most {ROWS} rows.")),
-        Refusal::Header => notes.push(format!("{} says that the first record{of} holds the names.", r.said)),
         Refusal::NumberRange => notes.push(format!(
             "process is 0 to {} (--processes {}), file 0 to 63, offset and length 0 to 4294967295, message 0 to 65535.",
             r.processes.saturating_sub(1),
             r.processes
         )),
-        _ if r.place == 1 && !r.header && r.refusal != Refusal::Malformed => {
-            notes.push(format!("{} says that the first record{of} is row 1.", r.said))
-        }
+        Refusal::Malformed => {}
+        Refusal::Header => notes.push(header_note(r)),
+        _ if r.place == 1 && !r.header => notes.push(header_note(r)),
         _ => {}
     }
     notes
+}
+
+/// What the header word says of the first record, and which word to say where the library takes the record for what the other word says.
+fn header_note(r: &TraceRefused) -> String {
+    let of = match r.which {
+        Which::Only => "",
+        Which::First => " of the first trace",
+        Which::Second => " of the second trace",
+    };
+    let is_other = reads_as(&r.record, !r.header, r.processes);
+    let (what, other) = match r.header {
+        true => ("holds the names", "It reads as a row"),
+        false => ("is row 1", "It holds the names"),
+    };
+    let cure = if is_other { format!(" {other}: say {}.", r.said_other) } else { String::new() };
+    format!("{} says that the first record{of} {what}.{cure}", r.said)
 }
 
 // ---- Two traces

@@ -1,7 +1,9 @@
 //! The rows of a trace as plain text, and what `write` says of it.
 
 use crate::input::{Recorded, Trace};
-use crate::text::{refusal_of_library, size};
+use crate::mend::in_words;
+use crate::recording::Recording;
+use crate::text::{labelled, refusal_of_library, size};
 use kiqsaryn::{write, Written, HEADER_LINE, LONGEST_LINE};
 
 /// The rows as plain text, behind the names where a header is asked for. An error is a sentence.
@@ -23,12 +25,22 @@ pub fn what_was_written(trace: &Trace, header: bool, text: &str, output: &str) -
     format!("\nWritten to {output}:\n{}", size(text.len(), header, trace.rows().n))
 }
 
-/// What was read, and what was written to a place of this name.
+/// What each option that mends has done, on a line each; nothing where none was said.
+fn what_was_mended(recording: &Recording) -> String {
+    if recording.mended.is_empty() {
+        return String::new();
+    }
+    let lines = recording.mended.iter().map(|done| labelled("  ", &in_words(done)));
+    std::iter::once("\nMended:\n".to_string()).chain(lines).collect()
+}
+
+/// What was read, what was mended, and what was written to a place of this name.
 pub fn report(trace: &Trace, header: bool, text: &str, output: &str) -> String {
     let mut s = String::new();
     if let Recorded::Alone(recording) = &trace.source {
         s.push_str(&format!("Trace: {}\n\nRead, to hold against the recorder:\n", recording.name));
-        s.push_str(&size(recording.text.len(), recording.header, recording.n));
+        s.push_str(&size(recording.bytes, recording.header, recording.n));
+        s.push_str(&what_was_mended(recording));
     }
     s + &what_was_written(trace, header, text, output)
 }
