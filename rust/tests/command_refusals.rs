@@ -3,8 +3,10 @@
 #[allow(dead_code)]
 mod running;
 
+use running::folder::Folder;
 use running::pair::Pair;
-use running::{err, out, run, status};
+use running::{err, examples, feed, out, run, status};
+use std::fs;
 
 const NAMES: &str = "process,kind,file,offset,length,message\r\n";
 
@@ -170,4 +172,273 @@ fn a_refused_join_names_the_places_in_its_traces() {
     pair.put(b"0,open,1,,,\r\n", b"1,open,1,,,\r\n1,opens,1,,,\r\n");
     let words = told(&pair);
     assert!(words.contains("place: b.csv, line 2, byte 15 (from 0), column 3 read:"), "{words}");
+}
+
+// ---- Habits of a file, and the command that mends them
+
+/// The example traces of one habit each, with the options that mend it.
+const HABITS: [(&str, &str); 9] = [
+    ("blank_end", "--blank-end"),
+    ("cr", "--line-ends"),
+    ("lf", "--line-ends"),
+    ("mark", "--mark"),
+    ("semicolons", "--semicolons"),
+    ("several", "--mark --line-ends --semicolons --spaces --blank-end"),
+    ("spaces", "--spaces"),
+    ("tabs", "--tabs"),
+    ("utf_16", "--utf-16"),
+];
+
+/// The command behind `cure:`.
+fn cure(told: &str) -> Option<&str> {
+    told.lines()
+        .find_map(|line| line.strip_prefix("  cure:        kiqsaryn "))
+        .map(|line| &told[told.find(line).expect("the line")..][..line.len()])
+}
+
+#[test]
+fn every_habit_among_the_examples_is_told_and_mended_by_the_command_that_is_told() {
+    let entries = fs::read_dir(examples().join("habits")).expect("the examples");
+    let mut names: Vec<String> = entries.map(|e| e.expect("an entry").file_name().into_string().expect("a name")).collect();
+    names.sort();
+    let mut expected: Vec<String> = HABITS.iter().flat_map(|(name, _)| [format!("{name}.check.txt"), format!("{name}.csv")]).collect();
+    expected.sort();
+    assert_eq!(names, expected);
+    let clean = fs::read(examples().join("commit_free.csv")).expect("the clean trace");
+    let f = Folder::new("habits");
+    for (name, options) in HABITS {
+        let trace = fs::read(examples().join(format!("habits/{name}.csv"))).expect("a trace");
+        let want = fs::read_to_string(examples().join(format!("habits/{name}.check.txt"))).expect("the output beside it");
+        f.put_bytes(&format!("{name}.csv"), &trace);
+        let o = f.sh(&format!("kiqsaryn check {name}.csv --header yes"));
+        assert_eq!((out(&o), status(&o), err(&o)), (want, 2, String::new()), "{name}");
+        let told = out(&o);
+        let command = cure(&told).unwrap_or_else(|| panic!("no cure in {told}"));
+        assert_eq!(command, format!("write {name}.csv --header yes {options} -o mended.csv"));
+        assert!(told.ends_with("Mended so, the trace is accepted: 6 rows.\n"), "{told}");
+        let o = f.sh(&format!("kiqsaryn {command}"));
+        assert_eq!((status(&o), err(&o)), (0, String::new()), "{name}: {}", out(&o));
+        let bytes = format!("  {} bytes\n", trace.len());
+        assert!(out(&o).contains(&bytes) && options.split(' ').all(|option| out(&o).contains(&format!("\n  {option}: "))), "{}", out(&o));
+        assert!(f.read("mended.csv") == clean, "{name} is mended");
+        assert!(f.read(&format!("{name}.csv")) == trace, "{name} stays as it is");
+        fs::remove_file(f.path("mended.csv")).expect("the file is removed");
+        // Without the options nothing is mended.
+        let o = f.sh(&format!("kiqsaryn write {name}.csv --header yes"));
+        assert_eq!((status(&o), out(&o)), (2, String::new()), "{name}");
+        assert_eq!(cure(&err(&o)), Some(command), "{name}");
+    }
+}
+
+#[test]
+fn the_cure_names_the_trace_as_a_shell_takes_it() {
+    let f = Folder::new("cure-names");
+    let lf = fs::read(examples().join("habits/lf.csv")).expect("a trace");
+    for name in ["a b.csv", "it's.csv", "-x.csv", "$(touch no).csv", "b;c&d.csv", "gr\u{fc}n.csv", "mended.csv"] {
+        f.put_bytes(name, &lf);
+        let mut check = f.shell("kiqsaryn check --header yes -- \"$0\"");
+        let o = feed(check.arg(name), b"");
+        let told = out(&o);
+        let command = cure(&told).unwrap_or_else(|| panic!("no cure in {told} {}", err(&o)));
+        let o = f.sh(&format!("kiqsaryn {command}"));
+        assert_eq!(status(&o), 0, "{command}: {}", err(&o));
+        let mended = command.rsplit(' ').next().expect("a name");
+        assert!(mended != name && f.path(mended).exists() && f.read(name) == lf, "{command}");
+        fs::remove_file(f.path(mended)).expect("the file is removed");
+        fs::remove_file(f.path(name)).expect("the trace is removed");
+    }
+    assert!(!f.path("no").exists());
+    // The limit on processes and the header word are said again; standard input is -.
+    let o = run(&["check", "-", "--header", "no", "--processes", "4"], b"3,open,1,,,\n");
+    assert_eq!(cure(&out(&o)), Some("write - --header no --processes 4 --line-ends -o mended.csv"));
+    // A file of the name that would be offered is not overwritten.
+    f.put("mended.csv", "kept", 0o644);
+    f.put_bytes("lf.csv", &lf);
+    let o = f.sh("kiqsaryn check lf.csv --header yes");
+    assert_eq!(cure(&out(&o)), Some("write lf.csv --header yes --line-ends -o mended-2.csv"));
+}
+
+#[test]
+fn a_cure_tells_what_the_mended_trace_comes_to() {
+    let told = |text: &[u8]| flat(&out(&run(&["check", "-", "--header", "no"], text)));
+    let words = told(b"0,open,1,,,\n0,Write,1,0,1,\n");
+    assert!(words.ends_with("Mended so, it is refused with 8, at row 2, line 2."), "{words}");
+    let words = told(b"0,open,1,,,\r\n0;write;1;0;1;\r\n");
+    assert!(words.ends_with("quotes as well. Save it again, as plain text with commas."), "{words}");
+    // The refusal has nothing to do with the blank line at the end.
+    let words = told(b"0,open,1,,,\r\n0,Write,1,0,1,\r\n\r\n");
+    assert!(!words.contains("recognized:") && words.contains("number 8, at row 2"), "{words}");
+    let words = told(b"0,open,1,,,\r\n0,write,1,0,1,\r\n\r\n\r\n\r\n");
+    assert!(words.contains("recognized: 3 blank lines at the end cure: kiqsaryn write - --header no --blank-end"), "{words}");
+    let words = told("0,open,1,,,\n0,wr\u{ee}te,1,0,1,\n".encode_utf16().flat_map(u16::to_le_bytes).collect::<Vec<u8>>().as_slice());
+    assert!(
+        words.contains("recognized: UTF-16, two bytes for each character cure: No option of write mends this trace: byte 32"),
+        "{words}"
+    );
+    let words = told(b"0,open,1,,,\n0,open,1,,,\r0,open,1,,,\n");
+    assert!(words.contains("recognized: LF alone at the end of 2 lines, CR alone at 1 cure:"), "{words}");
+}
+
+#[test]
+fn the_other_header_word_is_named_where_the_first_record_reads_so() {
+    let told = |header: &str, text: &[u8]| flat(&out(&run(&["check", "-", "--header", header], text)));
+    let words = told("yes", b"0,open,1,,,\r\n");
+    assert!(words.contains("--header yes says that the first record holds the names. It reads as a row: say --header no."), "{words}");
+    let words = told("yes", b"1,wait,,,,7\r\n");
+    assert!(words.contains("It reads as a row: say --header no."), "{words}");
+    let words = told("yes", b"process,Kind,file,offset,length,message\r\n");
+    assert!(!words.contains("It reads as a row"), "{words}");
+    let words = told("no", NAMES.as_bytes());
+    assert!(words.contains("--header no says that the first record is row 1. It holds the names: say --header yes."), "{words}");
+    let words = told("no", b"process,Kind,file,offset,length,message\r\n");
+    assert!(!words.contains("It holds the names"), "{words}");
+    let pair = Pair::new("words", b"0,open,1,,,\r\n", NAMES.as_bytes());
+    let words = flat(&out(&pair.run("join", "no,no", &[])));
+    assert!(words.contains("the second trace is row 1. It holds the names: say --headers no,yes."), "{words}");
+}
+
+/// One of two traces is mended by itself. Where it waits for messages of the other one, `write` would refuse it, and the refusal tells so.
+#[test]
+fn the_cure_of_one_of_two_traces_names_that_trace() {
+    let pair = Pair::new("cures", b"0,open,1,,,\r\n", b"1,open,1,,,\n1,sync,1,,,\n");
+    let told = out(&pair.run("join", "no,no", &[]));
+    assert_eq!(cure(&told), Some("write b.csv --header no --line-ends -o mended.csv"), "{told}");
+    assert!(flat(&told).ends_with("Mended so, the trace is accepted: 2 rows."), "{told}");
+    pair.put(b"0,send,,,,7\r\n", b"1,recv,,,,7\n1,wait,,,,7\n");
+    let told = flat(&out(&pair.run("join", "no,no", &[])));
+    assert!(told.contains("refused with 21, at row 2, line 2, since write takes it by itself. Save it again"), "{told}");
+}
+
+// ---- What write mends
+
+/// Status 0, this text on standard output, and what was mended on standard error.
+fn mended(header: &str, options: &[&str], text: &[u8], want: &str, said: &[&str]) {
+    let o = run(&[&["write", "-", "--header", header], options].concat(), text);
+    let shown = String::from_utf8_lossy(text);
+    assert_eq!((out(&o).as_str(), status(&o)), (want, 0), "{options:?} of {shown}: {}", err(&o));
+    let part = format!("\nMended:\n{}\nWritten to standard output:\n", said.iter().map(|line| format!("  {line}\n")).collect::<String>());
+    assert!(err(&o).contains(&part), "{part} in {}", err(&o));
+    assert!(err(&o).contains(&format!("recorder:\n  {} byte", text.len())), "{}", err(&o));
+}
+
+#[test]
+fn each_option_mends_what_it_names() {
+    let clean = "0,open,1,,,\r\n0,write,1,0,10,\r\n";
+    let line_ends = &["--line-ends: 2 line ends"];
+    mended("no", &["--line-ends"], b"0,open,1,,,\n0,write,1,0,10,\n", clean, line_ends);
+    mended("no", &["--line-ends"], b"0,open,1,,,\r0,write,1,0,10,\r", clean, line_ends);
+    mended("no", &["--line-ends"], b"0,open,1,,,\r\n0,write,1,0,10,\n", clean, &["--line-ends: 1 line end"]);
+    mended("no", &["--line-ends"], b"0,open,1,,,\n0,write,1,0,10,", clean, &["--line-ends: 1 line end"]);
+    mended("no", &["--mark"], b"\xef\xbb\xbf0,open,1,,,\r\n0,write,1,0,10,", clean, &["--mark: 1 byte order mark"]);
+    mended("no", &["--semicolons"], b"0;open;1;;;\r\n0;write;1;0;10;\r\n", clean, &["--semicolons: 10 semicolons"]);
+    mended("no", &["--tabs"], b"0\topen\t1\t\t\t\r\n0\twrite\t1\t0\t10\t\r\n", clean, &["--tabs: 10 tabs"]);
+    mended("no", &["--spaces"], b" 0, open ,1,,,  \r\n0,write,1,0, 10, ", clean, &["--spaces: 6 places with spaces"]);
+    mended("no", &["--spaces"], b"0 ,\"open\" , \"1\",,,\r\n0,write,1,0,10,", clean, &["--spaces: 3 places with spaces"]);
+    mended("no", &["--blank-end"], b"0,open,1,,,\r\n0,write,1,0,10,\r\n\r\n  \r\n\r\n ", clean, &["--blank-end: 4 blank lines"]);
+    mended("no", &["--blank-end"], b"0,open,1,,,\r\n0,write,1,0,10,\r\n\n", clean, &["--blank-end: 1 blank line"]);
+    for (mark, low_first) in [(false, true), (true, true), (false, false), (true, false)] {
+        let units = mark.then_some(0xfeff).into_iter().chain(clean.encode_utf16());
+        let text: Vec<u8> = units.flat_map(|u| if low_first { u.to_le_bytes() } else { u.to_be_bytes() }).collect();
+        mended("no", &["--utf-16"], &text, clean, &["--utf-16: 30 characters of two bytes"]);
+    }
+}
+
+#[test]
+fn options_go_together_and_one_without_its_habit_changes_nothing() {
+    let clean = "0,open,1,,,\r\n0,write,1,0,10,\r\n";
+    let all = ["--blank-end", "--tabs", "--spaces", "--semicolons", "--line-ends", "--mark", "--utf-16"];
+    let text = "\u{feff}0\topen \t1\t\t\t\n0\twrite\t1\t0\t10\t\n\n";
+    let said = [
+        "--utf-16: there was none",
+        "--mark: 1 byte order mark",
+        "--line-ends: 3 line ends",
+        "--semicolons: there was none",
+        "--tabs: 10 tabs",
+        "--spaces: 1 place with spaces",
+        "--blank-end: 1 blank line",
+    ];
+    mended("no", &all, text.as_bytes(), clean, &said);
+    let none = said.map(|line| format!("{} there was none", line.split(' ').next().expect("an option")));
+    mended("no", &all, clean.as_bytes(), clean, &none.each_ref().map(String::as_str));
+    // Commas in quotes are no commas between fields.
+    let o = run(&["write", "-", "--header", "no", "--semicolons"], b"0;open;\"1,1\";;;");
+    assert!(err(&o).contains("Refused: number 10, at row 1 of the text as mended."), "{}", err(&o));
+}
+
+/// What stands in quotes is never changed, so that the library refuses it as it stands.
+#[test]
+fn nothing_changes_within_quotes() {
+    for (options, text, record) in [
+        (&["--line-ends"][..], &b"0,open,1,,,\n0,\"o\npen\",1,,,\n"[..], "0,\"o\\npen\",1,,,"),
+        (&["--semicolons"], b"0;\"o;pen\";1;;;", "0,\"o;pen\",1,,,"),
+        (&["--spaces"], b"0,\" open \",1,,,", "0,\" open \",1,,,"),
+        (&["--spaces"], b"0, \"o, \"\" pen\" ,1,,,", "0,\"o, \"\" pen\",1,,,"),
+        (&["--blank-end"], b"0,open,1,,,\r\n0,\"open\r\n\r\n", "0,\"open\\r\\n\\r\\n"),
+    ] {
+        let o = run(&[&["write", "-", "--header", "no"], options].concat(), text);
+        assert_eq!((status(&o), out(&o)), (2, String::new()));
+        assert!(err(&o).contains(&format!("  the record:  {record}\n")), "{record} in {}", err(&o));
+    }
+}
+
+#[test]
+fn a_refusal_of_a_mended_text_names_the_place_in_the_file() {
+    let place = |options: &[&str], text: &[u8]| {
+        let o = run(&[&["write", "-", "--header", "no"], options].concat(), text);
+        assert_eq!((status(&o), out(&o)), (2, String::new()), "{}", err(&o));
+        flat(&err(&o))
+    };
+    let told = place(&["--line-ends"], b"0,open,1,,,\n0,open,1,,,\n0,close,1,2,,\n");
+    assert!(
+        told.contains("Refused: number 9, at row 3 of the text as mended. There is no verdict. place: standard input, line 3, byte 34 "),
+        "{told}"
+    );
+    assert!(told.contains("column 11 read: 38 bytes, header no mended: --line-ends: 3 line ends answered No:"), "{told}");
+    let told = place(&["--spaces", "--semicolons"], b" 0 ; open ; 1 ; ; ;\r\n0; Close;1;;;");
+    assert!(told.contains("number 8, at row 2 of the text as mended.") && told.contains("line 2, byte 24 (from 0), column 4 "), "{told}");
+    let wide: Vec<u8> = "\u{feff}0,open,1,,,\r\n0,Close,1,,,".encode_utf16().flat_map(u16::to_le_bytes).collect();
+    let told = place(&["--utf-16"], &wide);
+    assert!(told.contains("line 2, byte 32 (from 0), column 3 ") && told.contains("the record: 0,Close,1,,,"), "{told}");
+    // A habit that is left is named with the options that were said.
+    let told = place(&["--line-ends"], b"0;open;1;;;\n");
+    assert!(told.contains("cure: kiqsaryn write - --header no --line-ends --semicolons -o mended.csv Mended so, the trace is"), "{told}");
+    for (options, text, said) in [
+        (&["--semicolons"][..], &b"0;open;1;;;\r\n0,open,1,,,"[..], "--semicolons: nothing is mended: commas stand outside quotes as well"),
+        (&["--tabs"], b"0\topen\t1,5\t\t", "--tabs: nothing is mended: commas stand outside quotes as well"),
+        (&["--utf-16"], b"\xff\xfe0\0,\0\xe9\0", "--utf-16: nothing is mended: byte 6 (from 0) starts a character that is not plain ASCII"),
+        (&["--utf-16"], b"\xff\xfe0\0,", "--utf-16: nothing is mended: byte 4 (from 0) starts a character that is not plain ASCII"),
+    ] {
+        let told = place(options, text);
+        assert!(told.contains(&format!("mended: {said} answered No:")), "{said} in {told}");
+    }
+}
+
+/// The longest trace in UTF-16 is mended, and one that goes on without end is not read in part.
+#[test]
+fn what_is_mended_has_a_limit() {
+    let row = "\"47\",\"write\",\"63\",\"2147483647\",\"2147483648\",\"\"\r\n".repeat(4096);
+    let wide: Vec<u8> = row.encode_utf16().flat_map(u16::to_be_bytes).collect();
+    let o = run(&["write", "-", "--header", "no", "--utf-16"], &wide);
+    assert!(status(&o) == 0 && err(&o).contains("  4096 rows\n"), "{}", err(&o));
+    let o = run(&["write", "-", "--header", "no", "--utf-16"], &[&wide[..], b"\00"].concat());
+    assert!(status(&o) == 2 && err(&o).contains("Refused: number 6, at row 4097 of the text as mended."), "{}", err(&o));
+    let o = run(&["write", "-", "--header", "no", "--spaces"], &[b' '; 786_497]);
+    assert_eq!((status(&o), out(&o)), (3, String::new()));
+    assert_eq!(err(&o), "kiqsaryn: standard input has more than 786496 bytes; a trace that long is not mended\n");
+    // What is refused because reading stopped is recognized by the part that was read.
+    let o = run(&["check", "-", "--header", "no"], &wide);
+    assert!(
+        out(&o).contains("  cure:        kiqsaryn write - --header no --utf-16 -o mended.csv\n               The trace was not"),
+        "{}",
+        out(&o)
+    );
+}
+
+/// No other command takes the options.
+#[test]
+fn only_write_mends() {
+    for command in ["check", "races", "replay", "diagram", "join"] {
+        let o = run(&[command, "habits/lf.csv", "--header", "yes", "--line-ends"], b"");
+        assert_eq!((status(&o), out(&o)), (3, String::new()), "{command}");
+    }
 }

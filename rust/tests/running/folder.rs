@@ -76,6 +76,12 @@ impl Folder {
         self.give(name);
     }
 
+    pub fn put_bytes(&self, name: &str, contents: &[u8]) {
+        fs::write(self.path(name), contents).expect("a file");
+        self.set_mode(name, 0o644);
+        self.give(name);
+    }
+
     pub fn read(&self, name: &str) -> Vec<u8> {
         fs::read(self.path(name)).unwrap_or_else(|e| panic!("{name}: {e}"))
     }

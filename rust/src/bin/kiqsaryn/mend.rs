@@ -289,9 +289,11 @@ fn drop_spaces(text: &mut Traced) -> usize {
             i += 1;
             continue;
         }
-        let starts = kept.last().is_none_or(|(b, _)| b",\r\n".contains(b));
-        let ends = text.get(end).is_none_or(|(b, _)| b",\r\n".contains(b));
-        if starts || ends {
+        let (before, behind) = (kept.last().map(|(b, _)| *b), text.get(end).map(|(b, _)| *b));
+        let bounds = |b: Option<u8>| b.is_none_or(|b| b",\r\n".contains(&b));
+        // CR and LF with spaces between them are two line ends, and stay two.
+        let parts_ends = (before, behind) == (Some(b'\r'), Some(b'\n'));
+        if (bounds(before) || bounds(behind)) && !parts_ends {
             n += 1;
         } else {
             kept.extend_from_slice(&text[i..end]);
