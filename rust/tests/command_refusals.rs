@@ -442,3 +442,20 @@ fn only_write_mends() {
         assert_eq!((status(&o), out(&o)), (3, String::new()), "{command}");
     }
 }
+
+// ---- The words about it
+
+/// README.md shows a refusal with its cure as it stands beside the example, and names every option that mends.
+#[test]
+fn the_refusal_in_the_readme_is_the_one_beside_the_example() {
+    let readme = fs::read_to_string(examples().join("../README.md")).expect("the file");
+    let beside = fs::read_to_string(examples().join("habits/semicolons.check.txt")).expect("the output beside it");
+    let lines: String = beside.lines().map(|line| if line.is_empty() { "\n".to_string() } else { format!("    {line}\n") }).collect();
+    assert!(readme.contains(&lines), "{lines}");
+    let help = out(&run(&["write", "--help"], b""));
+    for (_, options) in HABITS {
+        for option in options.split(' ') {
+            assert!(readme.contains(&format!("`{option}`")) && help.contains(option), "{option}");
+        }
+    }
+}

@@ -327,7 +327,7 @@ const WRITE: Command = Command {
         opt("--utf-16", Value::None, "take UTF-16 for plain text"),
         opt("--semicolons", Value::None, "take semicolons for commas, where the trace has no comma"),
         opt("--tabs", Value::None, "take tabs for commas, where the trace has no comma"),
-        opt("--spaces", Value::None, "drop spaces beside commas"),
+        opt("--spaces", Value::None, "drop spaces beside commas and line ends"),
         opt("--blank-end", Value::None, "drop blank lines at the end"),
         TO_FILE,
     ],
