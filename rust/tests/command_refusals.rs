@@ -119,7 +119,7 @@ fn a_number_that_is_not_plain_or_out_of_range_is_named() {
         ("0,write,64,5,10,", "1 8 9", "field: file is 64: files are 0 to 63"),
         ("0,write,1,4294967296,10,", "1 10 11", "field: offset is 4294967296: at most 4294967295"),
         ("0,write,1,0,99999999999999999999999,", "1 12 13", "field: length is 99999999999999999999999: at most 4294967295"),
-        ("0,send,,,,65536", "1 10 11", "field: message is 65536: numbers there are 0 to 65535"),
+        ("0,send,,,,65536", "1 10 11", "field: message is 65536: messages and barriers are 0 to 65535"),
     ] {
         refused("no", record.as_bytes(), 10, spot, found);
     }
@@ -268,6 +268,16 @@ fn a_cure_tells_what_the_mended_trace_comes_to() {
     // The refusal has nothing to do with the blank line at the end.
     let words = told(b"0,open,1,,,\r\n0,Write,1,0,1,\r\n\r\n");
     assert!(!words.contains("recognized:") && words.contains("number 8, at row 2"), "{words}");
+    // Nor has what is no trace to do with its line ends, and a record that is not well formed for another reason.
+    for text in [&b"\x7fELF\x02 \n,\r\0"[..], b"0,\xe9pen,1,,,\n"] {
+        let words = told(text);
+        assert!(!words.contains("recognized:") && words.contains("number 4, at row 1"), "{words}");
+    }
+    let words = told(b"0,open,1,,,\r\n0, Write,1,0,1,\r\n");
+    assert!(
+        words.contains("recognized: spaces beside") && words.ends_with("Mended so, it is refused with 8, at row 2, line 2."),
+        "{words}"
+    );
     let words = told(b"0,open,1,,,\r\n0,write,1,0,1,\r\n\r\n\r\n\r\n");
     assert!(words.contains("recognized: 3 blank lines at the end cure: kiqsaryn write - --header no --blank-end"), "{words}");
     let words = told("0,open,1,,,\n0,wr\u{ee}te,1,0,1,\n".encode_utf16().flat_map(u16::to_le_bytes).collect::<Vec<u8>>().as_slice());
@@ -292,6 +302,12 @@ fn the_other_header_word_is_named_where_the_first_record_reads_so() {
     assert!(words.contains("--header no says that the first record is row 1. It holds the names: say --header yes."), "{words}");
     let words = told("no", b"process,Kind,file,offset,length,message\r\n");
     assert!(!words.contains("It holds the names"), "{words}");
+    // The mended trace is asked too, and the trace stays with the word that was said.
+    let words = told("yes", b"0,open,1,,,\n");
+    let cure = "kiqsaryn write - --header yes --line-ends -o mended.csv Mended so, it is refused with 5, at the header, line 1.";
+    assert!(words.ends_with(&format!("{cure} The first record reads as a row: say --header no.")), "{words}");
+    let words = told("no", NAMES.replace("\r\n", "\n").as_bytes());
+    assert!(words.ends_with("refused with 8, at row 1, line 1. The first record holds the names: say --header yes."), "{words}");
     let pair = Pair::new("words", b"0,open,1,,,\r\n", NAMES.as_bytes());
     let words = flat(&out(&pair.run("join", "no,no", &[])));
     assert!(words.contains("the second trace is row 1. It holds the names: say --headers no,yes."), "{words}");

@@ -2,11 +2,11 @@
 
 use crate::args::Mend;
 use crate::fields::line_and_column;
-use crate::input::{ask, is_of_order, TraceRefused, Which};
+use crate::input::{ask, is_of_order, reads_as, TraceRefused, Which};
 use crate::mend::{mend, recognized, Doings, Done, Habit, Mended};
 use crate::recording::{byte_limit, record, record_start};
 use crate::text::counted;
-use kiqsaryn::{Checked, PROCESSES};
+use kiqsaryn::{Checked, Refusal, PROCESSES};
 use std::fs;
 use std::path::Path;
 
@@ -20,7 +20,8 @@ pub struct Cure {
     pub then: String,
 }
 
-/// The cure of a refused trace, where its record, or the library's answer, is another once the habits that the file shows are mended.
+/// The cure of a refused trace, where the library's answer, or a record that is well formed, is another once the habits that the file shows are
+/// mended.
 pub fn cure(r: &TraceRefused) -> Option<Cure> {
     let stopped = r.mended.is_none() && r.stopped;
     let file = if stopped { whole_part(r) } else { r.file() };
@@ -31,7 +32,8 @@ pub fn cure(r: &TraceRefused) -> Option<Cure> {
     let mended = mend(file.to_vec(), options);
     let (answer, ..) = ask(&mended.text, r.header, r.processes);
     let same_answer = answer == Checked::Refused { refusal: r.refusal, place: r.place };
-    if options == given || same_answer && record(&mended.text, r.header, r.place) == r.record {
+    let same_record = r.refusal == Refusal::Malformed || record(&mended.text, r.header, r.place) == r.record;
+    if options == given || same_answer && same_record {
         return not_mended(r, &not);
     }
     let recognized: Vec<String> = new.map(|habit| in_words(habit, &mended)).collect();
@@ -90,9 +92,19 @@ fn outcome(r: &TraceRefused, mended: &Mended, answer: Checked) -> String {
             let refused = format!("Mended so, it is refused with {}, at {at}, line {line}", refusal.number());
             match r.which != Which::Only && is_of_order(refusal) {
                 true => format!("{refused}, since write takes it by itself. Save it again without the habit."),
-                false => format!("{refused}."),
+                false => format!("{refused}.{}", header_word(r, &mended.text, place)),
             }
         }
+    }
+}
+
+/// Which header word to say where the mended trace is refused at its first record and that reads as the other word says.
+fn header_word(r: &TraceRefused, text: &[u8], place: u32) -> String {
+    let is_first = place == u32::from(!r.header);
+    match is_first && reads_as(record(text, r.header, place), !r.header, r.processes) {
+        true if r.header => format!(" The first record reads as a row: say {}.", r.said_other),
+        true => format!(" The first record holds the names: say {}.", r.said_other),
+        false => String::new(),
     }
 }
 

@@ -203,7 +203,7 @@ fn number(record: &Record, processes: u32) -> Option<Point> {
         (u64::from(FILES - 1), format!("files are 0 to {}", FILES - 1)),
         (LAST_BYTE, format!("at most {LAST_BYTE}")),
         (LAST_BYTE, format!("at most {LAST_BYTE}")),
-        (LAST_MESSAGE, format!("numbers there are 0 to {LAST_MESSAGE}")),
+        (LAST_MESSAGE, format!("messages and barriers are 0 to {LAST_MESSAGE}")),
     ];
     let wrong = |k: usize| {
         let (most, range) = &limits[k];

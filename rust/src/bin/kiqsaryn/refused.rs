@@ -2,7 +2,7 @@
 
 use crate::barriers::{self, is_arrival, listed};
 use crate::check::what_was_read_of_two;
-use crate::cure::cure;
+use crate::cure::{cure, Cure};
 use crate::fields::line_and_column;
 use crate::found::{point, Point};
 use crate::input::{reads_as, row_of, short_names, JoinRefused, Refused, TraceRefused, Which};
@@ -118,17 +118,15 @@ fn trace_report(r: &TraceRefused) -> String {
     s.push_str(&labelled("  answered No: ", r.refusal.question()));
     s.push_str(&format!("  the record:  {}\n", shown(r)));
     s.push_str(&found(r, &wrong));
-    for note in notes(r) {
+    let cure = cure(r);
+    for note in notes(r, cure.is_some()) {
         s.push_str(&labelled("  note:        ", &note));
     }
-    s + &cured(r)
+    s + &cure.map_or(String::new(), cured)
 }
 
 /// The habits of a file that the refusal comes from, and the command that mends them, on a line that a shell takes as it stands.
-fn cured(r: &TraceRefused) -> String {
-    let Some(cure) = cure(r) else {
-        return String::new();
-    };
+fn cured(cure: Cure) -> String {
     let recognized = labelled("  recognized:  ", &cure.recognized);
     match cure.command {
         Some(command) => recognized + &format!("  cure:        {command}\n") + &labelled(&" ".repeat(15), &cure.then),
@@ -174,8 +172,8 @@ fn barriers_of(r: &TraceRefused) -> barriers::Refused {
     barriers::Refused { rows: r.rows.iter().zip(1..).map(numbered).collect(), place: r.place as usize }
 }
 
-/// Facts about the record that help to repair it.
-fn notes(r: &TraceRefused) -> Vec<String> {
+/// Facts about the record that help to repair it. Where there is a cure, the header word is none of them.
+fn notes(r: &TraceRefused, has_cure: bool) -> Vec<String> {
     let mut notes = Vec::new();
     if r.stopped {
         let most = byte_limit(r.header);
@@ -192,6 +190,7 @@ fn notes(r: &TraceRefused) -> Vec<String> {
             r.processes
         )),
         Refusal::Malformed => {}
+        _ if has_cure => {}
         Refusal::Header => notes.push(header_note(r)),
         _ if r.place == 1 && !r.header => notes.push(header_note(r)),
         _ => {}
