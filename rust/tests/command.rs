@@ -13,6 +13,8 @@ use std::process::{Command, Stdio};
 mod args;
 #[path = "../src/bin/kiqsaryn/explain.rs"]
 mod explain;
+#[path = "../src/bin/kiqsaryn/fields.rs"]
+mod fields;
 #[path = "../src/bin/kiqsaryn/input.rs"]
 mod input;
 #[path = "../src/bin/kiqsaryn/mend.rs"]

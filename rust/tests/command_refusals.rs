@@ -54,15 +54,15 @@ fn a_header_is_shown_at_the_first_name_that_differs() {
     refused("yes", b"", 5, "1 0 1", "found: the trace has no byte");
     refused("yes", b"process,Kind,file,offset,length,message\r\n", 5, "1 8 9", "field: name 2 is \"Kind\", not \"kind\"");
     refused("yes", b"process,\"kind\",file,offset,length,tag\r\n", 5, "1 34 35", "field: name 6 is \"tag\", not \"message\"");
-    refused("yes", b"process,kind,file,offset,length\r\n", 5, "1 31 32", "field: 5 fields, and message is missing.");
+    refused("yes", b"process,kind,file,offset,length\r\n", 5, "1 31 32", "found: 5 fields, and message is missing.");
     refused("yes", b"process,kind,file,offset,length,message,time\r\n", 5, "1 39 40", "found: 7 fields. A record has 6.");
 }
 
 #[test]
 fn a_record_with_too_few_or_too_many_fields_is_shown_at_its_end_or_at_the_comma() {
     let text = |record: &str| [NAMES, "0,commit,1,,,\r\n", record].concat().into_bytes();
-    refused("yes", &text("0,read,1,0,10\r\n"), 7, "3 69 14", "field: 5 fields, and message is missing.");
-    refused("yes", &text("0"), 7, "3 57 2", "field: 1 field, and kind is missing.");
+    refused("yes", &text("0,read,1,0,10\r\n"), 7, "3 69 14", "found: 5 fields, and message is missing.");
+    refused("yes", &text("0"), 7, "3 57 2", "found: 1 field, and kind is missing.");
     refused("yes", &text("0,read,1,0,10,,\r\n"), 7, "3 70 15", "found: 7 fields. A record has 6.");
     refused("yes", &text("0,read,\"1,2\",0,10,,9,,\r\n"), 7, "3 74 19", "found: 9 fields. A record has 6.");
     refused("yes", &text("\r\n"), 7, "3 56 1", "found: a blank line");
@@ -415,6 +415,9 @@ fn a_refusal_of_a_mended_text_names_the_place_in_the_file() {
     let wide: Vec<u8> = "\u{feff}0,open,1,,,\r\n0,Close,1,,,".encode_utf16().flat_map(u16::to_le_bytes).collect();
     let told = place(&["--utf-16"], &wide);
     assert!(told.contains("line 2, byte 32 (from 0), column 3 ") && told.contains("the record: 0,Close,1,,,"), "{told}");
+    // A byte order mark has no column.
+    let told = place(&["--mark"], b"\xef\xbb\xbf0,Open,1,,,");
+    assert!(told.contains("line 1, byte 5 (from 0), column 3 "), "{told}");
     // A habit that is left is named with the options that were said.
     let told = place(&["--line-ends"], b"0;open;1;;;\n");
     assert!(told.contains("cure: kiqsaryn write - --header no --line-ends --semicolons -o mended.csv Mended so, the trace is"), "{told}");

@@ -6,6 +6,8 @@
 mod args;
 #[path = "../src/bin/kiqsaryn/explain.rs"]
 mod explain;
+#[path = "../src/bin/kiqsaryn/fields.rs"]
+mod fields;
 #[path = "../src/bin/kiqsaryn/input.rs"]
 mod input;
 #[path = "../src/bin/kiqsaryn/mend.rs"]

@@ -13,6 +13,9 @@ use std::path::Path;
 /// How many names for the mended file are tried, where other files have them.
 const NAMES: usize = 99;
 
+/// What is said in place of the library's answer to a trace that was not read to its end.
+const NOT_READ: &str = "The trace was not read to its end; whether it is accepted once mended is not known.";
+
 /// What was recognized, the command that mends it, and what the mended trace comes to, all in words. Without a command, why none mends it.
 pub struct Cure {
     pub recognized: String,
@@ -37,7 +40,7 @@ pub fn cure(r: &TraceRefused) -> Option<Cure> {
         return not_mended(r, &not);
     }
     let recognized: Vec<String> = new.map(|habit| in_words(habit, &mended)).collect();
-    let then = if stopped { "The trace was not read to its end.".to_string() } else { outcome(r, &mended, answer) };
+    let then = if stopped { NOT_READ.to_string() } else { outcome(r, &mended, answer) };
     Some(Cure { recognized: recognized.join(", "), command: Some(command(r, options)), then })
 }
 

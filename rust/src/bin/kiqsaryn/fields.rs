@@ -109,9 +109,14 @@ pub fn split(text: &[u8], start: usize) -> Record {
     }
 }
 
-/// The line and the column of a byte, both from 1, as an editor shows them: CR LF, LF and CR each end a line. The header's line is counted.
+/// The byte order mark of UTF-8.
+pub const MARK: [u8; 3] = [0xef, 0xbb, 0xbf];
+
+/// The line and the column of a byte, both from 1, as an editor shows them: CR LF, LF and CR each end a line, and a byte order mark has no column.
+/// The header's line is counted.
 pub fn line_and_column(text: &[u8], at: usize) -> (usize, usize) {
-    let (mut line, mut start) = (1, 0);
+    let is_behind_mark = text.starts_with(&MARK) && at >= MARK.len();
+    let (mut line, mut start) = (1, if is_behind_mark { MARK.len() } else { 0 });
     for (i, b) in text.iter().enumerate().take(at) {
         let ends = match b {
             b'\n' => true,

@@ -92,7 +92,7 @@ fn names(text: &[u8], record: &Record) -> Option<Point> {
             field_at(record, k, Some(found))
         }
         None if record.fault.is_some() => None,
-        None => Some(not_six(record)),
+        None => Some(Point { field: None, ..not_six(record) }),
     }
 }
 

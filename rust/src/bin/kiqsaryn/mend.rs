@@ -2,6 +2,7 @@
 //! mended text goes to the library as any other.
 
 use crate::args::Mend;
+use crate::fields::MARK;
 use crate::text::counted;
 
 /// A habit of the programs that save a trace, in the order in which they are mended.
@@ -228,9 +229,9 @@ fn quoted(text: &Traced) -> Vec<bool> {
 }
 
 fn drop_mark(text: &mut Traced) -> usize {
-    let has_mark = text.iter().map(|(b, _)| *b).take(3).eq([0xef, 0xbb, 0xbf]);
+    let has_mark = text.iter().map(|(b, _)| *b).take(MARK.len()).eq(MARK);
     if has_mark {
-        text.drain(..3);
+        text.drain(..MARK.len());
     }
     usize::from(has_mark)
 }

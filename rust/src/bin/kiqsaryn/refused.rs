@@ -137,7 +137,7 @@ fn cured(cure: Cure) -> String {
 /// What is wrong at the place, and the rows that it is about.
 fn found(r: &TraceRefused, wrong: &Place) -> String {
     let label = match wrong.field {
-        Some(_) if r.refusal != Refusal::Malformed => "  field:       ",
+        Some(_) if ![Refusal::Malformed, Refusal::NotSixFields].contains(&r.refusal) => "  field:       ",
         _ => "  found:       ",
     };
     match (r.refusal, &wrong.found) {
