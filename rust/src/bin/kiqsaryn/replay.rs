@@ -1,20 +1,23 @@
-//! `replay`: what each read of a file gets under a model, next to one plain file.
+//! `replay`: what each read gets under a model, next to one plain file. The reads are written as they come, and none is kept.
 
 use crate::args::Reads;
 use crate::input::{Recorded, Trace};
+use crate::json;
 use crate::output::Failed;
 use crate::recording::Recording;
-use crate::text::{bytes_of, counted, labelled, refusal_of_library};
+use crate::text::{bytes_of, counted, describe, labelled, letters, refusal_of_library, span};
 use kiqsaryn::{make, make_plain, replay, replay_plain, Header, Model, Refusal, Replayed, Row, READ, SEND, WRITE};
-use std::fmt::{self, Write};
-use std::io;
+use std::collections::BTreeMap;
+use std::io::{self, Write};
+
+// ---- The library's answers
 
 /// Bytes with one row number; 0 for bytes never written.
 #[derive(Clone, Copy, Debug, PartialEq, Eq)]
-pub struct Piece {
-    pub start: u32,
-    pub length: u32,
-    pub row: u32,
+struct Piece {
+    start: u32,
+    length: u32,
+    row: u32,
 }
 
 /// A read and its pieces.
@@ -23,8 +26,38 @@ struct Answered {
     pieces: Vec<Piece>,
 }
 
+/// Bytes of a read that one row wrote under the model, and one in the plain file; 0 for bytes never written.
+#[derive(Clone, Copy, Debug, PartialEq, Eq)]
+pub struct PieceOf {
+    pub start: u32,
+    pub length: u32,
+    pub row: u32,
+    pub plain: u32,
+}
+
+impl PieceOf {
+    pub fn is_stale(&self) -> bool {
+        self.row != self.plain
+    }
+}
+
+/// A read, and what it gets.
+#[derive(Clone, Debug, PartialEq, Eq)]
+pub struct ReadAnswer {
+    pub number: u32,
+    pub row: Row,
+    pub pieces: Vec<PieceOf>,
+}
+
+impl ReadAnswer {
+    /// How many bytes are not those of the plain file.
+    pub fn stale(&self) -> u64 {
+        self.pieces.iter().filter(|piece| piece.is_stale()).map(|piece| u64::from(piece.length)).sum()
+    }
+}
+
 /// Numbers of an answer slice, where one read does not need more.
-const ANSWER: usize = 1 << 18;
+const ANSWER: usize = 1 << 16;
 
 /// A machine (with its model) or a plain file, and how far it has come.
 struct Runner<'a> {
@@ -52,10 +85,10 @@ impl<'a> Runner<'a> {
 
     /// Goes on up to row `n`, or until the answer slice is full, and takes out the reads on the way.
     fn go(&mut self, n: u32, reads: &mut Vec<Answered>) -> Result<(), String> {
-        let (first, rows) = (self.done, self.trace.rows().rows);
+        let (first, rows) = (self.done, self.trace.rows());
         let Replayed { rows: reached, refusal } = match self.model {
-            Some(m) => replay(m.number(), self.header, &mut self.maps, rows, first, n, &mut self.counts, &mut self.out),
-            None => replay_plain(self.header, &mut self.maps, rows, first, n, &mut self.counts, &mut self.out),
+            Some(m) => replay(m.number(), self.header, &mut self.maps, rows.rows, first, n, &mut self.counts, &mut self.out),
+            None => replay_plain(self.header, &mut self.maps, rows.rows, first, n, &mut self.counts, &mut self.out),
         };
         match refusal {
             Some(r) if r != Refusal::AnswerSpace || reached <= first => {
@@ -68,7 +101,7 @@ impl<'a> Runner<'a> {
             [start, length, row] => Piece { start: *start, length: *length, row: *row },
             _ => Piece { start: 0, length: 0, row: 0 },
         });
-        for (number, row) in self.trace.rows().all().filter(|(k, _)| (first + 1..=reached).contains(k)) {
+        for (number, row) in (first + 1..=reached).filter_map(|k| Some((k, rows.row(k)?))) {
             if row.kind == READ && row.file == self.header.file {
                 let count = self.counts.get(number as usize - 1).copied().unwrap_or(0);
                 reads.push(Answered { read: (number, row), pieces: pieces.by_ref().take(count as usize).collect() });
@@ -79,14 +112,14 @@ impl<'a> Runner<'a> {
     }
 }
 
-/// Two lists of pieces of one range as one: start, length, and both row numbers.
-fn joined(a: &[Piece], b: &[Piece]) -> Vec<(Piece, u32)> {
+/// Two lists of pieces of one range as one.
+fn joined(a: &[Piece], b: &[Piece]) -> Vec<PieceOf> {
     let (mut a, mut b) = (a.iter().copied(), b.iter().copied());
     let (mut x, mut y) = (a.next(), b.next());
     let mut all = Vec::new();
     while let (Some(p), Some(q)) = (x, y) {
         let length = p.length.min(q.length);
-        all.push((Piece { length, ..p }, q.row));
+        all.push(PieceOf { start: p.start, length, row: p.row, plain: q.row });
         let rest = |r: Piece| Piece { start: r.start.saturating_add(length), length: r.length - length, row: r.row };
         x = if p.length == length { a.next() } else { Some(rest(p)) };
         y = if q.length == length { b.next() } else { Some(rest(q)) };
@@ -94,19 +127,169 @@ fn joined(a: &[Piece], b: &[Piece]) -> Vec<(Piece, u32)> {
     all
 }
 
-/// The counts of the last line.
-#[derive(Default)]
+/// The rows that name a file.
+fn of_file(trace: &Trace, file: u32) -> impl Iterator<Item = (u32, Row)> + '_ {
+    trace.rows().all().filter(move |(_, row)| row.kind < SEND && row.file == file)
+}
+
+/// Puts the rows of a file up to row `n` to a machine of the model and to a plain file, and visits each read with what it gets. A part of the answers
+/// is held at a time, so that the memory does not grow with them.
+fn each_read_up_to(
+    n: u32,
+    (trace, file, model): (&Trace, u32, Model),
+    visit: &mut dyn FnMut(&ReadAnswer) -> Result<(), Failed>,
+) -> Result<(), Failed> {
+    let writes = of_file(trace, file).filter(|(_, row)| row.kind == WRITE).count();
+    // A write makes at most two runs more of a map.
+    let map_space = u32::try_from(writes).ok().and_then(|w| w.checked_mul(2)).ok_or_else(|| "too many writes".to_string())?.max(1);
+    let header = Header { process_limit: trace.rows().processes, file, map_space };
+    let mut under = Runner::new(trace, Some(model), header)?;
+    let mut plain = Runner::new(trace, None, header)?;
+    while under.done < n {
+        let (mut ours, mut theirs) = (Vec::new(), Vec::new());
+        under.go(n, &mut ours)?;
+        while plain.done < under.done {
+            plain.go(under.done, &mut theirs)?;
+        }
+        for (a, b) in ours.iter().zip(&theirs) {
+            let (number, row) = a.read;
+            visit(&ReadAnswer { number, row, pieces: joined(&a.pieces, &b.pieces) })?;
+        }
+    }
+    Ok(())
+}
+
+/// Visits each read of a file, in the order of the trace, with what it gets under a model and in one plain file.
+pub fn each_read(trace: &Trace, file: u32, model: Model, visit: &mut dyn FnMut(&ReadAnswer) -> Result<(), Failed>) -> Result<(), Failed> {
+    each_read_up_to(trace.rows().n, (trace, file, model), visit)
+}
+
+/// What the read of this number gets under a model; none where the row is no read.
+pub fn one_read(trace: &Trace, number: u32, model: Model) -> Result<Option<ReadAnswer>, Failed> {
+    let (mut found, n) = (None, number.min(trace.rows().n));
+    let file = trace.rows().row(n).map_or(0, |row| row.file);
+    each_read_up_to(n, (trace, file, model), &mut |read| {
+        if read.number == number {
+            found = Some(read.clone());
+        }
+        Ok(())
+    })?;
+    Ok(found)
+}
+
+// ---- Which reads are shown
+
+/// The files that rows name, with how many rows each has.
+fn files(trace: &Trace) -> BTreeMap<u32, u64> {
+    let mut files = BTreeMap::new();
+    for (_, row) in trace.rows().all().filter(|(_, row)| row.kind < SEND) {
+        *files.entry(row.file).or_insert(0) += 1;
+    }
+    files
+}
+
+/// "the trace", "the join".
+fn order_of(trace: &Trace) -> &'static str {
+    match &trace.source {
+        Recorded::Alone(_) => "trace",
+        Recorded::Joined(_) => "join",
+    }
+}
+
+/// The read of this number. An error is a sentence that says what the row is.
+pub fn read_at(trace: &Trace, number: u32) -> Result<Row, String> {
+    let rows = trace.rows();
+    match rows.row(number) {
+        None => {
+            let there = format!("the {} has {}", order_of(trace), counted(u64::from(rows.n), "row"));
+            Err(format!("row {number} is not there: {there}"))
+        }
+        Some(row) if row.kind != READ => Err(format!("{} is no read: {}", trace.row_name(number), describe(row))),
+        Some(row) => Ok(row),
+    }
+}
+
+/// "1, 2 and 5".
+fn list_of(words: &[String]) -> String {
+    match words {
+        [] => String::new(),
+        [one] => one.clone(),
+        [first @ .., last] => format!("{} and {last}", first.join(", ")),
+    }
+}
+
+/// That no row names this file, and which files rows name.
+fn no_row_of(trace: &Trace, file: u32) -> String {
+    let there: Vec<String> = files(trace).keys().map(u32::to_string).collect();
+    let order = order_of(trace);
+    match there.len() {
+        0 => format!("no row is of file {file}; the {order} has no row of any file"),
+        1 => format!("no row is of file {file}; the {order} has rows of file {}", list_of(&there)),
+        _ => format!("no row is of file {file}; the {order} has rows of files {}", list_of(&there)),
+    }
+}
+
+/// The files whose reads are counted, with how many rows each has: the one that is said, that of the row that is said, or all. An error is a
+/// sentence.
+fn chosen_files(trace: &Trace, reads: &Reads) -> Result<Vec<(u32, u64)>, String> {
+    let all = files(trace);
+    if let Some(file) = reads.file.filter(|file| !all.contains_key(file)) {
+        return Err(no_row_of(trace, file));
+    }
+    let of_row = match reads.row {
+        None => None,
+        Some(number) => Some((number, read_at(trace, number)?)),
+    };
+    if let (Some(file), Some((number, row))) = (reads.file, of_row) {
+        if row.file != file {
+            return Err(format!("{} is no read of file {file}: {}", trace.row_name(number), describe(row)));
+        }
+    }
+    let only = reads.file.or(of_row.map(|(_, row)| row.file));
+    Ok(all.into_iter().filter(|(file, _)| only.is_none_or(|only| *file == only)).collect())
+}
+
+/// Whether a read is among those that are shown.
+fn is_shown(reads: &Reads, read: &ReadAnswer) -> bool {
+    reads.row.is_none_or(|row| row == read.number) && (!reads.stale || read.stale() > 0)
+}
+
+/// Whether the reads of the files are shown in part alone.
+fn is_part(reads: &Reads) -> bool {
+    reads.stale || reads.row.is_some()
+}
+
+/// Reads counted.
+#[derive(Clone, Copy, Default)]
 struct Totals {
     reads: u64,
+    shown: u64,
     bytes: u64,
     stale: u64,
 }
 
-/// Fills a line up to a column.
-fn pad(s: &mut String, line: usize, column: usize) {
-    let at = s.len().saturating_sub(line);
-    s.extend(std::iter::repeat_n(' ', column.saturating_sub(at).max(1)));
+impl Totals {
+    fn count(&mut self, read: &ReadAnswer, shown: bool) {
+        self.reads += 1;
+        self.shown += u64::from(shown);
+        self.bytes += u64::from(read.row.length);
+        self.stale += read.stale();
+    }
+
+    fn add(&mut self, more: Totals) {
+        self.reads += more.reads;
+        self.shown += more.shown;
+        self.bytes += more.bytes;
+        self.stale += more.stale;
+    }
+
+    /// How many reads and bytes, behind the word that says of what.
+    fn line(&self, reads: &str) -> String {
+        format!("{reads}: {}, bytes read: {}, stale bytes: {}\n", self.reads, self.bytes, self.stale)
+    }
 }
+
+// ---- In words
 
 /// The row that wrote a piece.
 fn writer(trace: &Trace, row: u32) -> String {
@@ -116,130 +299,165 @@ fn writer(trace: &Trace, row: u32) -> String {
     }
 }
 
-/// A line of a table: the bytes, the row that wrote them under the model, and the one in the plain file.
-struct Line {
-    piece: Piece,
-    plain: u32,
-    writers: [String; 2],
-}
-
-impl Line {
-    fn is_stale(&self) -> bool {
-        self.piece.row != self.plain
+/// A table of the pieces of a read: the bytes, the row that wrote them under the model, the one in the plain file, and a mark where they differ. The
+/// columns are as far apart as their heads and their longest entries need.
+pub fn table(trace: &Trace, row: Row, head: &str, pieces: &[PieceOf], mark: &dyn Fn(&PieceOf) -> String) -> String {
+    if pieces.is_empty() {
+        return String::new();
     }
-}
-
-/// Puts a line, its entries at these columns.
-fn put_line(s: &mut String, line: &Line, [first, second, third]: [usize; 3]) -> fmt::Result {
-    let (at, piece) = (s.len(), line.piece);
-    write!(s, "  {}", piece.start)?;
-    if piece.length > 1 {
-        write!(s, " to {}", u64::from(piece.start) + u64::from(piece.length) - 1)?;
-    }
-    pad(s, at, first);
-    s.push_str(&line.writers[0]);
-    pad(s, at, second);
-    s.push_str(&line.writers[1]);
-    if line.is_stale() {
-        pad(s, at, third);
-        s.push_str("STALE");
-    }
-    s.push('\n');
-    Ok(())
-}
-
-/// The columns behind the bytes start here: as far apart as their heads and their longest entries need.
-fn columns(row: Row, lines: &[Line]) -> [usize; 3] {
+    let writers: Vec<[String; 2]> = pieces.iter().map(|p| [writer(trace, p.row), writer(trace, p.plain)]).collect();
+    let longest = |k: usize, least: &str| writers.iter().map(|w| letters(&w[k])).max().unwrap_or(0).max(least.len());
     let digits = (u64::from(row.offset) + u64::from(row.length)).to_string().len();
-    let longest = |k: usize| lines.iter().map(|l| l.writers[k].len()).max().unwrap_or(0);
-    let first = "  bytes  ".len().max("   to   ".len() + 2 * digits);
-    let second = first + longest(0).max("unwritten".len()) + 2;
-    [first, second, second + longest(1).max("plain file".len()) + 2]
+    let first = "bytes".len().max(" to ".len() + 2 * digits);
+    let (second, third) = (longest(0, "unwritten"), longest(1, "plain file"));
+    let mut s = format!("  {:first$}  {head:second$}  plain file\n", "bytes");
+    for (piece, [ours, theirs]) in pieces.iter().zip(&writers) {
+        let bytes = span(piece.start, piece.length);
+        match piece.is_stale() {
+            true => s.push_str(&format!("  {bytes:first$}  {ours:second$}  {theirs:third$}  {}\n", mark(piece))),
+            false => s.push_str(&format!("  {bytes:first$}  {ours:second$}  {theirs}\n")),
+        }
+    }
+    s
 }
 
-/// A read: its bytes, the row that wrote them under the model, and the one in the plain file.
-fn table(s: &mut String, trace: &Trace, model: Model, ours: &Answered, theirs: &Answered, totals: &mut Totals) -> fmt::Result {
-    let (number, row) = ours.read;
-    totals.reads += 1;
-    totals.bytes += u64::from(row.length);
-    let lines: Vec<Line> = joined(&ours.pieces, &theirs.pieces)
-        .into_iter()
-        .map(|(piece, plain)| Line { piece, plain, writers: [writer(trace, piece.row), writer(trace, plain)] })
-        .collect();
-    let [first, second, third] = columns(row, &lines);
-    writeln!(s, "Row {number}{}: process {} reads {}", trace.own_behind(number), row.process, bytes_of(row.offset, row.length))?;
-    if row.length > 0 {
-        writeln!(s, "{:first$}{:width$}plain file", "  bytes", model.name(), width = second - first)?;
-    }
-    for line in &lines {
-        put_line(s, line, [first, second, third])?;
-        totals.stale += if line.is_stale() { u64::from(line.piece.length) } else { 0 };
-    }
-    s.push('\n');
-    Ok(())
+/// Writes a read and what it gets.
+fn put_read(out: &mut impl Write, trace: &Trace, model: Model, read: &ReadAnswer) -> io::Result<()> {
+    let (number, row) = (read.number, read.row);
+    writeln!(out, "Row {number}{}: process {} reads {}", trace.own_behind(number), row.process, bytes_of(row.offset, row.length))?;
+    writeln!(out, "{}", table(trace, row, model.name(), &read.pieces, &|_| "STALE".to_string()))
 }
 
 /// The traces and their rows, and whether their order is that of a trace or of a join.
 pub fn heading(trace: &Trace) -> (String, &'static str) {
     let line = |label: &str, r: &Recording| format!("{label}: {} ({})\n", r.name, counted(u64::from(r.n), "row"));
-    match &trace.source {
-        Recorded::Alone(recording) => (line("Trace", recording), "trace"),
+    let lines = match &trace.source {
+        Recorded::Alone(recording) => line("Trace", recording),
         Recorded::Joined(join) => {
             let [first, second] = &join.recordings;
-            (line("First trace", first) + &line("Second trace", second), "join")
+            line("First trace", first) + &line("Second trace", second)
         }
-    }
+    };
+    (lines, order_of(trace))
 }
 
-/// The last lines: what STALE means, which order this is, and the counts.
-fn ending(trace: &Trace, totals: &Totals) -> String {
+/// What STALE means, if there is such a byte, and which order this is.
+pub fn meaning(trace: &Trace, stale: bool) -> String {
     let mut s = String::new();
-    if totals.stale > 0 {
+    if stale {
         s.push_str(&labelled("", "STALE: the read does not get the bytes that one plain file would give it."));
     }
     let order = match &trace.source {
         Recorded::Alone(_) => "recorded order",
         Recorded::Joined(_) => "joined order",
     };
-    s.push_str(&labelled("", &format!("This is the {order} alone. 'kiqsaryn check' judges every allowed order.")));
-    s.push_str(&format!("Reads: {}, bytes read: {}, stale bytes: {}\n", totals.reads, totals.bytes, totals.stale));
-    s
+    s + &labelled("", &format!("This is the {order} alone. 'kiqsaryn check' judges every allowed order."))
 }
 
-/// Writes what the reads returned.
-pub fn put(out: &mut impl io::Write, trace: &Trace, reads: &Reads, model: Model) -> Result<(), Failed> {
-    let words = report(trace, reads.file.unwrap_or(0), model)?;
-    Ok(out.write_all(words.as_bytes())?)
-}
-
-/// Writes what the reads returned, as one JSON object.
-pub fn put_json(out: &mut impl io::Write, _trace: &Trace, _reads: &Reads, _model: Model) -> Result<(), Failed> {
-    Ok(out.write_all(b"{}")?)
-}
-
-/// The whole replay. An error is a sentence.
-fn report(trace: &Trace, file: u32, model: Model) -> Result<String, String> {
-    let rows = trace.rows();
-    let of_file = || rows.all().filter(move |(_, r)| r.kind < SEND && r.file == file);
-    let writes = of_file().filter(|(_, r)| r.kind == WRITE).count();
-    let map_space = u32::try_from(writes).ok().and_then(|w| w.checked_mul(2)).ok_or("too many writes")?.max(1);
-    let header = Header { process_limit: rows.processes, file, map_space };
-    let mut under = Runner::new(trace, Some(model), header)?;
-    let mut plain = Runner::new(trace, None, header)?;
-
-    let (mut s, order) = heading(trace);
-    let of_this = counted(of_file().count() as u64, "row");
-    s.push_str(&format!("File {file} under {}: {of_this} of this file, in the order of the {order}\n\n", model.name()));
-    let mut totals = Totals::default();
-    while under.done < rows.n {
-        let (mut ours, mut theirs) = (Vec::new(), Vec::new());
-        under.go(rows.n, &mut ours)?;
-        while plain.done < under.done {
-            plain.go(under.done, &mut theirs)?;
-        }
-        for (a, b) in ours.iter().zip(&theirs) {
-            table(&mut s, trace, model, a, b, &mut totals).map_err(|e| e.to_string())?;
-        }
+/// The last lines: how many reads are shown, where not all may be, and the counts of the chosen files, whatever is shown of them.
+fn ending(reads: &Reads, files: usize, totals: &Totals) -> String {
+    let mut s = String::new();
+    if is_part(reads) {
+        s.push_str(&format!("Shown: {} of {}.\n", totals.shown, counted(totals.reads, "read")));
     }
-    Ok(s + &ending(trace, &totals))
+    s + &match files {
+        1 => totals.line("Reads"),
+        _ => totals.line(&format!("Files: {files}, reads")),
+    }
+}
+
+/// Writes the reads of one file that are shown. Where a part of several files is shown, one without such a read has no heading.
+fn put_file(out: &mut impl Write, trace: &Trace, reads: &Reads, model: Model, (file, n): (u32, u64), only: bool) -> Result<Totals, Failed> {
+    let head =
+        format!("File {file} under {}: {} of this file, in the order of the {}\n\n", model.name(), counted(n, "row"), order_of(trace));
+    let (mut totals, mut headed) = (Totals::default(), false);
+    if only || !is_part(reads) {
+        write!(out, "{head}")?;
+        headed = true;
+    }
+    each_read(trace, file, model, &mut |read| {
+        let shown = is_shown(reads, read);
+        totals.count(read, shown);
+        if shown && !std::mem::replace(&mut headed, true) {
+            write!(out, "{head}")?;
+        }
+        if shown {
+            put_read(out, trace, model, read)?;
+        }
+        Ok(())
+    })?;
+    if headed && !only {
+        writeln!(out, "{}", totals.line(&format!("Reads of file {file}")))?;
+    }
+    Ok(totals)
+}
+
+/// Writes the reads that are shown, file by file, and counts all of the chosen files. Where the choice is wrong, nothing is written.
+pub fn put(out: &mut impl Write, trace: &Trace, reads: &Reads, model: Model) -> Result<(), Failed> {
+    let files = chosen_files(trace, reads)?;
+    write!(out, "{}", heading(trace).0)?;
+    if files.len() != 1 {
+        writeln!(out)?;
+    }
+    let mut totals = Totals::default();
+    for file in &files {
+        totals.add(put_file(out, trace, reads, model, *file, files.len() == 1)?);
+    }
+    write!(out, "{}{}", meaning(trace, totals.stale > 0), ending(reads, files.len(), &totals))?;
+    Ok(())
+}
+
+// ---- As JSON
+
+/// The names of the traces.
+fn name(trace: &Trace) -> String {
+    match &trace.source {
+        Recorded::Alone(recording) => recording.name.clone(),
+        Recorded::Joined(join) => join.recordings.each_ref().map(|r| r.name.as_str()).join(" and "),
+    }
+}
+
+/// A piece as a JSON object. A piece has at least one byte.
+fn json_piece(piece: &PieceOf) -> String {
+    let row = |number: u32| json::maybe((number > 0).then_some(number));
+    json::object(&[
+        ("first", piece.start.to_string()),
+        ("last", (u64::from(piece.start) + u64::from(piece.length).saturating_sub(1)).to_string()),
+        ("row", row(piece.row)),
+        ("plain", row(piece.plain)),
+        ("stale", piece.is_stale().to_string()),
+    ])
+}
+
+/// A read and what it gets as a JSON object.
+fn json_read(read: &ReadAnswer) -> String {
+    let row = read.row;
+    json::object(&[
+        ("row", read.number.to_string()),
+        ("process", row.process.to_string()),
+        ("file", row.file.to_string()),
+        ("offset", row.offset.to_string()),
+        ("length", row.length.to_string()),
+        ("pieces", json::list(read.pieces.iter().map(json_piece))),
+    ])
+}
+
+/// Writes the reads that are shown, and the counts of the chosen files, as one JSON object. Where the choice is wrong, nothing is written.
+pub fn put_json(out: &mut impl Write, trace: &Trace, reads: &Reads, model: Model) -> Result<(), Failed> {
+    let files = chosen_files(trace, reads)?;
+    write!(out, "{{\"trace\":{},\"model\":{},\"reads\":[", json::string(&name(trace)), json::string(model.name()))?;
+    let mut totals = Totals::default();
+    for (file, _) in &files {
+        each_read(trace, *file, model, &mut |read| {
+            let shown = is_shown(reads, read);
+            if shown {
+                write!(out, "{}\n{}", if totals.shown > 0 { "," } else { "" }, json_read(read))?;
+            }
+            totals.count(read, shown);
+            Ok(())
+        })?;
+    }
+    let counts = [("reads", totals.reads), ("shown", totals.shown), ("bytes", totals.bytes), ("stale", totals.stale)];
+    write!(out, "],\n\"counts\":{}}}", json::object(&counts.map(|(name, count)| (name, count.to_string()))))?;
+    Ok(())
 }
