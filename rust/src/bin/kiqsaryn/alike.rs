@@ -60,6 +60,16 @@ impl<'a> Lacks<'a> {
         Lacks { rows, publish, refresh }
     }
 
+    /// The first row behind a row by which its process publishes its file; the row itself where no row is asked for.
+    pub fn publish(&self, row: u32) -> Option<u32> {
+        *self.publish.get(row as usize)?
+    }
+
+    /// The last row before a row by which its process refreshes its file; the row itself where no row is asked for.
+    pub fn refresh(&self, row: u32) -> Option<u32> {
+        *self.refresh.get(row as usize)?
+    }
+
     /// What a race lacks; `None` for numbers of no rows.
     pub fn of(&self, earlier: u32, later: u32) -> Option<Lack> {
         let row = self.rows.row(earlier)?;

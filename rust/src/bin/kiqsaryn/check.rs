@@ -60,7 +60,7 @@ fn shown(label: &str, record: &[u8], row: Option<Row>, own: Option<String>) -> S
 }
 
 /// A row of a trace, shown under its number.
-fn shown_row(trace: &Trace, number: u32) -> String {
+pub fn shown_row(trace: &Trace, number: u32) -> String {
     shown(&format!("row {number}"), trace.record(number), trace.rows().row(number), trace.own_name(number))
 }
 

@@ -19,6 +19,7 @@ mod manual;
 mod mend;
 mod messages;
 mod near;
+mod newer;
 mod output;
 mod posted;
 mod races;

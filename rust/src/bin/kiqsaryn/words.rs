@@ -12,7 +12,7 @@ pub struct Words {
 }
 
 /// "close", "close or sync".
-fn one_of(kinds: &[u32]) -> String {
+pub fn one_of(kinds: &[u32]) -> String {
     let names: Vec<&str> = kinds.iter().filter_map(|k| KINDS.get(*k as usize).copied()).collect();
     names.join(" or ")
 }
@@ -22,7 +22,7 @@ fn kind_name(row: Row) -> &'static str {
 }
 
 /// The row's kind, where it could be one of two.
-fn which(rows: &Rows, number: u32, kinds: &[u32]) -> Option<String> {
+pub fn which(rows: &Rows, number: u32, kinds: &[u32]) -> Option<String> {
     let row = rows.row(number)?;
     Some(if kinds.len() > 1 { format!(" ({})", kind_name(row)) } else { String::new() })
 }
