@@ -57,7 +57,7 @@ impl ReadAnswer {
 }
 
 /// Numbers of an answer slice, where one read does not need more.
-const ANSWER: usize = 1 << 16;
+const ANSWER: usize = 1 << 18;
 
 /// A machine (with its model) or a plain file, and how far it has come.
 struct Runner<'a> {
@@ -83,8 +83,8 @@ impl<'a> Runner<'a> {
         Ok(Runner { trace, model, header, maps, counts: vec![0; trace.rows().n as usize], out: vec![0; answer], done: 0 })
     }
 
-    /// Goes on up to row `n`, or until the answer slice is full, and takes out the reads on the way.
-    fn go(&mut self, n: u32, reads: &mut Vec<Answered>) -> Result<(), String> {
+    /// Goes on up to row `n`, or until the answer slice is full, and gives the reads on the way.
+    fn go(&mut self, n: u32) -> Result<Vec<Answered>, String> {
         let (first, rows) = (self.done, self.trace.rows());
         let Replayed { rows: reached, refusal } = match self.model {
             Some(m) => replay(m.number(), self.header, &mut self.maps, rows.rows, first, n, &mut self.counts, &mut self.out),
@@ -101,6 +101,7 @@ impl<'a> Runner<'a> {
             [start, length, row] => Piece { start: *start, length: *length, row: *row },
             _ => Piece { start: 0, length: 0, row: 0 },
         });
+        let mut reads = Vec::new();
         for (number, row) in (first + 1..=reached).filter_map(|k| Some((k, rows.row(k)?))) {
             if row.kind == READ && row.file == self.header.file {
                 let count = self.counts.get(number as usize - 1).copied().unwrap_or(0);
@@ -108,7 +109,7 @@ impl<'a> Runner<'a> {
             }
         }
         self.done = reached;
-        Ok(())
+        Ok(reads)
     }
 }
 
@@ -146,14 +147,13 @@ fn each_read_up_to(
     let mut under = Runner::new(trace, Some(model), header)?;
     let mut plain = Runner::new(trace, None, header)?;
     while under.done < n {
-        let (mut ours, mut theirs) = (Vec::new(), Vec::new());
-        under.go(n, &mut ours)?;
+        let mut ours = under.go(n)?.into_iter();
         while plain.done < under.done {
-            plain.go(under.done, &mut theirs)?;
-        }
-        for (a, b) in ours.iter().zip(&theirs) {
-            let (number, row) = a.read;
-            visit(&ReadAnswer { number, row, pieces: joined(&a.pieces, &b.pieces) })?;
+            // The plain file may have more pieces, so that it comes to the same row in several steps.
+            for (theirs, ours) in plain.go(under.done)?.iter().zip(&mut ours) {
+                let (number, row) = ours.read;
+                visit(&ReadAnswer { number, row, pieces: joined(&ours.pieces, &theirs.pieces) })?;
+            }
         }
     }
     Ok(())
@@ -299,6 +299,12 @@ fn writer(trace: &Trace, row: u32) -> String {
     }
 }
 
+/// Puts an entry, filled up to a width and with two spaces behind it.
+fn put_entry(s: &mut String, entry: &str, width: usize) {
+    s.push_str(entry);
+    s.extend(std::iter::repeat_n(' ', (width + "  ".len()).saturating_sub(letters(entry))));
+}
+
 /// A table of the pieces of a read: the bytes, the row that wrote them under the model, the one in the plain file, and a mark where they differ. The
 /// columns are as far apart as their heads and their longest entries need.
 pub fn table(trace: &Trace, row: Row, head: &str, pieces: &[PieceOf], mark: &dyn Fn(&PieceOf) -> String) -> String {
@@ -312,11 +318,17 @@ pub fn table(trace: &Trace, row: Row, head: &str, pieces: &[PieceOf], mark: &dyn
     let (second, third) = (longest(0, "unwritten"), longest(1, "plain file"));
     let mut s = format!("  {:first$}  {head:second$}  plain file\n", "bytes");
     for (piece, [ours, theirs]) in pieces.iter().zip(&writers) {
-        let bytes = span(piece.start, piece.length);
+        s.push_str("  ");
+        put_entry(&mut s, &span(piece.start, piece.length), first);
+        put_entry(&mut s, ours, second);
         match piece.is_stale() {
-            true => s.push_str(&format!("  {bytes:first$}  {ours:second$}  {theirs:third$}  {}\n", mark(piece))),
-            false => s.push_str(&format!("  {bytes:first$}  {ours:second$}  {theirs}\n")),
+            true => put_entry(&mut s, theirs, third),
+            false => s.push_str(theirs),
         }
+        if piece.is_stale() {
+            s.push_str(&mark(piece));
+        }
+        s.push('\n');
     }
     s
 }
@@ -417,29 +429,23 @@ fn name(trace: &Trace) -> String {
     }
 }
 
-/// A piece as a JSON object. A piece has at least one byte.
-fn json_piece(piece: &PieceOf) -> String {
-    let row = |number: u32| json::maybe((number > 0).then_some(number));
-    json::object(&[
-        ("first", piece.start.to_string()),
-        ("last", (u64::from(piece.start) + u64::from(piece.length).saturating_sub(1)).to_string()),
-        ("row", row(piece.row)),
-        ("plain", row(piece.plain)),
-        ("stale", piece.is_stale().to_string()),
-    ])
+/// A row number in JSON; null for bytes never written.
+fn json_row(number: u32) -> String {
+    json::maybe((number > 0).then_some(number))
 }
 
-/// A read and what it gets as a JSON object.
-fn json_read(read: &ReadAnswer) -> String {
-    let row = read.row;
-    json::object(&[
-        ("row", read.number.to_string()),
-        ("process", row.process.to_string()),
-        ("file", row.file.to_string()),
-        ("offset", row.offset.to_string()),
-        ("length", row.length.to_string()),
-        ("pieces", json::list(read.pieces.iter().map(json_piece))),
-    ])
+/// Writes a read and what it gets as a JSON object. A piece has at least one byte.
+fn put_json_read(out: &mut impl Write, ReadAnswer { number, row, pieces }: &ReadAnswer) -> io::Result<()> {
+    write!(out, "{{\"row\":{number},\"process\":{},\"file\":{},", row.process, row.file)?;
+    write!(out, "\"offset\":{},\"length\":{},\"pieces\":[", row.offset, row.length)?;
+    let mut comma = "";
+    for piece in pieces {
+        let last = u64::from(piece.start) + u64::from(piece.length).saturating_sub(1);
+        write!(out, "{comma}{{\"first\":{},\"last\":{last},", piece.start)?;
+        write!(out, "\"row\":{},\"plain\":{},\"stale\":{}}}", json_row(piece.row), json_row(piece.plain), piece.is_stale())?;
+        comma = ",";
+    }
+    write!(out, "]}}")
 }
 
 /// Writes the reads that are shown, and the counts of the chosen files, as one JSON object. Where the choice is wrong, nothing is written.
@@ -451,7 +457,8 @@ pub fn put_json(out: &mut impl Write, trace: &Trace, reads: &Reads, model: Model
         each_read(trace, *file, model, &mut |read| {
             let shown = is_shown(reads, read);
             if shown {
-                write!(out, "{}\n{}", if totals.shown > 0 { "," } else { "" }, json_read(read))?;
+                writeln!(out, "{}", if totals.shown > 0 { "," } else { "" })?;
+                put_json_read(out, read)?;
             }
             totals.count(read, shown);
             Ok(())
