@@ -233,8 +233,11 @@ impl Section<'_> {
             Some(place) if groups.len() > 1 => format!("STALE, reason {}", place + 1),
             _ => "STALE".to_string(),
         };
-        let share = format!("{} of {} stale", read.stale(), counted(u64::from(read.row.length), "byte"));
-        let mut s = format!("\nUnder {}: {share}\n", races::names(&models));
+        let mut s = format!("\nUnder {}: ", races::names(&models));
+        if read.row.length == 0 {
+            return s + "the read asks for no bytes\n";
+        }
+        s.push_str(&format!("{} of {} stale\n", read.stale(), counted(u64::from(read.row.length), "byte")));
         s.push_str(&table(self.trace, read.row, "got", &read.pieces, &mark));
         if groups.is_empty() {
             return s + &self.in_other_orders();
