@@ -15,20 +15,14 @@ mod args;
 mod explain;
 #[path = "../src/bin/kiqsaryn/fields.rs"]
 mod fields;
-#[path = "../src/bin/kiqsaryn/input.rs"]
-mod input;
 #[path = "../src/bin/kiqsaryn/mend.rs"]
 mod mend;
 #[path = "../src/bin/kiqsaryn/near.rs"]
 mod near;
-#[path = "../src/bin/kiqsaryn/output.rs"]
-mod output;
 #[path = "../src/bin/kiqsaryn/posted.rs"]
 mod posted;
 #[path = "../src/bin/kiqsaryn/recording.rs"]
 mod recording;
-#[path = "../src/bin/kiqsaryn/replay.rs"]
-mod replay;
 mod running;
 #[path = "../src/bin/kiqsaryn/standard.rs"]
 mod standard;
@@ -73,16 +67,6 @@ fn check_prints_what_stands_beside_every_example() {
         assert_eq!(status(&o), expected, "{name}");
         let o = run(&["check", name, "--header=yes", "--csv"], b"");
         assert_eq!((out(&o), status(&o)), (short, expected), "{name}");
-    }
-}
-
-#[test]
-fn replay_prints_what_stands_beside_the_examples() {
-    for (name, model) in [("commit_missing", "commit"), ("open_too_early", "session")] {
-        let trace = format!("{name}.csv");
-        let o = run(&["replay", &trace, "--header", "yes", "--file", "1", "--model", model], b"");
-        let want = std::fs::read_to_string(examples().join(format!("{name}.replay.txt"))).expect("the output beside it");
-        assert_eq!((out(&o), status(&o)), (want, 0), "{name}");
     }
 }
 
@@ -542,7 +526,7 @@ fn no_input_makes_it_crash() {
             0 => args.extend(["--model", model, "--csv"]),
             1 => {
                 args[0] = "replay";
-                args.extend(["--model", model, "--file", &file]);
+                args.extend(["--model", model]);
             }
             2 => {
                 args[0] = "diagram";
@@ -1018,91 +1002,6 @@ fn sentences_on_barriers() {
     // Rows of one barrier are not ordered among themselves, nor is what stands before it.
     let before = "1,read,1,5,10,\r\n1,barrier,,,,5\r\n0,write,1,0,10,\r\n0,barrier,,,,5\r\n";
     assert!(explained(before, Model::Posix, 1, 3).1.ends_with("\nOrder: no row of process 1 happens before row 3."));
-}
-
-// ---- Replays
-
-/// A file as document 01 has it, byte by byte: what each read gets from the layered and from the plain file.
-fn naive_replay(rows: &[Row], file: u32, model: Model, processes: u32) -> (u64, u64, u64) {
-    const BYTES: usize = 16;
-    let mut published = [0u32; BYTES];
-    let mut plain = [0u32; BYTES];
-    let mut views = vec![[(0u32, false); BYTES]; processes as usize];
-    let (mut reads, mut bytes, mut stale) = (0, 0, 0);
-    for (k, r) in rows.iter().enumerate().filter(|(_, r)| r.kind < SEND && r.file == file) {
-        let view = &mut views[r.process as usize];
-        let range = r.offset as usize..(r.offset + r.length) as usize;
-        if r.kind == WRITE {
-            for b in range.clone() {
-                view[b] = (k as u32 + 1, true);
-                plain[b] = k as u32 + 1;
-            }
-        }
-        if publishes(model, r.kind) || (model == Model::Posix && r.kind == WRITE) {
-            for b in 0..BYTES {
-                if view[b].1 {
-                    published[b] = view[b].0;
-                    view[b].1 = false;
-                }
-            }
-        }
-        if refreshes(model, r.kind) || (matches!(model, Model::Posix | Model::Commit) && r.kind == READ) {
-            for b in 0..BYTES {
-                if !view[b].1 {
-                    view[b].0 = published[b];
-                }
-            }
-        }
-        if r.kind == READ {
-            reads += 1;
-            bytes += u64::from(r.length);
-            stale += range.filter(|b| view[*b].0 != plain[*b]).count() as u64;
-        }
-    }
-    (reads, bytes, stale)
-}
-
-#[test]
-fn replays_count_stale_bytes() {
-    let mut dice = Dice(31_337);
-    let mut some = 0;
-    for k in 0..1_000 {
-        let rows = random_rows(&mut dice, 30, 3);
-        let text = csv_of(&rows);
-        let (numbers, n, counts) = read_rows(&text, 3);
-        let (name, bytes, mended) = ("x".to_string(), text.len(), Vec::new());
-        let recording = recording::Recording { name, text: text.clone().into_bytes(), header: false, n, rows: numbers, bytes, mended };
-        let trace = input::Trace { source: input::Recorded::Alone(recording), processes: 3, counts };
-        for model in Model::ALL {
-            let report = replay::report(&trace, 1, model).expect("a replay");
-            let (reads, bytes, stale) = naive_replay(&rows, 1, model, 3);
-            let last = report.lines().last().expect("a last line");
-            assert_eq!(last, format!("Reads: {reads}, bytes read: {bytes}, stale bytes: {stale}"), "trace {k}, {model:?}: {text}");
-            assert_eq!(report.contains(" STALE\n"), stale > 0);
-            some += u64::from(stale > 0);
-        }
-    }
-    assert!(some > 200, "{some}");
-}
-
-/// More pieces than an answer slice holds: the replay is taken up again and again.
-#[test]
-fn replays_of_many_pieces() {
-    let mut text = String::new();
-    for k in 0..1_500 {
-        text.push_str(&format!("{},write,5,{},1,\r\n", k % 3, 2 * k));
-    }
-    text.push_str("0,commit,5,,,\r\n");
-    for k in 0..60 {
-        text.push_str(&format!("{},read,5,0,3000,\r\n", k % 4));
-    }
-    let o = run(&["replay", "-", "--header", "no", "--file", "5", "--model", "posix"], text.as_bytes());
-    assert_eq!(out(&o).lines().last(), Some("Reads: 60, bytes read: 180000, stale bytes: 0"));
-    assert_eq!(out(&o).lines().filter(|l| l.starts_with("  ") && l.contains(" row ")).count(), 60 * 1_500);
-    let o = run(&["replay", "-", "--header", "no", "--file", "5", "--model", "commit"], text.as_bytes());
-    // Process 0 has committed; 1 and 2 see their own writes besides, 3 nothing else.
-    let stale = 15 * (1_000 + 500 + 500 + 1_000);
-    assert_eq!(out(&o).lines().last(), Some(format!("Reads: 60, bytes read: 180000, stale bytes: {stale}").as_str()));
 }
 
 /// A full trace, of as many rows and processes as there can be, goes through every command.

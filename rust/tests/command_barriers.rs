@@ -55,7 +55,8 @@ fn a_replay_passes_barriers_by() {
                 Reads: 1, bytes read: 10, stale bytes: 0\n";
     assert_eq!((out(&o).as_str(), status(&o)), (want, 0));
     let o = run(&["replay", "-", "--header", "no", "--file", "0", "--model", "posix"], b"0,barrier,,,,0\r\n0,barrier,,,,1\r\n");
-    assert!(out(&o).contains("File 0 under posix: 0 rows of this file"), "{}", out(&o));
+    let sentence = "kiqsaryn: no row is of file 0; the trace has no row of any file\n";
+    assert_eq!((out(&o).as_str(), err(&o).as_str(), status(&o)), ("", sentence, 3));
 }
 
 #[test]

@@ -244,9 +244,14 @@ fn traces_without_rows() {
     assert_eq!(out(&pair.run("join", "no,yes", &["-o", "-"])), "");
     assert_eq!(out(&pair.run("join", "no,yes", &["-o", "-", "--out-header", "yes"])), NAMES);
     well_formed(&out(&pair.run("diagram", "no,yes", &[])));
+    let o = pair.run("replay", "no,yes", &["--model", "commit"]);
+    assert!(
+        out(&o).starts_with("First trace: a.csv (0 rows)\nSecond trace: b.csv (0 rows)\n\nThis is the joined order alone."),
+        "{}",
+        out(&o)
+    );
     let o = pair.run("replay", "no,yes", &["--file", "1", "--model", "commit"]);
-    let file = "File 1 under commit: 0 rows of this file, in the order of the join\n";
-    assert!(out(&o).starts_with(&format!("First trace: a.csv (0 rows)\nSecond trace: b.csv (0 rows)\n{file}")), "{}", out(&o));
+    assert_eq!((err(&o).as_str(), status(&o)), ("kiqsaryn: no row is of file 1; the join has no row of any file\n", 3));
 }
 
 #[test]

@@ -7,7 +7,7 @@ mod naive;
 #[allow(dead_code)]
 mod running;
 
-use kiqsaryn::{JoinSettings, Model, Row, BARRIER, PROCESSES, ROWS};
+use kiqsaryn::{JoinSettings, Model, Row, BARRIER, PROCESSES, ROWS, SEND};
 use naive::barriers::{self, is_held, processes, Wrong};
 use naive::joining::{lacks_send, read_file, rows_of, taken, turn, Taken, Turn};
 use naive::order::{first_race, Order};
@@ -120,8 +120,10 @@ fn compare_accepted(pair: &Pair, case: &Case, taken: &[Taken]) -> usize {
     assert_eq!(written.stdout, writing::text(0, &rows), "the joined trace");
     assert_eq!(status(&written), status(&o));
     let mut names = 0;
-    for args in [&["check"][..], &["replay", "--file", "1", "--model", "commit"], &["replay", "--file", "0", "--model", "session"]] {
-        let one = pair.feed(&[args, &["-", "--header", "no"]].concat(), &written.stdout);
+    let file = rows.iter().rfind(|row| row.kind < SEND).map(|row| row.file.to_string());
+    let replays = file.iter().flat_map(|file| ["commit", "session"].map(|model| vec!["replay", "--file", file, "--model", model]));
+    for args in [vec!["check"]].into_iter().chain(replays) {
+        let one = pair.feed(&[&args[..], &["-", "--header", "no"]].concat(), &written.stdout);
         let two = pair.run(args[0], &headers, &args[1..]);
         assert_eq!((status(&two), err(&two)), (status(&one), String::new()), "{args:?}");
         let from = if args[0] == "check" { "Verdicts:" } else { "\n\n" };
@@ -275,7 +277,7 @@ fn no_two_inputs_make_it_crash() {
         let limit = if r.once_in(10) { r.between(1, 4) } else { process_limit }.to_string();
         let args: &[&str] = match r.below(5) {
             0 => &["join", "-o", "-"],
-            1 => &["replay", "--file", "1", "--model", "mpiio"],
+            1 => &["replay", "--model", "mpiio"],
             2 => &["diagram", "--model", "session"],
             3 => &["check", "--csv"],
             _ => &["join"],
