@@ -70,5 +70,5 @@ fn every_command_prints_what_stands_behind_it() {
         assert!(same && err(&o).is_empty(), "{args} prints\n{told}\nand not\n{want}");
         run.push(args.split(' ').next().expect("a command"));
     }
-    assert_eq!(run, ["check", "races", "replay", "join", "join"], "the commands whose output stands there");
+    assert_eq!(run, ["check", "races", "replay", "explain", "join", "join"], "the commands whose output stands there");
 }
