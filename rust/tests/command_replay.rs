@@ -17,7 +17,7 @@ mod running;
 use alike::Lacks;
 use kiqsaryn::{Header, Model, Row, CLOSE, COMMIT, OPEN, PROCESSES, READ, SEND, SYNC, WRITE};
 use naive::machine;
-use naive::order::{counts, Order};
+use naive::order::Order;
 use naive::races::races;
 use naive::random::Random;
 use naive::rows::{numbers, some_rows_within};
@@ -263,46 +263,62 @@ fn told_piece(line: &str) -> Option<[u32; 4]> {
     Some(piece)
 }
 
+/// Options that choose reads, and the choice.
+struct Chosen {
+    args: Vec<String>,
+    file: Option<u32>,
+    row: Option<u32>,
+    stale: bool,
+}
+
+impl Chosen {
+    /// A file that has rows, a read, the stale reads, or all. With a row its file is chosen.
+    fn some(r: &mut Random, rows: &[Row]) -> Chosen {
+        let of_files: Vec<u32> = rows.iter().filter(|row| row.kind < SEND).map(|row| row.file).collect();
+        let reads: Vec<u32> = (1..).zip(rows).filter(|(_, row)| row.kind == READ).map(|(k, _)| k).collect();
+        let all = Chosen { args: Vec::new(), file: None, row: None, stale: false };
+        match r.below(4) {
+            0 if !of_files.is_empty() => {
+                let file = r.pick(&of_files);
+                Chosen { args: vec!["--file".into(), file.to_string()], file: Some(file), ..all }
+            }
+            1 if !reads.is_empty() => {
+                let row = r.pick(&reads);
+                let file = Some(rows[row as usize - 1].file);
+                Chosen { args: vec!["--row".into(), row.to_string()], file, row: Some(row), ..all }
+            }
+            2 => Chosen { args: vec!["--stale".into()], stale: true, ..all },
+            _ => all,
+        }
+    }
+
+    fn is_shown(&self, number: u32, pieces: &Pieces) -> bool {
+        (!self.stale || is_stale(pieces)) && self.row.is_none_or(|row| row == number)
+    }
+}
+
 #[test]
 fn random_replays_are_those_of_the_naive_machine() {
     let (mut r, mut stale) = (Random::new(31_337), 0);
-    for k in 0..250 {
+    for k in 0..350 {
         let (rows, _) = some_rows_within(&mut r, MOST);
-        let (text, model) = (text_of(&rows), r.pick(&Model::ALL));
+        let (text, model, chosen) = (text_of(&rows), r.pick(&Model::ALL), Chosen::some(&mut r, &rows));
         let files: BTreeSet<u32> = rows.iter().filter(|row| row.kind < SEND).map(|row| row.file).collect();
-        let mut all: Vec<_> = files.iter().flat_map(|file| naive_reads(&rows, *file, model)).collect();
-        let mut args = vec!["replay".to_string(), "-".into(), "--model".into(), model.name().into()];
-        let (mut only_stale, mut only_row) = (false, None);
-        match r.below(4) {
-            0 if !files.is_empty() => {
-                let file = r.pick(&files.iter().copied().collect::<Vec<_>>());
-                all.retain(|(_, row, _)| row.file == file);
-                args.extend(["--file".into(), file.to_string()]);
-            }
-            1 => {
-                only_stale = true;
-                args.push("--stale".into());
-            }
-            2 if !all.is_empty() => {
-                let (row, Row { file, .. }, _) = all[r.place(all.len())].clone();
-                all.retain(|(_, row, _)| row.file == file);
-                only_row = Some(row);
-                args.extend(["--row".into(), row.to_string()]);
-            }
-            _ => {}
-        }
-        let shown = |number: u32, pieces: &Pieces| (!only_stale || is_stale(pieces)) && only_row.is_none_or(|row| row == number);
-        let args: Vec<&str> = args.iter().map(String::as_str).collect();
+        let files = files.into_iter().filter(|file| chosen.file.is_none_or(|f| f == *file));
+        let all: Vec<_> = files.flat_map(|file| naive_reads(&rows, file, model)).collect();
+        let options: Vec<&str> = chosen.args.iter().map(String::as_str).collect();
+        let args = [&["replay", "-", "--model", model.name()][..], &options].concat();
+        let told = || format!("trace {k}, {args:?}\n{}", String::from_utf8_lossy(&text));
         let words = out(&fed(&args, &text));
-        let want: Vec<(u32, Pieces)> = all.iter().filter(|(n, _, p)| shown(*n, p)).map(|(n, _, p)| (*n, p.clone())).collect();
-        assert_eq!(told_reads(&words), want, "trace {k}, {args:?}\n{}", String::from_utf8_lossy(&text));
+        let want: Vec<(u32, Pieces)> = all.iter().filter(|(n, _, p)| chosen.is_shown(*n, p)).map(|(n, _, p)| (*n, p.clone())).collect();
+        assert_eq!(told_reads(&words), want, "{}", told());
         stale += want.iter().filter(|(_, pieces)| is_stale(pieces)).count();
         let json = out(&fed(&[&args[..], &["--json"]].concat(), &text));
-        assert_eq!(json, json_of(&all, shown, model), "trace {k}, {args:?}\n{}", String::from_utf8_lossy(&text));
-        let counts =
-            format!(" {}, bytes read: {}, stale bytes: ", all.len(), all.iter().map(|(_, row, _)| u64::from(row.length)).sum::<u64>());
-        let last = words.lines().last().expect("a last line");
-        assert!(last.contains(&counts), "{last} has not {counts}");
+        assert_eq!(json, json_of(&all, |number, pieces| chosen.is_shown(number, pieces), model), "{}", told());
+        let bytes: u64 = all.iter().map(|(_, row, _)| u64::from(row.length)).sum();
+        let stale_bytes: u64 = all.iter().flat_map(|(_, _, p)| p).filter(|p| p[2] != p[3]).map(|p| u64::from(p[1])).sum();
+        let counts = format!("eads: {}, bytes read: {bytes}, stale bytes: {stale_bytes}\n", all.len());
+        assert!(words.ends_with(&counts), "{counts} of {}\n{words}", told());
     }
     assert!(stale > 80, "{stale}");
 }
@@ -498,40 +514,46 @@ fn samples(rows: &[Row], file: u32) -> BTreeSet<u32> {
     of.flat_map(|row| [row.offset, row.offset + row.length]).collect()
 }
 
+/// How often each reason was given under each model.
+type Seen = BTreeMap<(&'static str, &'static str), u32>;
+
+/// Holds the reasons for a byte against its history, for each read of it that does not get what one plain file would give.
+fn check_byte(rows: &[Row], byte: u32, file: u32, lacks: &Lacks, (model, races): (Model, &[(u32, u32)]), seen: &mut Seen) {
+    let (history, flat) = (history(rows, file, model, byte), numbers(rows));
+    let held = explain::Rows { rows: &flat, n: rows.len() as u32, processes: PROCESSES, counts: &[] };
+    let is_read = |row: &Row| row.kind == READ && row.file == file && row.offset <= byte && byte - row.offset < row.length;
+    for (read, row) in (1..).zip(rows).filter(|(_, row)| is_read(row)) {
+        let (got, newer) = (history[read as usize].view(row.process).0, history[read as usize].plain);
+        if got == newer {
+            continue;
+        }
+        let case = Case { rows, model, history: &history, read, got, newer };
+        let told = || format!("{model:?}, byte {byte} of row {read}\n{}", String::from_utf8_lossy(&text_of(rows)));
+        let reason = reason(&held, lacks, read, got, newer).unwrap_or_else(|| panic!("no reason: {}", told()));
+        assert!(case.holds(reason), "{reason:?}: {}", told());
+        assert!(races.contains(&(newer, read)) || races.contains(&(got, newer)), "no race: {}", told());
+        *seen.entry((name_of(reason), model.name())).or_default() += 1;
+    }
+}
+
 /// Every reason says what is so, whenever a read does not get what one plain file would give; and the newer row is in a race, with the read or with the
 /// row that the read gets.
 #[test]
 fn every_reason_holds() {
-    let mut r = Random::new(20_777);
-    let mut seen: BTreeMap<(&str, &str), u32> = BTreeMap::new();
-    for k in 0..3_000 {
+    let (mut r, mut seen) = (Random::new(20_777), Seen::new());
+    for _ in 0..3_000 {
         let (rows, _) = some_rows_within(&mut r, MOST);
         let (order, flat) = (Order::of(&rows), numbers(&rows));
-        let counts = counts(&rows, &order, PROCESSES);
-        let held = explain::Rows { rows: &flat, n: rows.len() as u32, processes: PROCESSES, counts: &counts };
+        let held = explain::Rows { rows: &flat, n: rows.len() as u32, processes: PROCESSES, counts: &[] };
         let files: BTreeSet<u32> = rows.iter().filter(|row| row.kind < SEND).map(|row| row.file).collect();
-        for (model, file) in Model::ALL.into_iter().flat_map(|m| files.iter().map(move |f| (m, *f))) {
+        for model in Model::ALL {
             let (lacks, races) = (Lacks::new(held, model), races(&rows, &order, model.number()));
-            for byte in samples(&rows, file) {
-                let history = history(&rows, file, model, byte);
-                let is_read = |row: &Row| row.kind == READ && row.file == file && row.offset <= byte && byte - row.offset < row.length;
-                for (read, row) in (1..).zip(&rows).filter(|(_, row)| is_read(row)) {
-                    let (got, newer) = (history[read as usize].view(row.process).0, history[read as usize].plain);
-                    if got == newer {
-                        continue;
-                    }
-                    let case = Case { rows: &rows, model, history: &history, read, got, newer };
-                    let told = || format!("trace {k}, {model:?}, byte {byte} of row {read}\n{}", String::from_utf8_lossy(&text_of(&rows)));
-                    let reason = reason(&held, &lacks, read, got, newer).unwrap_or_else(|| panic!("no reason: {}", told()));
-                    assert!(case.holds(reason), "{reason:?}: {}", told());
-                    assert!(races.contains(&(newer, read)) || races.contains(&(got, newer)), "no race: {}", told());
-                    *seen.entry((name_of(reason), model.name())).or_default() += 1;
-                }
+            for (file, byte) in files.iter().flat_map(|file| samples(&rows, *file).into_iter().map(|byte| (*file, byte))) {
+                check_byte(&rows, byte, file, &lacks, (model, &races), &mut seen);
             }
         }
     }
-    let of = |name: &str| Model::ALL.map(|model| seen.get(&(name, model.name())).copied().unwrap_or(0));
-    for (name, without) in [
+    for (name, never) in [
         ("never published", &["posix"][..]),
         ("published later", &["posix"]),
         ("never refreshed", &["posix", "commit"]),
@@ -539,8 +561,8 @@ fn every_reason_holds() {
         ("own first", &["posix"]),
         ("published over", &["posix"]),
     ] {
-        for (model, n) in Model::ALL.into_iter().zip(of(name)) {
-            assert_eq!(n == 0, without.contains(&model.name()), "{name} under {}: {n} in {seen:?}", model.name());
+        for model in Model::ALL.map(Model::name) {
+            assert_eq!(!seen.contains_key(&(name, model)), never.contains(&model), "{name} under {model} in {seen:?}");
         }
     }
 }

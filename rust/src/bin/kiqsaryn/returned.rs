@@ -10,7 +10,7 @@ use crate::output::Failed;
 use crate::races;
 use crate::replay::{heading, meaning, one_read, read_at, table, PieceOf, ReadAnswer};
 use crate::text::{bytes_of, counted, labelled};
-use crate::words::{one_of, which, Naming};
+use crate::words::{one_of, which};
 use kiqsaryn::{Model, Row, PAIR};
 use std::collections::HashMap;
 use std::mem::Discriminant;
@@ -74,50 +74,45 @@ fn told(trace: &Trace, number: u32, model: Model) -> Result<Told, String> {
 
 // ---- In words
 
-/// What keeps the newer bytes back, as a sentence. The row that is read from is `got`.
-fn reason_words(trace: &Trace, told: &Told, (got, newer): Stale, reason: Reason, name: &mut Naming) -> Option<String> {
-    let rows = trace.rows();
-    let (read, file) = (told.read.number, told.read.row.file);
-    let (reader, writer) = (told.read.row.process, rows.row(newer)?.process);
+/// What keeps the newer bytes back, as a sentence. The read, the row that it gets and the newer one are known by their numbers.
+fn reason_words(trace: &Trace, told: &Told, (got, newer): Stale, reason: Reason) -> Option<String> {
+    let (rows, Row { process: reader, file, .. }) = (trace.rows(), told.read.row);
+    let (read, writer) = (told.read.number, rows.row(newer)?.process);
     let (publishing, refreshing) = (publishing(told.model), refreshing(told.model));
-    let (publishes, refreshes) = (one_of(publishing), one_of(refreshing));
-    let by = |row: u32, kinds: &[u32], name: &mut Naming| Some(format!("{}{}", name(row), which(&rows, row, kinds)?));
+    let (publish_word, refresh_word) = (one_of(publishing), one_of(refreshing));
+    let mut name = trace.naming(&[read, got, newer]);
+    let mut by = |row: u32, kinds: &[u32]| Some(format!("{}{}", name(row), which(&rows, row, kinds)?));
     Some(match reason {
         Reason::NeverPublished => {
-            let none = format!("process {writer} has no {publishes} of file {file} after {}", name(newer));
-            format!("{none}, so that no other process gets the bytes of {}.", name(newer))
+            let none = format!("process {writer} has no {publish_word} of file {file} after row {newer}");
+            format!("{none}, so that no other process gets the bytes of row {newer}.")
         }
         Reason::PublishedLater { publish } => {
-            let after = name(newer);
-            let first = format!("process {writer}'s first {publishes} of file {file} after {after} is {}", by(publish, publishing, name)?);
-            format!("{first}, behind {}. Before it no other process gets the bytes of {after}.", name(read))
+            let row = by(publish, publishing)?;
+            let first = format!("process {writer}'s first {publish_word} of file {file} after row {newer} is {row}, behind row {read}");
+            format!("{first}. Before it no other process gets the bytes of row {newer}.")
         }
         Reason::NeverRefreshed { publish } => {
-            let published = format!("{} publishes {}", by(publish, publishing, name)?, name(newer));
-            let none = format!("process {reader} has no {refreshes} of file {file} before {}", name(read));
-            format!("{published}, but {none}, so that it gets no bytes of other processes.")
+            let row = by(publish, publishing)?;
+            let none = format!("process {reader} has no {refresh_word} of file {file} before row {read}");
+            format!("{row} publishes row {newer}, but {none}, so that it gets no bytes of other processes.")
         }
         Reason::RefreshedEarlier { publish, refresh } => {
-            let last = by(refresh, refreshing, name)?;
-            let last = format!("process {reader}'s last {refreshes} of file {file} before {} is {last}", name(read));
-            format!("{last}, and {} is published behind it, by {}.", name(newer), by(publish, publishing, name)?)
+            let (last, row) = (by(refresh, refreshing)?, by(publish, publishing)?);
+            let last = format!("process {reader}'s last {refresh_word} of file {file} before row {read} is {last}");
+            format!("{last}, and row {newer} is published behind it, by {row}.")
         }
         Reason::OwnFirst { refresh, .. } => {
-            let own = format!("{} is process {reader}'s own write, and it has no {publishes} of file {file}", name(got));
-            let until = match refresh == read {
-                true => name(read),
-                false => format!("{}, its last {refreshes} before {}", by(refresh, refreshing, name)?, name(read)),
-            };
-            format!("{own} between {} and {until}: own bytes that are not yet published come first.", name(got))
+            let last = if refresh == read { String::new() } else { format!(", its last {refresh_word} before row {read}") };
+            let none = format!("it has no {publish_word} of file {file} between row {got} and {}{last}", by(refresh, refreshing)?);
+            format!("row {got} is process {reader}'s own write, and {none}: own bytes that are not yet published come first.")
         }
         Reason::PublishedOver { publish, over, refresh } => {
-            let both = format!("{} publishes {}", by(publish, publishing, name)?, name(newer));
-            let both = format!("{both}, and {}, behind it, publishes the older {} over it", by(over, publishing, name)?, name(got));
+            let (row, over) = (by(publish, publishing)?, by(over, publishing)?);
+            let both = format!("{row} publishes row {newer}, and {over}, behind it, publishes the older row {got} over it.");
             match refresh == read {
-                true => format!("{both}."),
-                false => {
-                    format!("{both}. Process {reader}'s last {refreshes} before {} is {}.", name(read), by(refresh, refreshing, name)?)
-                }
+                true => both,
+                false => format!("{both} Process {reader}'s last {refresh_word} before row {read} is {}.", by(refresh, refreshing)?),
             }
         }
     })
@@ -125,9 +120,7 @@ fn reason_words(trace: &Trace, told: &Told, (got, newer): Stale, reason: Reason,
 
 /// Why bytes are stale under a model, in sentences behind their labels.
 fn cause_words(trace: &Trace, told: &Told, stale: Stale, cause: &Cause) -> String {
-    let (got, newer) = stale;
-    let mut name = trace.naming(&[told.read.number, got, newer]);
-    let held = cause.reason.and_then(|reason| reason_words(trace, told, stale, reason, &mut name));
+    let held = cause.reason.and_then(|reason| reason_words(trace, told, stale, reason));
     let mut s = sentence("Why", held.as_deref().unwrap_or("no reason found; please report this trace."));
     if let Some((earlier, later)) = cause.race {
         s.push_str(&sentence("Race", &format!("row {earlier} and row {later} are a race under {}.", told.model.name())));
@@ -251,7 +244,7 @@ impl Section<'_> {
 
 /// The whole report on the read of a row number. An error is a sentence.
 pub fn report(trace: &Trace, row: u32, models: &[Model]) -> Result<String, String> {
-    let _: Row = read_at(trace, row)?;
+    read_at(trace, row)?;
     let mut sections: Vec<Section> = Vec::new();
     for model in models {
         let told = told(trace, row, *model)?;
