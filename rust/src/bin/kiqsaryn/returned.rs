@@ -129,12 +129,14 @@ fn cause_words(trace: &Trace, told: &Told, stale: Stale, cause: &Cause) -> Strin
     s
 }
 
-/// What two causes have to share to be told together: who writes, whose bytes the read gets, and for each model the kind of the reason, whether the race
-/// is with the read, and what it lacks.
+/// Of a cause under a model: the kind of its reason, whether its race is with the read, and what that race lacks.
+type Kind = (Option<Discriminant<Reason>>, Option<bool>, Option<Lack>);
+
+/// What two causes have to share to be told together: whose bytes the read gets, who writes the newer ones, and the kind under each model.
 #[derive(PartialEq, Eq)]
 struct Sign {
     processes: [Option<u32>; 2],
-    causes: Vec<(Option<Discriminant<Reason>>, Option<bool>, Option<Lack>)>,
+    causes: Vec<Kind>,
 }
 
 /// Stale bytes that have their causes alike: the first of them, and how many lines of the table they are.
