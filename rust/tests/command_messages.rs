@@ -3,7 +3,7 @@
 #[allow(dead_code)]
 mod running;
 
-use running::picture::{nothing_overlaps, row_boxes};
+use running::picture::{keeps_the_rules, lines, row_boxes, Line};
 use running::{err, examples, out, run, status};
 
 // ---- A receive that is posted and not waited for
@@ -216,29 +216,29 @@ fn rows_of_a_long_trace_are_found() {
 /// The arrow runs from the send to the wait, and the receive in between, posted before the send or behind it, is a hollow box without one.
 #[test]
 fn a_picture_draws_a_message_from_its_send_to_its_wait() {
-    let hollow = ".posted{fill:#fff;";
     for (rows, send, recv, wait) in [
         ("1,recv,,,,7\r\n0,write,1,0,10,\r\n0,send,,,,7\r\n1,wait,,,,7\r\n1,read,1,5,10,\r\n", 2, 0, 3),
         ("0,write,1,0,10,\r\n0,send,,,,7\r\n1,recv,,,,7\r\n1,open,1,,,\r\n1,wait,,,,7\r\n1,read,1,5,10,\r\n", 1, 2, 4),
     ] {
-        let picture = out(&run(&["diagram", "-", "--header", "no"], rows.as_bytes()));
+        let picture = out(&run(&["diagram", "-", "--header", "no", "--all"], rows.as_bytes()));
         let boxes = row_boxes(&picture);
-        let arrow = format!("<path class=\"arrow\" d=\"{}\"/>", boxes[send].arrow_to(&boxes[wait]));
-        assert!(picture.contains(&arrow) && picture.contains(hollow), "{arrow} in {picture}");
-        assert_eq!(picture.matches("<path class=\"arrow\"").count(), 2, "this and the legend's");
-        let texts = [send, recv, wait].map(|k| (boxes[k].class.as_str(), boxes[k].text.split_once(' ').expect("a number").1));
+        let arrows: Vec<Line> = lines(&picture).into_iter().filter(|line| line.class == "arrow").collect();
+        assert!(arrows.iter().any(|arrow| arrow.joins(&boxes[send], &boxes[wait])), "{picture}");
+        assert_eq!(arrows.len(), 2, "this and the legend's");
+        let kind = |k: usize| boxes[k].class.split(' ').next().expect("a class");
+        let texts = [send, recv, wait].map(|k| (kind(k), boxes[k].text.split_once(' ').expect("a number").1));
         assert_eq!(texts, [("message", "send m7"), ("posted", "recv m7"), ("message", "wait m7")]);
-        nothing_overlaps(&picture);
+        keeps_the_rules(&picture);
     }
-    let picture = out(&run(&["diagram", "posted_only.csv", "--header", "yes"], b""));
+    let picture = out(&run(&["diagram", "posted_only.csv", "--header", "yes", "--all"], b""));
     let boxes = row_boxes(&picture);
     assert_eq!((boxes[2].text.as_str(), boxes[3].text.as_str()), ("3 send m7, not waited for", "4 recv m7, not waited for"));
     assert_eq!(picture.matches("<path class=\"arrow\"").count(), 1, "the legend's");
     assert!(picture.contains(">Posted: row 4 posts a receive for message 7, which row 3 sends, and no row of process 1"), "{picture}");
-    for sample in ["send wait", "recv", "message, send to wait"] {
+    for sample in ["send wait", "recv", "message, from send to wait"] {
         assert!(picture.contains(&format!(">{sample}</text>\n")), "{sample} in {picture}");
     }
-    nothing_overlaps(&picture);
+    keeps_the_rules(&picture);
     let picture = out(&run(&["diagram", "-", "--header", "no"], b"0,recv,,,,7\r\n1,send,,,,8\r\n"));
     let texts: Vec<String> = row_boxes(&picture).into_iter().map(|b| b.text).collect();
     assert_eq!(texts, ["1 recv m7, not sent", "2 send m8, not waited for"]);
