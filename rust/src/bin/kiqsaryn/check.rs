@@ -5,10 +5,10 @@ use crate::input::{short_names, Join, Recorded, Trace};
 use crate::json;
 use crate::races;
 use crate::recording::Recording;
+use crate::tally::Tally;
 use crate::text::{counted, describe, escape, labelled, size};
 use crate::words::{words, Words};
-use kiqsaryn::{verdict, Model, Row, Verdict, BARRIER, RECV, SEND, WAIT};
-use std::collections::{BTreeMap, BTreeSet};
+use kiqsaryn::{verdict, Model, Row, Verdict};
 
 /// The verdicts under the models, in their order. An error is a sentence.
 pub fn judge(trace: &Trace, models: &[Model]) -> Result<Vec<(Model, Verdict)>, String> {
@@ -64,48 +64,6 @@ pub fn shown_row(trace: &Trace, number: u32) -> String {
     shown(&format!("row {number}"), trace.record(number), trace.rows().row(number), trace.own_name(number))
 }
 
-/// How many receives are posted whose messages no row of the recording waits for. Each wait is of the process that posts, so of the same recording.
-fn not_waited_for(recording: &Recording) -> usize {
-    let of = |kind: u32| recording.all().filter(move |(_, row)| row.kind == kind).map(|(_, row)| row.message);
-    let waited: BTreeSet<u32> = of(WAIT).collect();
-    of(RECV).filter(|message| !waited.contains(message)).count()
-}
-
-/// How many rows each process has, each file, the messages and the barriers, how many receives no row waits for, and how many barriers there are.
-fn tallies(recording: &Recording) -> String {
-    let (mut processes, mut files) = (BTreeMap::new(), BTreeMap::new());
-    let (mut messages, mut arrivals, mut barriers) = (0, 0, BTreeSet::new());
-    for (_, row) in recording.all() {
-        *processes.entry(row.process).or_insert(0) += 1;
-        match row.kind {
-            SEND | RECV | WAIT => messages += 1,
-            BARRIER => {
-                arrivals += 1;
-                barriers.insert(row.message);
-            }
-            _ => *files.entry(row.file).or_insert(0) += 1,
-        }
-    }
-    let mut s = String::new();
-    for (p, n) in processes {
-        s.push_str(&format!("  process {p}: {}\n", counted(n, "row")));
-    }
-    for (f, n) in files {
-        s.push_str(&format!("  file {f}: {}\n", counted(n, "row")));
-    }
-    if messages > 0 {
-        s.push_str(&format!("  send, recv and wait, of no file: {}\n", counted(messages, "row")));
-    }
-    let posted_only = not_waited_for(recording);
-    if posted_only > 0 {
-        s.push_str(&format!("  recv without a wait: {}\n", counted(posted_only as u64, "row")));
-    }
-    if arrivals > 0 {
-        s.push_str(&format!("  barrier, of no file: {} ({})\n", counted(arrivals, "row"), counted(barriers.len() as u64, "barrier")));
-    }
-    s
-}
-
 /// What was read of one trace, to hold against the recorder.
 fn what_was_read(label: &str, recording: &Recording) -> String {
     let n = recording.n;
@@ -117,7 +75,9 @@ fn what_was_read(label: &str, recording: &Recording) -> String {
     if n > 1 {
         s.push_str(&shown("last row", recording.record(n), recording.row(n), None));
     }
-    s.push_str(&tallies(recording));
+    for (what, rows) in Tally::of(recording).lines() {
+        s.push_str(&format!("  {what}: {rows}\n"));
+    }
     s
 }
 

@@ -30,6 +30,7 @@ mod report;
 mod returned;
 mod standard;
 mod table;
+mod tally;
 mod text;
 mod turns;
 mod words;

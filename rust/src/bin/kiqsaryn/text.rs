@@ -98,12 +98,17 @@ pub fn counted(n: u64, one: &str) -> String {
     }
 }
 
-/// How much a text holds, on a line each: its bytes, whether its first record is a header, and its rows.
-pub fn size(bytes: usize, header: bool, rows: u32) -> String {
-    let header = match header {
+/// Whether the first record is a header, in words.
+pub fn header_words(header: bool) -> &'static str {
+    match header {
         true => "yes (the first record is no row)",
         false => "no (the first record is row 1)",
-    };
+    }
+}
+
+/// How much a text holds, on a line each: its bytes, whether its first record is a header, and its rows.
+pub fn size(bytes: usize, header: bool, rows: u32) -> String {
+    let header = header_words(header);
     format!("  {}\n  header: {header}\n  {}\n", counted(bytes as u64, "byte"), counted(u64::from(rows), "row"))
 }
 
