@@ -145,7 +145,7 @@ const JOIN_TAKES_TWO: &str = "join takes two traces, FIRST and SECOND";
 const STANDARD_TWICE: &str = "standard input can be one of the traces, not more";
 const SAY_MODEL: &str = "say which model: --model posix, commit, session or mpiio";
 /// How many races and stale reads a report shows where no limit is said.
-const REPORT_LIMIT: u32 = 200;
+pub const REPORT_LIMIT: u32 = 200;
 
 // ---- What was given
 

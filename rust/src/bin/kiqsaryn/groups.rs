@@ -1,6 +1,6 @@
 //! Races in groups: those of one file and of two processes, whichever of the two comes first.
 
-use crate::alike::Lacks;
+use crate::alike::{Lack, Lacks};
 use crate::args::Choice;
 use crate::explain::Rows;
 use kiqsaryn::{Model, PAIR};
@@ -38,6 +38,14 @@ impl Key {
 #[derive(Clone, Copy, Debug)]
 pub struct Group {
     pub key: Key,
+    pub first: Pair,
+    pub races: usize,
+}
+
+/// What races of a group lack: the first of them, and how many there are.
+#[derive(Clone, Copy, Debug)]
+pub struct Reason {
+    pub lack: Lack,
     pub first: Pair,
     pub races: usize,
 }
@@ -90,5 +98,21 @@ impl<'a> Groups<'a> {
             alike[place] += usize::from(of(pair) == firsts[place]);
         }
         alike
+    }
+
+    /// For each group what its races lack under a model: equal ones once, in the order of their first races.
+    pub fn reasons(&self, model: Model) -> Vec<Vec<Reason>> {
+        let lacks = Lacks::new(self.rows, model);
+        let mut all: Vec<Vec<Reason>> = vec![Vec::new(); self.all.len()];
+        for (first, place) in self.placed() {
+            let Some(lack) = lacks.of(first.0, first.1) else {
+                continue;
+            };
+            match all[place].iter_mut().find(|reason| reason.lack == lack) {
+                Some(reason) => reason.races += 1,
+                None => all[place].push(Reason { lack, first, races: 1 }),
+            }
+        }
+        all
     }
 }

@@ -28,6 +28,7 @@ mod refused;
 mod replay;
 mod report;
 mod returned;
+mod sha256;
 mod standard;
 mod table;
 mod tally;

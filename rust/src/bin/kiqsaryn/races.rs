@@ -190,9 +190,9 @@ impl<'a> Section<'a> {
 }
 
 /// What the columns hold: of each row its number, who does what, and its bytes; then the bytes of both.
-const TITLES: [&str; 7] = ["row", "process", "bytes", "row", "process", "bytes", "shared bytes"];
+pub const TITLES: [&str; 7] = ["row", "process", "bytes", "row", "process", "bytes", "shared bytes"];
 
-fn head(group: &Group) -> String {
+pub fn head(group: &Group) -> String {
     let Key { file, processes: [p, q] } = group.key;
     format!("File {file}, process {p} and process {q}: {}", counted(group.races as u64, "race"))
 }
@@ -204,7 +204,7 @@ fn entries_of(trace: &Trace, number: u32, row: Row) -> [String; 3] {
 }
 
 /// A race in columns.
-fn entries(trace: &Trace, (earlier, later): Pair) -> [String; 7] {
+pub fn entries(trace: &Trace, (earlier, later): Pair) -> [String; 7] {
     let rows = trace.rows();
     let (x, y) = (rows.row(earlier).unwrap_or_default(), rows.row(later).unwrap_or_default());
     let both = shared(x, y).map_or(String::new(), |(first, last)| {

@@ -1,0 +1,176 @@
+//! The page around its sections: what stands above them and below them, and the texts and tables in them.
+
+use super::judged::Judged;
+use super::style::STYLE;
+use crate::args::REPORT_LIMIT;
+use crate::diagram;
+use crate::input::{Recorded, Trace};
+use crate::recording::Recording;
+use kiqsaryn::{Model, PROCESSES};
+
+const VERSION: &str = env!("CARGO_PKG_VERSION");
+
+// ---- Texts and tables
+
+/// A text as it stands in a page.
+pub fn text(words: &str) -> String {
+    let mut s = String::new();
+    for c in words.chars() {
+        match c {
+            '&' => s.push_str("&amp;"),
+            '<' => s.push_str("&lt;"),
+            '>' => s.push_str("&gt;"),
+            '"' => s.push_str("&quot;"),
+            '\'' => s.push_str("&#39;"),
+            c => s.push(c),
+        }
+    }
+    s
+}
+
+/// A section under its heading.
+pub fn section(id: &str, heading: &str, body: &str) -> String {
+    format!("<section id=\"{id}\">\n<h2>{}</h2>\n{body}</section>\n", text(heading))
+}
+
+/// A paragraph of plain words.
+pub fn paragraph(words: &str) -> String {
+    format!("<p>{}</p>\n", text(words))
+}
+
+/// A table; the entries of its lines are elements already.
+pub fn table(titles: &[&str], lines: &[Vec<String>]) -> String {
+    let mut s = "<div class=\"scroll\"><table>\n<thead><tr>".to_string();
+    for title in titles {
+        s.push_str(&format!("<th scope=\"col\">{}</th>", text(title)));
+    }
+    s.push_str("</tr></thead>\n<tbody>\n");
+    for line in lines {
+        let cells: Vec<String> = line.iter().map(|entry| format!("<td>{entry}</td>")).collect();
+        s.push_str(&format!("<tr>{}</tr>\n", cells.concat()));
+    }
+    s.push_str("</tbody></table></div>\n");
+    s
+}
+
+// ---- Names
+
+fn recordings(trace: &Trace) -> &[Recording] {
+    match &trace.source {
+        Recorded::Alone(recording) => std::slice::from_ref(recording),
+        Recorded::Joined(join) => &join.recordings,
+    }
+}
+
+fn title(trace: &Trace) -> String {
+    let names: Vec<&str> = recordings(trace).iter().map(|r| r.name.as_str()).collect();
+    format!("Storage races in {}", names.join(" and "))
+}
+
+/// A name as a shell takes it for one word.
+fn shell_word(name: &str) -> String {
+    let is_plain = |c: char| c.is_alphanumeric() || "-_./+:@%,".contains(c);
+    let name = if name.starts_with('-') { format!("./{name}") } else { name.to_string() };
+    match !name.is_empty() && name.chars().all(is_plain) {
+        true => name,
+        false => format!("'{}'", name.replace('\'', "'\\''")),
+    }
+}
+
+/// A command about the trace, with the options that tell how it was read.
+pub fn command(name: &str, trace: &Trace) -> String {
+    let of = |r: &Recording| if r.name == "standard input" { "-".to_string() } else { shell_word(&r.name) };
+    let words: Vec<&str> = recordings(trace).iter().map(|r| if r.header { "yes" } else { "no" }).collect();
+    let names: Vec<String> = recordings(trace).iter().map(of).collect();
+    let option = if words.len() > 1 { "--headers" } else { "--header" };
+    let mut s = format!("kiqsaryn {name} {} {option} {}", names.join(" "), words.join(","));
+    if trace.processes != PROCESSES {
+        s.push_str(&format!(" --processes {}", trace.processes));
+    }
+    s
+}
+
+/// The option for the models, where not all are meant.
+fn option_of(models: &[Model]) -> String {
+    match models {
+        [model] => format!(" --model {}", model.name()),
+        _ => String::new(),
+    }
+}
+
+// ---- The page
+
+const PARTS: [(&str, &str); 5] = [
+    ("read", "What was read"),
+    ("verdicts", "Verdicts"),
+    ("races", "Races"),
+    ("stale", "Stale reads"),
+    ("legend", "How to read this page"),
+];
+
+/// What stands above all.
+pub fn head(judged: &Judged) -> String {
+    let mut s = format!("<header>\n<h1>{}</h1>\n", text(&title(judged.trace)));
+    s.push_str(&format!("<p class=\"summary\">{}</p>\n", text(&judged.summary())));
+    s.push_str(&paragraph(
+        "A storage race is a pair of operations that touch the same bytes of a file and that the consistency model of the storage does not \
+         order, so that a read may return old bytes. This page shows what was read of the recorded trace, the verdict under each model, every \
+         race with its reason and a picture, and the reads that returned old bytes.",
+    ));
+    s.push_str(&paragraph(&format!("Made by kiqsaryn {VERSION}. The same trace gives the same page.")));
+    s.push_str("<nav aria-label=\"Parts of this page\"><ul>");
+    for (id, name) in PARTS {
+        s.push_str(&format!("<li><a href=\"#{id}\">{name}</a></li>"));
+    }
+    s.push_str("</ul></nav>\n</header>\n");
+    s
+}
+
+/// The words of this page, and what each means.
+const TERMS: [(&str, &str); 8] = [
+    ("free", "no two rows race under this model: every read, in every order in which the same processes could have run, returns what one plain file would."),
+    ("race", "the two rows touch the same bytes of one file, one of them writes, and the model does not order them."),
+    ("Needed", "what the model asks for between the two rows."),
+    ("Found", "what the trace has of it."),
+    ("Missing", "why that is not enough."),
+    ("Posted", "a receive that is posted and not waited for in time, where a wait would bring the order."),
+    ("Order", "how far the later side knows of the earlier one. The place in the trace alone orders nothing."),
+    ("STALE", "bytes that are not those that one plain file would give: the read returned an older state."),
+];
+
+/// What the boxes and lines of the pictures mean.
+const MARKS: &str = "In a picture of a race each process has a lane, and the rows go down in the order of the trace. A box tells the row's number, \
+    its kind, the file (f), the first and the last byte, the message (m) or the barrier (b). Frames with the word Race are the two rows; frames \
+    with Found, Order or Posted are the rows that the reason names behind that word. An arrow is a message, from its send to the wait for it; a \
+    thick line is a barrier; a dashed line joins the two rows; three dots stand for rows left out.";
+
+/// What the words and pictures mean, and how to make the page again.
+pub fn legend(judged: &Judged) -> String {
+    let mut s = "<dl class=\"terms\">\n".to_string();
+    for (term, meaning) in TERMS {
+        s.push_str(&format!("<dt>{term}</dt><dd>{}</dd>\n", text(meaning)));
+    }
+    s.push_str("</dl>\n");
+    s.push_str(&paragraph(MARKS));
+    let mut line = command("report", judged.trace) + &option_of(&judged.models());
+    if judged.limit != REPORT_LIMIT as usize {
+        line.push_str(&format!(" --limit {}", judged.limit));
+    }
+    s.push_str("<p>To make this page again:</p>\n");
+    s.push_str(&format!("<pre>{} -o report.html</pre>\n", text(&line)));
+    section("legend", "How to read this page", &s)
+}
+
+/// The hatching of stale bytes, which the style names.
+const HATCH: &str = "<svg class=\"defs\" aria-hidden=\"true\"><defs><pattern id=\"hatch\" width=\"8\" height=\"8\" \
+    patternUnits=\"userSpaceOnUse\"><path d=\"M-2 10L10 -2M-2 2L2 -2M6 10L10 6\"/></pattern></defs></svg>\n";
+
+/// The whole page of its sections.
+pub fn whole(trace: &Trace, sections: &[String]) -> String {
+    let mut s = "<!doctype html>\n<html lang=\"en\">\n<head>\n<meta charset=\"utf-8\"/>\n".to_string();
+    s.push_str("<meta name=\"viewport\" content=\"width=device-width, initial-scale=1\"/>\n");
+    s.push_str("<meta name=\"color-scheme\" content=\"light dark\"/>\n");
+    s.push_str(&format!("<title>{}</title>\n<style>\n{STYLE}{}</style>\n</head>\n<body>\n", text(&title(trace)), diagram::STYLE));
+    s.push_str(&format!("{HATCH}<main>\n{}</main>\n</body>\n</html>\n", sections.concat()));
+    s
+}
