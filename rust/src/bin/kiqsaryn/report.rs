@@ -22,7 +22,7 @@ pub fn html(trace: &Trace, models: &[Model], limit: usize) -> Result<String, Str
         read::section(trace),
         judged::section(&judged),
         pairs::section(&judged)?,
-        stale::section(trace, models, limit)?,
+        stale::section(&judged)?,
         page::legend(&judged),
     ];
     Ok(page::whole(trace, &sections))

@@ -21,7 +21,9 @@ const SCALE: usize = 120;
 /// The heights of the bars, and from one strip to the next.
 const FIRST_HEIGHT: usize = 38;
 const SECOND_HEIGHT: usize = 24;
-const STRIP: usize = 142;
+const STRIP: usize = 138;
+/// The free space below the last strip.
+const BELOW: usize = 12;
 /// The foot of the letters of a bar's two lines, from its top.
 const LINE: usize = 16;
 const LINES: usize = 15;
@@ -30,12 +32,12 @@ fn wide(words: &str) -> usize {
     letters(words) * TWO_LETTERS / 2
 }
 
-/// What stands in a column: what was returned, what one plain file has, which bytes these are, how many, and whether they are stale.
+/// What stands in a column: what was returned, what one plain file has, which bytes these are, how many, and what is said if some are stale.
 struct Column {
     words: [String; 2],
     bytes: String,
     length: u64,
-    stale: bool,
+    stale: Option<&'static str>,
     left: bool,
 }
 
@@ -47,19 +49,18 @@ impl Column {
                 words: [writer(p.row), writer(p.plain)],
                 bytes: span(p.start, p.length),
                 length: u64::from(p.length),
-                stale: p.is_stale(),
+                stale: p.is_stale().then_some("STALE"),
                 left: false,
             },
             Part::Left { start, length, pieces, stale } => {
                 let words = counted(pieces as u64, "piece");
-                let column = Column {
+                Column {
                     words: [words.clone(), words],
                     bytes: span(start, length),
                     length: u64::from(length),
-                    stale: stale > 0,
+                    stale: (stale > 0).then_some("some STALE"),
                     left: true,
-                };
-                column
+                }
             }
         }
     }
@@ -67,7 +68,7 @@ impl Column {
     /// The width that its words need.
     fn least(&self) -> usize {
         let words = self.words.iter().chain([&self.bytes]).map(|words| wide(words));
-        words.chain([wide("STALE")]).max().unwrap_or(0) + BESIDE
+        words.chain(self.stale.map(wide)).max().unwrap_or(0) + BESIDE
     }
 }
 
@@ -124,11 +125,11 @@ fn put_column(s: &mut String, column: &Column, x: usize, y: usize, width: usize)
     let [ours, plain] = &column.words;
     let first = [x, y + FIRST_BAR, width, FIRST_HEIGHT];
     put_box(s, class(column, ours), first);
-    if column.stale {
+    if let Some(stale) = column.stale {
         put_box(s, "hatch", first);
-        put_text(s, "stale", middle, y + FIRST_BAR + LINE + LINES, "STALE");
+        put_text(s, "stale", middle, y + FIRST_BAR + LINE + LINES, stale);
     }
-    let line = if column.stale { LINE } else { LINE + LINES / 2 };
+    let line = if column.stale.is_some() { LINE } else { LINE + LINES / 2 };
     put_text(s, "in", middle, y + FIRST_BAR + line, ours);
     put_box(s, class(column, plain), [x, y + SECOND_BAR, width, SECOND_HEIGHT]);
     put_text(s, "in", middle, y + SECOND_BAR + LINE, plain);
@@ -139,7 +140,7 @@ fn put_column(s: &mut String, column: &Column, x: usize, y: usize, width: usize)
 pub fn picture(number: u32, models: &str, parts: &[Part]) -> (String, bool) {
     let columns: Vec<Column> = parts.iter().map(Column::of).collect();
     let (strips, to_scale) = strips(&columns);
-    let (width, height) = (WIDTH + 2 * MARGIN, STRIP * strips.len());
+    let (width, height) = (WIDTH + 2 * MARGIN, STRIP * strips.len().saturating_sub(1) + SCALE + BELOW);
     let size = format!("width=\"{width}\" height=\"{height}\" viewBox=\"0 0 {width} {height}\"");
     let mut s = format!("<svg xmlns=\"http://www.w3.org/2000/svg\" class=\"bytes\" role=\"img\" {size}>\n");
     s.push_str(&format!("<title>What row {number} returned under {models}, above what one plain file would have</title>\n"));

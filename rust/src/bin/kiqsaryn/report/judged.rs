@@ -6,6 +6,7 @@ use crate::input::Trace;
 use crate::races::Found;
 use crate::text::counted;
 use kiqsaryn::{Model, Verdict, PAIR};
+use std::cmp::Ordering;
 
 /// A trace, the verdicts, the races under each model, and how many races are shown of them.
 pub struct Judged<'a> {
@@ -24,6 +25,23 @@ impl Judged<'_> {
     fn races(&self, model: Model) -> (usize, usize) {
         let place = self.found.iter().position(|found| found.models.contains(&model));
         place.map_or((0, 0), |k| (k, self.found[k].list.len() / PAIR))
+    }
+
+    /// The name of the picture of a pair, if it is a race under the model and shown. The library's list goes by later row, then by earlier row.
+    pub fn picture_of(&self, model: Model, (earlier, later): (u32, u32)) -> Option<String> {
+        let (place, races) = self.races(model);
+        let list = &self.found.get(place)?.list;
+        let (mut from, mut to) = (0, races.min(self.limit));
+        while from < to {
+            let middle = (from + to) / 2;
+            let pair = list.get(PAIR * middle..PAIR * (middle + 1))?;
+            match (pair[1], pair[0]).cmp(&(later, earlier)) {
+                Ordering::Equal => return Some(race_id(place, (earlier, later))),
+                Ordering::Less => from = middle + 1,
+                Ordering::Greater => to = middle,
+            }
+        }
+        None
     }
 
     /// One line on all models.

@@ -6,6 +6,7 @@ use crate::args::REPORT_LIMIT;
 use crate::diagram;
 use crate::input::{Recorded, Trace};
 use crate::recording::Recording;
+use crate::text::counted;
 use kiqsaryn::{Model, PROCESSES};
 
 const VERSION: &str = env!("CARGO_PKG_VERSION");
@@ -33,14 +34,24 @@ pub fn section(id: &str, heading: &str, body: &str) -> String {
     format!("<section id=\"{id}\">\n<h2>{}</h2>\n{body}</section>\n", text(heading))
 }
 
+/// That so many are not shown, and the command that shows them.
+pub fn not_shown(n: u64, one: &str, models: &str, command: &str) -> String {
+    let is = if n == 1 { "is" } else { "are" };
+    format!("<p>{} under {models} {is} not shown here. To see all: <code>{}</code></p>\n", counted(n, one), text(command))
+}
+
 /// A paragraph of plain words.
 pub fn paragraph(words: &str) -> String {
     format!("<p>{}</p>\n", text(words))
 }
 
+/// A table of at most so many lines is not divided between two pages.
+const SHORT: usize = 12;
+
 /// A table; the entries of its lines are elements already.
 pub fn table(titles: &[&str], lines: &[Vec<String>]) -> String {
-    let mut s = "<div class=\"scroll\"><table>\n<thead><tr>".to_string();
+    let class = if lines.len() <= SHORT { " class=\"short\"" } else { "" };
+    let mut s = format!("<div class=\"scroll\"><table{class}>\n<thead><tr>");
     for title in titles {
         s.push_str(&format!("<th scope=\"col\">{}</th>", text(title)));
     }
@@ -144,6 +155,10 @@ const MARKS: &str = "In a picture of a race each process has a lane, and the row
     with Found, Order or Posted are the rows that the reason names behind that word. An arrow is a message, from its send to the wait for it; a \
     thick line is a barrier; a dashed line joins the two rows; three dots stand for rows left out.";
 
+/// What the letters in the pictures of a join mean.
+const LETTERS: &str =
+    "A and B in a box tell whether the row is of the first or of the second trace, and the number behind it is the row's there.";
+
 /// What the words and pictures mean, and how to make the page again.
 pub fn legend(judged: &Judged) -> String {
     let mut s = "<dl class=\"terms\">\n".to_string();
@@ -152,6 +167,9 @@ pub fn legend(judged: &Judged) -> String {
     }
     s.push_str("</dl>\n");
     s.push_str(&paragraph(MARKS));
+    if let Recorded::Joined(_) = &judged.trace.source {
+        s.push_str(&paragraph(LETTERS));
+    }
     let mut line = command("report", judged.trace) + &option_of(&judged.models());
     if judged.limit != REPORT_LIMIT as usize {
         line.push_str(&format!(" --limit {}", judged.limit));

@@ -1,7 +1,7 @@
 //! The races, in groups as `races` shows them: what is missing, said once for all races of a group that lack the same, and a picture of each race.
 
 use super::judged::{race_id, Judged};
-use super::page::{command, paragraph, section as page_section, table, text};
+use super::page::{command, not_shown, paragraph, section as page_section, table, text};
 use crate::alike::Lacks;
 use crate::args::Choice;
 use crate::check::{free, why};
@@ -15,6 +15,8 @@ use crate::words::Words;
 use kiqsaryn::{Model, PAIR};
 use std::collections::BTreeSet;
 
+/// How many groups of which no race is shown are named.
+const GROUPS: usize = 40;
 const ALL: Choice = Choice { file: None, process: None, limit: None };
 
 /// The races under models that have the same ones, in groups, and which of them are shown.
@@ -66,22 +68,39 @@ fn alike(reason: &Reason, group: &Group, others: &[Pair]) -> String {
     format!("<p class=\"alike\">{count}. Also: {}{more}.</p>\n", list.join("; "))
 }
 
+/// What is missing for the first of races that lack the same, as it is said for these models.
+struct Said {
+    models: Vec<Model>,
+    first: Pair,
+    body: String,
+}
+
 impl Part<'_> {
-    /// What is missing under a model for the races of a group: equal reasons once, for the first race that has them.
-    fn reasons_of(&self, k: usize, m: usize) -> String {
-        let mut s = String::new();
-        let (model, shown) = (self.models[m], &self.shown[k]);
-        for reason in self.reasons[m][k].iter().filter(|reason| shown.contains(&reason.first)) {
-            let (earlier, later) = reason.first;
-            let is_alike = |pair: &&Pair| **pair != reason.first && self.lacks[m].of(pair.0, pair.1) == Some(reason.lack);
-            let others: Vec<Pair> = shown.iter().filter(is_alike).copied().collect();
-            let heading = format!("Row {earlier} and row {later} under {}", model.name());
-            s.push_str(&format!("<div class=\"reason\">\n<h5>{heading}</h5>\n"));
-            s.push_str(&sentences(why(self.trace, model, earlier, later).as_ref()));
-            s.push_str(&alike(reason, &self.groups.all[k], &others));
-            s.push_str("</div>\n");
+    /// What is missing under a model for races of a group.
+    fn body(&self, k: usize, m: usize, reason: &Reason) -> String {
+        let is_alike = |pair: &&Pair| **pair != reason.first && self.lacks[m].of(pair.0, pair.1) == Some(reason.lack);
+        let others: Vec<Pair> = self.shown[k].iter().filter(is_alike).copied().collect();
+        let words = why(self.trace, self.models[m], reason.first.0, reason.first.1);
+        sentences(words.as_ref()) + &alike(reason, &self.groups.all[k], &others)
+    }
+
+    /// What is missing for the races of a group: equal reasons once, for the first race that has them, and for all models under which the same is said.
+    fn reasons_of(&self, k: usize) -> String {
+        let mut all: Vec<Said> = Vec::new();
+        for (m, model) in self.models.iter().enumerate() {
+            for reason in self.reasons[m][k].iter().filter(|reason| self.shown[k].contains(&reason.first)) {
+                let (first, body) = (reason.first, self.body(k, m, reason));
+                match all.iter_mut().find(|said| said.first == first && said.body == body) {
+                    Some(said) => said.models.push(*model),
+                    None => all.push(Said { models: vec![*model], first, body }),
+                }
+            }
         }
-        s
+        let put = |Said { models, first: (earlier, later), body }: &Said| {
+            let heading = format!("Row {earlier} and row {later} under {}", names(models));
+            format!("<div class=\"reason\">\n<h5>{heading}</h5>\n{body}</div>\n")
+        };
+        all.iter().map(put).collect()
     }
 }
 
@@ -167,9 +186,7 @@ impl<'a> Part<'a> {
         if group.races > shown.len() {
             s.push_str(&paragraph(&format!("and {} more, not shown", group.races - shown.len())));
         }
-        for m in 0..self.models.len() {
-            s.push_str(&self.reasons_of(k, m));
-        }
+        s.push_str(&self.reasons_of(k));
         for pair in shown {
             s.push_str(&self.figures(*pair)?);
         }
@@ -184,14 +201,17 @@ impl<'a> Part<'a> {
             return String::new();
         }
         let whole: Vec<&Group> = self.groups.all.iter().zip(&self.shown).filter(|(_, shown)| shown.is_empty()).map(|(g, _)| g).collect();
+        let mut items: Vec<String> =
+            whole.iter().take(GROUPS).map(|group| format!("<li>{}, not shown</li>\n", text(&head(group)))).collect();
+        if whole.len() > GROUPS {
+            items.push(format!("<li>and {}, not shown</li>\n", counted((whole.len() - GROUPS) as u64, "more group")));
+        }
         let mut s = String::new();
-        if !whole.is_empty() {
-            let items: Vec<String> = whole.iter().map(|group| format!("<li>{}, not shown</li>\n", text(&head(group)))).collect();
+        if !items.is_empty() {
             s.push_str(&format!("<ul>\n{}</ul>\n", items.concat()));
         }
         let line = format!("{} --model {} --limit {}", command("races", self.trace), self.models[0].name(), self.races);
-        let more = counted((self.races - shown) as u64, "more race");
-        s + &format!("<p>{more} under {}. To see all: <code>{}</code></p>\n", names(self.models), text(&line))
+        s + &not_shown((self.races - shown) as u64, "race", &names(self.models), &line)
     }
 
     fn put(&self) -> Result<String, String> {

@@ -1,7 +1,8 @@
 //! The reads that returned old bytes in the recorded order: what each returned, and what one plain file would have.
 
 use super::bytes::picture;
-use super::page::{command, paragraph, section as page_section, table, text};
+use super::judged::Judged;
+use super::page::{command, not_shown, paragraph, section as page_section, table, text};
 use crate::input::Trace;
 use crate::output::Failed;
 use crate::races::names;
@@ -60,6 +61,10 @@ fn kept(pieces: &[PieceOf]) -> BTreeSet<usize> {
             kept.insert(k);
         }
     }
+    // One piece alone takes no more space than the word that it is left out.
+    let is_kept = |k: Option<usize>| k.is_none_or(|k| k >= pieces.len() || kept.contains(&k));
+    let alone: Vec<usize> = (0..pieces.len()).filter(|k| is_kept(k.checked_sub(1)) && is_kept(Some(k + 1))).collect();
+    kept.extend(alone);
     kept
 }
 
@@ -138,13 +143,24 @@ fn writer(trace: &Trace, row: u32) -> String {
     }
 }
 
-/// A part as a line of the table.
-fn line(trace: &Trace, part: &Part) -> Vec<String> {
+/// That bytes are stale; where the write that the read does not see and the read are a race under all models, with a link to its picture.
+fn stale_words(judged: &Judged, models: &[Model], pair: (u32, u32)) -> String {
+    let stale = "<strong class=\"race\">STALE</strong>";
+    let pictures: Option<Vec<String>> = models.iter().map(|model| judged.picture_of(*model, pair)).collect();
+    match pictures.as_deref() {
+        Some([first, ..]) => format!("{stale}: <a href=\"#{first}\">race of row {} and row {}</a>", pair.0, pair.1),
+        _ => stale.to_string(),
+    }
+}
+
+/// A part of the read of this number as a line of the table.
+fn line(judged: &Judged, models: &[Model], number: u32, part: &Part) -> Vec<String> {
+    let trace = judged.trace;
     match *part {
         Part::Piece(piece) => {
-            let stale = if piece.is_stale() { "<strong class=\"race\">STALE</strong>" } else { "" };
+            let stale = if piece.is_stale() { stale_words(judged, models, (piece.plain, number)) } else { String::new() };
             let bytes = format!("{} ({})", span(piece.start, piece.length), counted(u64::from(piece.length), "byte"));
-            vec![bytes, writer(trace, piece.row), writer(trace, piece.plain), stale.to_string()]
+            vec![bytes, writer(trace, piece.row), writer(trace, piece.plain), stale]
         }
         Part::Left { start, length, pieces, stale } => {
             let words = format!("{}, not shown", counted(pieces as u64, "piece"));
@@ -154,7 +170,8 @@ fn line(trace: &Trace, part: &Part) -> Vec<String> {
     }
 }
 
-fn read(trace: &Trace, models: &[Model], read: &Read, id: &str) -> String {
+fn read(judged: &Judged, models: &[Model], read: &Read, id: &str) -> String {
+    let trace = judged.trace;
     let Read { number, row, stale, parts } = read;
     let who = format!(
         "Row {number}{}: process {} reads {} of file {}",
@@ -169,8 +186,8 @@ fn read(trace: &Trace, models: &[Model], read: &Read, id: &str) -> String {
     let caption = format!("{} of {} stale. The bytes are drawn {scale}.", stale, counted(u64::from(row.length), "byte"));
     let mut s = format!("<section class=\"group\">\n<h4 id=\"{id}\">{}</h4>\n", text(&who));
     s.push_str(&format!("<figure>\n<figcaption>{}</figcaption>\n<div class=\"scroll\">{svg}</div>\n</figure>\n", text(&caption)));
-    let titles = ["bytes", &format!("under {names}"), "one plain file", ""];
-    s.push_str(&table(&titles, &parts.iter().map(|part| line(trace, part)).collect::<Vec<Vec<String>>>()));
+    let titles = ["bytes", &format!("under {names}"), "one plain file", "stale"];
+    s.push_str(&table(&titles, &parts.iter().map(|part| line(judged, models, *number, part)).collect::<Vec<Vec<String>>>()));
     if parts.iter().any(|part| matches!(part, Part::Left { .. })) {
         let line = format!("{} --model {} --row {number}", command("replay", trace), models[0].name());
         s.push_str(&format!("<p>To see every piece: <code>{}</code></p>\n", text(&line)));
@@ -180,16 +197,15 @@ fn read(trace: &Trace, models: &[Model], read: &Read, id: &str) -> String {
 
 impl Under {
     /// The reads with stale bytes, and how many more there are.
-    fn put(&self, trace: &Trace, place: usize) -> String {
+    fn put(&self, judged: &Judged, place: usize) -> String {
         let mut s = format!("<h3>Stale reads under {}</h3>\n", names(&self.models));
         for shown in &self.shown {
-            s.push_str(&read(trace, &self.models, shown, &format!("stale-{}-{}", place + 1, shown.number)));
+            s.push_str(&read(judged, &self.models, shown, &format!("stale-{}-{}", place + 1, shown.number)));
         }
         let hidden = self.counts.stale_reads - self.shown.len() as u64;
         if hidden > 0 {
-            let line = format!("{} --model {} --stale", command("replay", trace), self.models[0].name());
-            let more = counted(hidden, "more stale read");
-            s.push_str(&format!("<p>{more} under {}. To see all: <code>{}</code></p>\n", names(&self.models), text(&line)));
+            let line = format!("{} --model {} --stale", command("replay", judged.trace), self.models[0].name());
+            s.push_str(&not_shown(hidden, "stale read", &names(&self.models), &line));
         }
         s
     }
@@ -206,16 +222,17 @@ fn counts(models: &[Model], all: &[Under]) -> String {
 }
 
 /// What each stale read returned under each model. An error is a sentence.
-pub fn section(trace: &Trace, models: &[Model], limit: usize) -> Result<String, String> {
-    let all = collect(trace, models, limit)?;
+pub fn section(judged: &Judged) -> Result<String, String> {
+    let (trace, models) = (judged.trace, judged.models());
+    let all = collect(trace, &models, judged.limit)?;
     let is_any = all.iter().any(|under| under.counts.stale_reads > 0);
     let mut s = paragraph(&meaning(trace, is_any).split_whitespace().collect::<Vec<&str>>().join(" "));
-    s.push_str(&counts(models, &all));
+    s.push_str(&counts(&models, &all));
     if !is_any {
         s.push_str(&paragraph("Every read returned what one plain file would have, in this order."));
     }
     for (place, under) in all.iter().enumerate().filter(|(_, under)| under.counts.stale_reads > 0) {
-        s.push_str(&under.put(trace, place));
+        s.push_str(&under.put(judged, place));
     }
     Ok(page_section("stale", "Stale reads", &s))
 }

@@ -59,7 +59,8 @@ main{max-width:none;padding:0}
 nav{display:none}
 a{color:inherit;text-decoration:none}
 h1,h2,h3,h4,h5,figcaption{break-after:avoid}
-figure,tr,.reason{break-inside:avoid}
+figure,tr,.reason,.short{break-inside:avoid}
+p,li,dd{orphans:3;widows:3}
 .scroll{overflow:visible}
 figure svg{max-width:100%;max-height:235mm}}
 ";
