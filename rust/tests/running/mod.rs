@@ -1,6 +1,7 @@
 //! Programs run as a user runs them.
 
 pub mod folder;
+pub mod page;
 pub mod pair;
 pub mod picture;
 
