@@ -143,7 +143,6 @@ pub fn svg(trace: &Trace, model: Model, crop: &Crop) -> Result<String, String> {
 }
 
 /// The picture of one race as an element of a page that holds `STYLE`. The name tells it from the others of the page. An error is a sentence.
-#[allow(dead_code)]
 pub fn of_race(trace: &Trace, model: Model, pair: (u32, u32), id: &str) -> Result<String, String> {
     let race = Race::new(trace, model, pair);
     let choices = crop::of_race_in_page(trace, &race);
