@@ -21,7 +21,7 @@ pub fn html(trace: &Trace, models: &[Model], limit: usize) -> Result<String, Str
         page::head(&judged),
         read::section(trace),
         judged::section(&judged),
-        pairs::section(&judged)?,
+        pairs::section(&judged),
         stale::section(&judged)?,
         page::legend(&judged),
     ];

@@ -133,25 +133,26 @@ impl Part<'_> {
         drawn
     }
 
-    fn figure(&self, pair: Pair, model: Model, id: &str) -> Result<String, String> {
+    fn figure(&self, pair: Pair, model: Model, id: &str) -> String {
         let rows = self.trace.rows();
         let both = rows.row(pair.0).and_then(|x| shared(x, rows.row(pair.1)?));
         let share = both.map_or(String::new(), |(first, last)| format!(" share {}", bytes_of(first, last - first + 1)));
         let [a, b] = [pair.0, pair.1].map(|number| format!("{number}{}", self.trace.own_behind(number)));
-        let caption = text(&format!("Row {a} and row {b}{share}. Marked as under {}.", model.name()));
-        let picture = diagram::of_race(self.trace, model, pair, id)?.replacen("<svg ", "<svg role=\"img\" ", 1);
-        Ok(format!("<figure id=\"{id}\">\n<figcaption>{caption}</figcaption>\n<div class=\"scroll\">{picture}</div>\n</figure>\n"))
+        let caption = format!("Row {a} and row {b}{share}. The marks are those of the reason under {}.", model.name());
+        // A picture that is too large is no reason to have no page.
+        let picture = match diagram::of_race(self.trace, model, pair, id) {
+            Ok(picture) => picture.replacen("<svg ", "<svg role=\"img\" ", 1),
+            Err(sentence) => paragraph(&format!("There is no picture: {sentence}.")),
+        };
+        let caption = format!("<figcaption>{}</figcaption>", text(&caption));
+        format!("<figure id=\"{id}\">\n{caption}\n<div class=\"scroll\">{picture}</div>\n</figure>\n")
     }
 
     /// The pictures of a race.
-    fn figures(&self, pair: Pair) -> Result<String, String> {
+    fn figures(&self, pair: Pair) -> String {
         let first = race_id(self.place, pair);
-        let mut s = String::new();
-        for (k, model) in self.drawn(pair).into_iter().enumerate() {
-            let id = if k == 0 { first.clone() } else { format!("{first}-{}", model.name()) };
-            s.push_str(&self.figure(pair, model, &id)?);
-        }
-        Ok(s)
+        let id = |k: usize, model: Model| if k == 0 { first.clone() } else { format!("{first}-{}", model.name()) };
+        self.drawn(pair).into_iter().enumerate().map(|(k, model)| self.figure(pair, model, &id(k, model))).collect()
     }
 }
 
@@ -179,7 +180,7 @@ impl<'a> Part<'a> {
         entries(self.trace, pair).into_iter().enumerate().map(cell).collect()
     }
 
-    fn group(&self, k: usize) -> Result<String, String> {
+    fn group(&self, k: usize) -> String {
         let (group, shown) = (&self.groups.all[k], &self.shown[k]);
         let mut s = format!("<section class=\"group\">\n<h4>{}</h4>\n", text(&head(group)));
         s.push_str(&table(&TITLES, &shown.iter().map(|pair| self.line(*pair)).collect::<Vec<Vec<String>>>()));
@@ -188,10 +189,9 @@ impl<'a> Part<'a> {
         }
         s.push_str(&self.reasons_of(k));
         for pair in shown {
-            s.push_str(&self.figures(*pair)?);
+            s.push_str(&self.figures(*pair));
         }
-        s.push_str("</section>\n");
-        Ok(s)
+        s + "</section>\n"
     }
 
     /// How many races are not shown, in which groups, and how to see them.
@@ -214,19 +214,19 @@ impl<'a> Part<'a> {
         s + &not_shown((self.races - shown) as u64, "race", &names(self.models), &line)
     }
 
-    fn put(&self) -> Result<String, String> {
+    fn put(&self) -> String {
         let mut s = format!("<h3>Races under {}</h3>\n", names(self.models));
         let groups = counted(self.groups.all.len() as u64, "group");
         s.push_str(&paragraph(&format!("{}, in {groups}", counted(self.races as u64, "race"))));
         for k in (0..self.groups.all.len()).filter(|k| !self.shown[*k].is_empty()) {
-            s.push_str(&self.group(k)?);
+            s.push_str(&self.group(k));
         }
-        Ok(s + &self.hidden())
+        s + &self.hidden()
     }
 }
 
-/// Every race up to the limit under each model. An error is a sentence.
-pub fn section(judged: &Judged) -> Result<String, String> {
+/// Every race up to the limit under each model.
+pub fn section(judged: &Judged) -> String {
     let mut s = paragraph(
         "A group has the races of one file between two processes. Models with the same races are shown together. What is missing is said \
          once for all races of a group for which the same is missing, with the row numbers of the first.",
@@ -235,8 +235,8 @@ pub fn section(judged: &Judged) -> Result<String, String> {
         if found.list.is_empty() {
             s.push_str(&paragraph(&format!("{}: {}.", names(&found.models), free(judged.trace))));
         } else {
-            s.push_str(&Part::new(judged, place, found).put()?);
+            s.push_str(&Part::new(judged, place, found).put());
         }
     }
-    Ok(page_section("races", "Races", &s))
+    page_section("races", "Races", &s)
 }

@@ -43,7 +43,7 @@ fn one(label: &str, recording: &Recording) -> String {
         s.push_str(&line("last row", &row(recording, recording.n)));
     }
     if recording.n > 0 {
-        s.push_str(&line("rows of each", &tally(recording)));
+        s.push_str(&line("counts", &tally(recording)));
     }
     s.push_str("</tbody></table></div>\n");
     s
