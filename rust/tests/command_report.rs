@@ -448,6 +448,18 @@ fn large_trace() -> String {
     (0..4_096).map(row).collect()
 }
 
+/// Whatever the limit is, a page does not grow past what a browser opens.
+#[test]
+fn a_page_shows_no_more_than_ten_thousand_races() {
+    let text: String = (0..160).map(|k| format!("{},write,1,0,1,\r\n", k % 40)).collect();
+    let told = alone("no", text.as_bytes());
+    let o = told.run("report", &["--model", "posix", "--limit", "4294967295"]);
+    let figures = out(&o).matches("<figure ").count();
+    let races = told.races("posix", u32::MAX as usize).len();
+    assert!(races > 10_000 && figures == 10_000, "{figures} pictures of {races} races");
+    assert!(out(&o).contains(&format!("{} races under posix are not shown here.", races - 10_000)));
+}
+
 /// A page of millions of races stays small, and is made within seconds.
 #[test]
 fn a_page_of_millions_of_races_is_small_and_soon_there() {

@@ -14,9 +14,13 @@ use crate::races;
 use judged::Judged;
 use kiqsaryn::Model;
 
+/// No page shows more races or stale reads under a model: it would be too large for a browser.
+const MOST: usize = 10_000;
+
 /// The whole page, with at most so many races and stale reads under each model. An error is a sentence.
 pub fn html(trace: &Trace, models: &[Model], limit: usize) -> Result<String, String> {
-    let judged = Judged { trace, verdicts: check::judge(trace, models)?, found: races::find(trace, models)?, limit };
+    let (verdicts, found) = (check::judge(trace, models)?, races::find(trace, models)?);
+    let judged = Judged { trace, verdicts, found, limit: limit.min(MOST) };
     let sections = [
         page::head(&judged),
         read::section(trace),

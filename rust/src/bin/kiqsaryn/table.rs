@@ -264,7 +264,7 @@ const REPORT: Command = Command {
         HEADERS,
         PROCESS_LIMIT,
         MODEL_OR_ALL,
-        opt("--limit", Value::Any("N"), "show at most N races and N stale reads under each model; 200 if left out. All are counted still"),
+        opt("--limit", Value::Any("N"), "show at most N races and N stale reads under each model; 200 if left out, and never more than 10000. All are counted still"),
         TO_FILE,
     ],
     more: &[REPLACED],

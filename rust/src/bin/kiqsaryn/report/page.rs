@@ -126,7 +126,7 @@ pub fn head(judged: &Judged) -> String {
     s.push_str(&paragraph(
         "A storage race is a pair of operations that touch the same bytes of a file and that the consistency model of the storage does not \
          order, so that a read may return old bytes. This page shows what was read of the recorded trace, the verdict under each model, every \
-         race with its reason and a picture, and the reads that returned old bytes.",
+         race with its reason and a picture, and the reads that get old bytes in the recorded order.",
     ));
     s.push_str(&paragraph(&format!("Made by kiqsaryn {VERSION}. The same trace gives the same page.")));
     s.push_str("<nav aria-label=\"Parts of this page\"><ul>");
@@ -140,13 +140,13 @@ pub fn head(judged: &Judged) -> String {
 /// The words of this page, and what each means.
 const TERMS: [(&str, &str); 8] = [
     ("free", "no two rows race under this model: every read, in every order in which the same processes could have run, returns what one plain file would."),
-    ("race", "the two rows touch the same bytes of one file, one of them writes, and the model does not order them."),
+    ("race", "the two rows touch the same bytes of one file, at least one of them writes, and the model does not order them."),
     ("Needed", "what the model asks for between the two rows."),
     ("Found", "what the trace has of it."),
     ("Missing", "why that is not enough."),
     ("Posted", "a receive that is posted and not waited for in time, where a wait would bring the order."),
     ("Order", "how far the later side knows of the earlier one. The place in the trace alone orders nothing."),
-    ("STALE", "bytes that are not those that one plain file would give: the read returned an older state."),
+    ("STALE", "the read does not get the bytes that one plain file would give it."),
 ];
 
 /// What the boxes and lines of the pictures mean.
