@@ -399,6 +399,23 @@ fn a_name_is_no_markup_and_the_page_can_be_made_again() {
     }
 }
 
+#[test]
+fn names_of_joined_traces_are_no_markup() {
+    let folder = Folder::new("report-joined-names");
+    for (from, to) in [("left.csv", "<b>&\"l'.csv"), ("right.csv", "<i>ü&r.csv")] {
+        folder.put(to, &fs::read_to_string(examples().join("join").join(from)).expect("a trace"), 0o644);
+    }
+    let args = ["report", "<b>&\"l'.csv", "<i>ü&r.csv", "--headers", "yes,no"];
+    let o = feed(Command::new(EXE).args(args).current_dir(&folder.path), b"");
+    let page = well_kept(&out(&o));
+    assert_eq!(page.all("h1")[0].words(), "Storage races in <b>&\"l'.csv and <i>ü&r.csv");
+    assert!(page.all("figcaption")[0].words().contains("Row 1 (row 1 of <b>&\"l'.csv)"), "{}", page.all("figcaption")[0].words());
+    assert!(page.of_id("races").all("text").iter().any(|text| text.words().contains("<i>ü&r.csv")), "a picture names the trace");
+    let line = page.all("pre")[0].words();
+    assert_eq!(status(&folder.sh(&line)), 1, "{line}");
+    assert!(folder.read("report.html") == o.stdout, "{line}");
+}
+
 /// A name with a control character or without UTF-8 is escaped, and is no reason to fail.
 #[test]
 fn a_name_of_any_bytes_is_shown() {

@@ -88,9 +88,9 @@ fn shell_word(name: &str) -> String {
     }
 }
 
-/// A command about the trace, with the options that tell how it was read.
+/// A command about the trace, with the options that tell how it was read. A trace that came by standard input has no name of its own.
 pub fn command(name: &str, trace: &Trace) -> String {
-    let of = |r: &Recording| if r.name == "standard input" { "-".to_string() } else { shell_word(&r.name) };
+    let of = |r: &Recording| if r.name == "standard input" { "TRACE".to_string() } else { shell_word(&r.name) };
     let words: Vec<&str> = recordings(trace).iter().map(|r| if r.header { "yes" } else { "no" }).collect();
     let names: Vec<String> = recordings(trace).iter().map(of).collect();
     let option = if words.len() > 1 { "--headers" } else { "--header" };

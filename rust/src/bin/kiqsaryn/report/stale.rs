@@ -3,10 +3,10 @@
 use super::bytes::picture;
 use super::judged::Judged;
 use super::page::{command, not_shown, paragraph, section as page_section, table, text};
-use crate::input::Trace;
+use crate::input::{Recorded, Trace};
 use crate::output::Failed;
 use crate::races::names;
-use crate::replay::{each_read, meaning, PieceOf, ReadAnswer};
+use crate::replay::{each_read, PieceOf, ReadAnswer};
 use crate::text::{bytes_of, counted, span};
 use kiqsaryn::{Model, Row, READ};
 use std::collections::BTreeSet;
@@ -226,10 +226,15 @@ pub fn section(judged: &Judged) -> Result<String, String> {
     let (trace, models) = (judged.trace, judged.models());
     let all = collect(trace, &models, judged.limit)?;
     let is_any = all.iter().any(|under| under.counts.stale_reads > 0);
-    let mut s = paragraph(&meaning(trace, is_any).split_whitespace().collect::<Vec<&str>>().join(" "));
+    let order = match &trace.source {
+        Recorded::Alone(_) => "recorded order",
+        Recorded::Joined(_) => "joined order",
+    };
+    let meaning = "A read is stale where it does not get the bytes that one plain file would give it.";
+    let mut s = paragraph(&format!("{meaning} This is the {order} alone. The verdicts judge every allowed order."));
     s.push_str(&counts(&models, &all));
     if !is_any {
-        s.push_str(&paragraph("Every read returned what one plain file would have, in this order."));
+        s.push_str(&paragraph("Every read gets what one plain file would give it, in this order."));
     }
     for (place, under) in all.iter().enumerate().filter(|(_, under)| under.counts.stale_reads > 0) {
         s.push_str(&under.put(judged, place));
