@@ -13,6 +13,7 @@ use crate::races::{entries, head, names, Found, TITLES};
 use crate::text::{bytes_of, counted};
 use crate::words::Words;
 use kiqsaryn::{Model, PAIR};
+use std::cmp::Reverse;
 use std::collections::BTreeSet;
 
 /// How many groups of which no race is shown are named.
@@ -120,13 +121,15 @@ fn marks(trace: &Trace, model: Model, (earlier, later): Pair) -> BTreeSet<(&'sta
 }
 
 impl Part<'_> {
-    /// The models whose pictures of a race are drawn: the first, and each whose explanation names a row that no picture before it marks so.
+    /// The models whose pictures of a race are drawn: the one whose reason names most rows, and each whose reason names a row that no picture before it
+    /// marks so.
     fn drawn(&self, pair: Pair) -> Vec<Model> {
         let (mut marked, mut drawn) = (BTreeSet::new(), Vec::new());
-        for model in self.models {
-            let marks = marks(self.trace, *model, pair);
+        let mut all: Vec<(Model, BTreeSet<(&str, u32)>)> = self.models.iter().map(|m| (*m, marks(self.trace, *m, pair))).collect();
+        all.sort_by_key(|(_, marks)| Reverse(marks.len()));
+        for (model, marks) in all {
             if drawn.is_empty() || !marks.is_subset(&marked) {
-                drawn.push(*model);
+                drawn.push(model);
                 marked.extend(marks);
             }
         }
