@@ -2,7 +2,6 @@
 
 use crate::explain::explain;
 use crate::input::{short_names, Join, Recorded, Trace};
-use crate::json;
 use crate::races;
 use crate::recording::Recording;
 use crate::tally::Tally;
@@ -38,15 +37,6 @@ pub fn csv(verdicts: &[(Model, Verdict)]) -> String {
         }
     }
     s
-}
-
-/// The verdicts as one JSON object.
-pub fn json(_trace: &Trace, verdicts: &[(Model, Verdict)]) -> Result<String, String> {
-    let of = |(model, v): &(Model, Verdict)| {
-        let race = if *v == Verdict::Free { "free" } else { "race" };
-        json::object(&[("model", json::string(model.name())), ("verdict", json::string(race))])
-    };
-    Ok(json::object(&[("models", json::list(verdicts.iter().map(of)))]))
 }
 
 /// A record as it stands behind a label, what it says, and where it comes from if that is known.

@@ -18,15 +18,27 @@ pub fn string(text: &str) -> String {
     s
 }
 
-/// An object of fields whose values are JSON texts already.
-pub fn object(fields: &[(&str, String)]) -> String {
-    let fields: Vec<String> = fields.iter().map(|(name, value)| format!("{}:{value}", string(name))).collect();
-    format!("{{{}}}", fields.join(","))
+/// A field of an object: its name, and its value as a JSON text.
+pub type Field = (&'static str, String);
+
+/// Fields with commas between, without the braces of an object.
+pub fn fields(fields: &[Field]) -> String {
+    fields.iter().map(|(name, value)| format!("{}:{value}", string(name))).collect::<Vec<String>>().join(",")
+}
+
+pub fn object(all: &[Field]) -> String {
+    format!("{{{}}}", fields(all))
 }
 
 /// A list of JSON texts.
 pub fn list(values: impl IntoIterator<Item = String>) -> String {
     format!("[{}]", values.into_iter().collect::<Vec<String>>().join(","))
+}
+
+/// A list of JSON texts with a line for each.
+pub fn lines(values: impl IntoIterator<Item = String>) -> String {
+    let lines: Vec<String> = values.into_iter().map(|value| format!("\n{value}")).collect();
+    format!("[{}]", lines.join(","))
 }
 
 /// A JSON text, or null.

@@ -5,6 +5,7 @@ mod answers;
 mod args;
 mod barriers;
 mod check;
+mod check_json;
 mod completions;
 mod cure;
 mod diagram;
@@ -23,8 +24,10 @@ mod newer;
 mod output;
 mod posted;
 mod races;
+mod races_json;
 mod recording;
 mod refused;
+mod refused_json;
 mod replay;
 mod report;
 mod returned;
@@ -33,6 +36,7 @@ mod standard;
 mod table;
 mod tally;
 mod text;
+mod trace_json;
 mod turns;
 mod words;
 mod write;
@@ -161,7 +165,7 @@ fn run_check(each: &[Common], models: &[Model], form: Form) -> Outcome {
         match form {
             Form::Words => answers.say(&check::report(trace, &verdicts)?)?,
             Form::Csv => answers.say_lines(&check::csv(&verdicts))?,
-            Form::Json => answers.say(&check::json(trace, &verdicts)?)?,
+            Form::Json => answers.say(&check_json::object(trace, &verdicts)?)?,
         }
         Ok(if check::any_race(&verdicts) { RACE } else { FREE })
     })
@@ -172,12 +176,12 @@ fn run_races(each: &[Common], models: &[Model], choice: &Choice, form: Form) -> 
     run_each(each, "races", form, |answers, trace| {
         let all = races::find(trace, models)?;
         match form {
-            Form::Words => races::report(answers.out()?, trace, models, &all, choice)?,
+            Form::Words => races::report(answers.out(), trace, models, &all, choice)?,
             Form::Csv => {
-                let lead = answers.lead("model,earlier,later\r\n")?;
-                races::csv(answers.out()?, &lead, trace, models, &all, choice)?;
+                let lead = answers.lead()?;
+                races::csv(answers.out(), &lead, trace, models, &all, choice)?;
             }
-            Form::Json => races::json(answers.out()?, trace, models, &all, choice)?,
+            Form::Json => races_json::put(answers.out(), trace, models, &all, choice)?,
         }
         Ok(if races::any_race(&all) { RACE } else { FREE })
     })
@@ -186,8 +190,8 @@ fn run_races(each: &[Common], models: &[Model], choice: &Choice, form: Form) -> 
 fn run_replay(each: &[Common], reads: &Reads, model: Model, form: Form) -> Outcome {
     run_each(each, "replay", form, |answers, trace| {
         match form {
-            Form::Json => replay::put_json(answers.out()?, trace, reads, model)?,
-            _ => replay::put(answers.out()?, trace, reads, model)?,
+            Form::Json => replay::put_json(answers.out(), trace, reads, model)?,
+            _ => replay::put(answers.out(), trace, reads, model)?,
         }
         Ok(FREE)
     })

@@ -5,7 +5,6 @@ use crate::check::{free, sentence, sentences, what_was_joined, why};
 use crate::explain::shared;
 use crate::groups::{pairs, Group, Groups, Key, Pair};
 use crate::input::{Recorded, Trace};
-use crate::json;
 use crate::replay::heading;
 use crate::text::{counted, labelled, refusal_of_library, span};
 use kiqsaryn::{list_len, races, Listed, Model, Row, PAIR, READ};
@@ -82,13 +81,6 @@ pub fn csv(out: &mut impl Write, lead: &str, trace: &Trace, models: &[Model], al
         }
     }
     Ok(())
-}
-
-/// The counts of the races under each model, as one JSON object.
-pub fn json(out: &mut impl Write, trace: &Trace, models: &[Model], all: &[Found], _choice: &Choice) -> io::Result<()> {
-    let of = |model: &Model| of_model(all, *model).map_or(0, |found| found.list.len() / PAIR);
-    let counts = models.iter().map(|m| json::object(&[("model", json::string(m.name())), ("races", of(m).to_string())]));
-    write!(out, "{}", json::object(&[("trace", json::string(heading(trace).1)), ("models", json::list(counts))]))
 }
 
 // ---- In words

@@ -6,7 +6,6 @@ use crate::cure::{cure, Cure};
 use crate::fields::line_and_column;
 use crate::found::{point, Point};
 use crate::input::{reads_as, row_of, short_names, JoinRefused, Refused, TraceRefused, Which};
-use crate::json;
 use crate::mend::in_words;
 use crate::messages::{Around, Numbered};
 use crate::recording::{byte_limit, record_start, Recording};
@@ -31,16 +30,6 @@ pub fn csv(r: &Refused) -> String {
         None => ",0",
     };
     format!("refused,{},{place}{file}\r\n", refusal.number())
-}
-
-/// The refusal as one JSON object.
-pub fn json(r: &Refused) -> String {
-    let (refusal, place) = match r {
-        Refused::Trace(r) => (r.refusal, r.place),
-        Refused::Join(r) => (r.refusal, r.place),
-    };
-    let refused = [("number", refusal.number().to_string()), ("row", place.to_string()), ("question", json::string(refusal.question()))];
-    json::object(&[("refused", json::object(&refused))])
 }
 
 pub fn report(r: &Refused) -> String {
