@@ -82,7 +82,7 @@ fn wrong_command_lines_have_status_3() {
         &["check", "commit_free.csv", "--header"],
         &["check", "commit_free.csv", "--header", "maybe"],
         &["check", "commit_free.csv", "--header", "yes", "--header", "no"],
-        &["check", "commit_free.csv", "commit_free.csv", "--header", "yes"],
+        &["check", "commit_free.csv", "commit_free.csv"],
         &["check", "--header", "yes"],
         &["check", "commit_free.csv", "--header", "yes", "--model", "nfs"],
         &["check", "commit_free.csv", "--header", "yes", "--processes", "0"],
@@ -93,7 +93,7 @@ fn wrong_command_lines_have_status_3() {
         &["check", "commit_free.csv", "--header", "yes", "-o", "x"],
         &["replay", "commit_free.csv", "--header", "yes"],
         &["replay", "commit_free.csv", "--header", "yes", "--file", "1"],
-        &["replay", "commit_free.csv", "--header", "yes", "--model", "commit"],
+        &["replay", "commit_free.csv", "--header", "yes", "--model", "commit", "--csv"],
         &["replay", "commit_free.csv", "--header", "yes", "--file", "64", "--model", "commit"],
         &["replay", "commit_free.csv", "--header", "yes", "--file", "1", "--model", "all"],
         &["replay", "commit_free.csv", "--file", "1", "--model", "commit"],
@@ -125,7 +125,7 @@ fn a_missing_header_word_says_why_it_is_asked() {
 #[test]
 fn help_and_version() {
     for (args, part) in [
-        (&["--help"][..], "kiqsaryn replay TRACE"),
+        (&["--help"][..], "kiqsaryn replay "),
         (&["check", "--help"], "kiqsaryn check shelf.csv --header yes"),
         (&["races", "--limit", "many", "--help"], "kiqsaryn races shelf.csv --header yes --limit 0"),
         (&["replay", "-h"], "kiqsaryn replay shelf.csv --header yes --file 1 --model commit"),

@@ -256,7 +256,8 @@ fn output_that_cannot_be_written_is_an_error() {
             failed(&f.sh(&line), &line, &format!("cannot write to standard output: {why}"));
         }
         let line = format!("exec 3<> pipe 4> pipe 3>&-; {command} >&4");
-        failed(&f.sh(&line), &line, "cannot write to standard output: Broken pipe");
+        let o = f.sh(&line);
+        assert_eq!((status(&o), out(&o), err(&o)), (3, String::new(), String::new()), "{line}");
     }
     // Where nothing is to be written, nothing fails.
     silent(&f.sh("kiqsaryn diagram t.csv --header yes -o p.svg >&-"));
@@ -265,13 +266,13 @@ fn output_that_cannot_be_written_is_an_error() {
 }
 
 #[test]
-fn a_reader_that_stops_early_is_told_as_an_error() {
+fn a_reader_that_stops_early_is_told_nothing() {
     let f = Folder::new("head");
     f.put("long.csv", &"0,write,1,0,10,\r\n".repeat(900), 0o644);
     for output in ["", "-o /dev/stdout"] {
         let o = f.sh(&format!("{{ kiqsaryn diagram long.csv --header no {output}; echo $? >&2; }} | head -c 1"));
         assert_eq!(out(&o), "<");
-        assert!(err(&o).starts_with("kiqsaryn: cannot write ") && err(&o).ends_with(": Broken pipe (os error 32)\n3\n"), "{}", err(&o));
+        assert_eq!(err(&o), "3\n", "{output}");
     }
 }
 

@@ -72,7 +72,13 @@ fn the_race_of_the_example_is_in_neither_trace_alone() {
 
 // ---- The command line
 
-const FOR_ONE: &str = "--header is for one trace; for two say --headers with a word for each: --headers yes,no\n";
+const FOR_EACH: &str = "--header is for traces by themselves; for a join say --headers with a word for each: --headers yes,no\n";
+const ONE_OF_BOTH: &str = "--header takes each trace by itself, and --headers joins two: say one of them\n";
+const SAY_EITHER: &str =
+    "say --header yes or --header no to take each trace by itself, or --headers with a word for each to join the two: \
+                          --headers yes,no\n";
+const NO_HEADER: &str = "join has no option \"--header\"; did you mean --headers?\n";
+const NO_HEADERS: &str = "write has no option \"--headers\"; did you mean --header?\n";
 const FOR_TWO: &str = "--headers is for two traces; for one say --header yes or --header no\n";
 const SAY_HEADERS: &str = "say --headers with yes or no for each trace, the first one's first: --headers yes,no\n";
 
@@ -80,9 +86,11 @@ const SAY_HEADERS: &str = "say --headers with yes or no for each trace, the firs
 const WRONG: &[(&[&str], &[&str], &str)] = &[
     (&["join"], &[], "join takes two traces, FIRST and SECOND\n"),
     (&["join"], &["a.csv", "--headers", "yes,no"], "join takes two traces, FIRST and SECOND\n"),
-    (&["join"], &["a.csv", "--header", "yes"], "join takes two traces, FIRST and SECOND\n"),
-    (&["join", "check", "races", "diagram"], &["a.csv", "b.csv", "a.csv", "--headers", "yes,no"], "more than two traces are given\n"),
-    (&["join", "check", "races", "replay", "diagram"], &["a.csv", "b.csv"], SAY_HEADERS),
+    (&["join"], &["a.csv", "--header", "yes"], NO_HEADER),
+    (&["join", "diagram"], &["a.csv", "b.csv", "a.csv", "--headers", "yes,no"], "more than two traces are given\n"),
+    (&["check", "races"], &["a.csv", "b.csv", "a.csv", "--headers", "yes,no"], FOR_TWO),
+    (&["join", "diagram"], &["a.csv", "b.csv"], SAY_HEADERS),
+    (&["check", "races", "replay"], &["a.csv", "b.csv"], SAY_EITHER),
     (&["join", "check", "races", "replay", "diagram"], &["a.csv", "b.csv", "--headers", "yes"], SAY_HEADERS),
     (&["join", "check"], &["a.csv", "b.csv", "--headers", "yes,maybe"], SAY_HEADERS),
     (&["join", "check"], &["a.csv", "b.csv", "--headers", "yes,no,no"], SAY_HEADERS),
@@ -92,29 +100,30 @@ const WRONG: &[(&[&str], &[&str], &str)] = &[
     (&["join", "check"], &["a.csv", "b.csv", "--headers=,"], SAY_HEADERS),
     (&["join", "check"], &["a.csv", "b.csv", "--headers"], "--headers has no value\n"),
     (&["join", "check"], &["a.csv", "b.csv", "--headers", "yes,no", "--headers", "yes,no"], "--headers is given twice\n"),
-    (&["join", "check", "races", "replay", "diagram"], &["a.csv", "b.csv", "--header", "yes"], FOR_ONE),
-    (&["join", "check", "races", "replay", "diagram"], &["a.csv", "b.csv", "--header", "yes", "--headers", "yes,no"], FOR_ONE),
-    (&["check", "races", "replay", "diagram", "write"], &["a.csv", "--headers", "yes,no"], FOR_TWO),
-    (&["check", "races", "replay", "diagram", "write"], &["a.csv", "--header", "yes", "--headers", "yes,no"], FOR_TWO),
+    (&["diagram"], &["a.csv", "b.csv", "--header", "yes"], FOR_EACH),
+    (&["join"], &["a.csv", "b.csv", "--header", "yes"], NO_HEADER),
+    (&["check", "races", "replay", "diagram"], &["a.csv", "b.csv", "--header", "yes", "--headers", "yes,no"], ONE_OF_BOTH),
+    (&["check", "races", "replay", "diagram"], &["a.csv", "--headers", "yes,no"], FOR_TWO),
+    (&["write"], &["a.csv", "--headers", "yes,no"], NO_HEADERS),
+    (&["check", "races", "replay", "diagram"], &["a.csv", "--header", "yes", "--headers", "yes,no"], ONE_OF_BOTH),
     (
         &["join", "check", "races", "replay", "diagram"],
         &["-", "-", "--headers", "yes,no"],
-        "standard input can be one of the two traces, not both\n",
+        "standard input can be one of the traces, not more\n",
     ),
-    (&["write"], &["a.csv", "b.csv", "--headers", "yes,no"], "more than one TRACE is given\n"),
-    (&["replay"], &["a.csv", "b.csv", "--headers", "yes,no"], "say which file: "),
-    (&["replay"], &["a.csv", "b.csv", "--headers", "yes,no", "--file", "1"], "say which model: "),
+    (&["write"], &["a.csv", "b.csv", "--header", "yes"], "more than one TRACE is given\n"),
+    (&["replay"], &["a.csv", "b.csv", "--headers", "yes,no"], "say which model: "),
     (
         &["join"],
         &["a.csv", "b.csv", "--headers", "yes,no", "--model", "nfs"],
         "--model is all, posix, commit, session or mpiio, not \"nfs\"\n",
     ),
-    (&["join"], &["a.csv", "b.csv", "--headers", "yes,no", "--file", "1"], "this command has no option \"--file\"\n"),
+    (&["join"], &["a.csv", "b.csv", "--headers", "yes,no", "--file", "1"], "join has no option \"--file\""),
     (&["join"], &["a.csv", "b.csv", "--headers", "yes,no", "--csv=1"], "--csv takes no value\n"),
-    (&["join"], &["a.csv", "b.csv", "--headers", "yes,no", "-o"], "-o has no value\n"),
+    (&["join"], &["a.csv", "b.csv", "--headers", "yes,no", "-o"], "--output has no value\n"),
     (&["join"], &["a.csv", "b.csv", "--headers", "yes,no", "--out-header", "yes"], "--out-header goes with -o\n"),
     (&["join"], &["a.csv", "b.csv", "--headers", "yes,no", "--out-header", "x", "-o", "c.csv"], "--out-header is yes or no, not \"x\"\n"),
-    (&["check", "races"], &["a.csv", "b.csv", "--headers", "yes,no", "-o", "c.csv"], "this command has no option \"-o\"\n"),
+    (&["check"], &["a.csv", "b.csv", "--headers", "yes,no", "-o", "c.csv"], "check has no option \"-o\"\n"),
 ];
 
 #[test]
@@ -136,7 +145,7 @@ fn wrong_command_lines_have_status_3() {
 #[test]
 fn help_tells_of_two_traces() {
     for (args, part) in [
-        (&["--help"][..], "kiqsaryn join FIRST SECOND --headers yes|no,yes|no"),
+        (&["--help"][..], "kiqsaryn join "),
         (&["join", "--help"], "kiqsaryn join left.csv right.csv --headers yes,yes"),
         (&["join", "x", "-h"], "-o FILE"),
         (&["check", "--help"], "kiqsaryn check FIRST SECOND --headers yes|no,yes|no"),
@@ -217,7 +226,7 @@ fn names_of_the_traces() {
     for (second, input, first_name, second_name) in [
         ("two/t.csv", "/dev/null", "one/t.csv", "two/t.csv"),
         ("'two/b c.csv'", "/dev/null", "t.csv", "b c.csv"),
-        ("\"$(printf 'two/\\303\\251\\n.csv')\"", "/dev/null", "t.csv", "\\xc3\\xa9\\n.csv"),
+        ("\"$(printf 'two/\\303\\251\\n.csv')\"", "/dev/null", "t.csv", "\u{e9}\\n.csv"),
         ("-", "two/t.csv", "t.csv", "standard input"),
         ("/dev/stdin", "two/t.csv", "t.csv", "stdin"),
     ] {
@@ -240,7 +249,10 @@ fn traces_without_rows() {
     let o = pair.run("join", "no,yes", &[]);
     assert_eq!(status(&o), 0);
     in_order(&out(&o), &["First trace: a.csv\n", "  0 bytes\n", "  0 rows\n\nSecond trace: b.csv\n", "  41 bytes\n", "  0 rows\n"]);
-    in_order(&out(&o), &["\nJoined: 0 rows, 0 of a.csv and 0 of b.csv\n\nVerdicts:\n  posix    free\n"]);
+    in_order(
+        &out(&o),
+        &["\nJoined: 0 rows, 0 of a.csv and 0 of b.csv\n\nVerdicts:\n  posix    free (the trace has no row: nothing was judged)\n"],
+    );
     assert_eq!(out(&pair.run("join", "no,yes", &["-o", "-"])), "");
     assert_eq!(out(&pair.run("join", "no,yes", &["-o", "-", "--out-header", "yes"])), NAMES);
     well_formed(&out(&pair.run("diagram", "no,yes", &[])));

@@ -338,10 +338,7 @@ fn what_cannot_be_written_is_an_error() {
         assert_eq!((f.read("old.csv"), f.read("fast.csv"), f.names()), (b"old".to_vec(), b"old".to_vec(), names.clone()), "{line}");
     }
     let o = f.sh("{ kiqsaryn write long.csv --header no; echo $? >&2; } | head -c 1");
-    assert_eq!(
-        (out(&o), err(&o)),
-        ("0".to_string(), "kiqsaryn: cannot write to standard output: Broken pipe (os error 32)\n3\n".to_string())
-    );
+    assert_eq!((out(&o).as_str(), err(&o).as_str()), ("0", "3\n"));
 }
 
 /// The file is whole, and yet what was written cannot be told.

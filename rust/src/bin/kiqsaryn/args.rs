@@ -137,6 +137,9 @@ It is never guessed: a first row taken for a header would be lost, and a
 header taken for a row would be refused or shift every row number.";
 const SAY_HEADER: &str = "say --header yes or --header no";
 const SAY_HEADERS: &str = "say --headers with yes or no for each trace, the first one's first: --headers yes,no";
+const SAY_EITHER: &str =
+    "say --header yes or --header no to take each trace by itself, or --headers with a word for each to join the two: \
+--headers yes,no";
 const HEADER_IS_NOT_FOR_JOIN: &str =
     "--header is for traces by themselves; for a join say --headers with a word for each: --headers yes,no";
 const HEADERS_IS_FOR_TWO: &str = "--headers is for two traces; for one say --header yes or --header no";
@@ -328,7 +331,8 @@ impl Given {
 
     /// The traces by themselves, with one header word for all.
     fn each(&self, traces: Vec<OsString>) -> Result<Vec<Inputs>, String> {
-        let header = self.value("--header").and_then(yes_or_no).ok_or_else(|| [SAY_HEADER, WHY_HEADER].concat())?;
+        let say = if traces.len() == 2 && !self.has("--header") { SAY_EITHER } else { SAY_HEADER };
+        let header = self.value("--header").and_then(yes_or_no).ok_or_else(|| [say, WHY_HEADER].concat())?;
         Ok(traces.into_iter().map(|trace| Inputs::One(Input { source: source(trace), header })).collect())
     }
 

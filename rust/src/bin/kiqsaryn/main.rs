@@ -288,9 +288,8 @@ fn finish(outcome: Outcome) -> u8 {
 /// Writes what goes to standard output or to a file. An error is what is said of it.
 fn put(outcome: &Outcome) -> Result<(), String> {
     match &outcome.file {
-        Some(path) => {
-            output::to_file(path, outcome.out.as_bytes()).map_err(|e| format!("kiqsaryn: cannot write {}: {e}\n", text::path_name(path)))
-        }
+        Some(path) => output::to_file(path, outcome.out.as_bytes())
+            .map_err(|e| unless_closed(&e, format!("cannot write {}: {e}", text::path_name(path)))),
         None => say(&outcome.out).map_err(|e| not_said(&e)),
     }
 }
@@ -301,7 +300,7 @@ fn tell(outcome: &Outcome, to_standard: bool) -> Result<(), String> {
         complain(&outcome.after);
         return Ok(());
     }
-    say(&outcome.after).map_err(|e| format!("kiqsaryn: cannot write to standard output: {e}; the file is written\n"))
+    say(&outcome.after).map_err(|e| unless_closed(&e, format!("cannot write to standard output: {e}; the file is written")))
 }
 
 /// Says something on standard output. Where nothing is to be said, nothing fails.
@@ -312,12 +311,17 @@ fn say(words: &str) -> io::Result<()> {
     output::to_standard(words.as_bytes())
 }
 
-/// What is said of a failure to write to standard output: nothing where its reader has closed the pipe, since that reader wants no more.
-fn not_said(e: &io::Error) -> String {
+/// What is said of a failure to write: nothing where the reader has closed the pipe, since that reader wants no more.
+fn unless_closed(e: &io::Error, sentence: String) -> String {
     match e.kind() {
         ErrorKind::BrokenPipe => String::new(),
-        _ => format!("kiqsaryn: cannot write to standard output: {e}\n"),
+        _ => format!("kiqsaryn: {sentence}\n"),
     }
+}
+
+/// What is said of a failure to write to standard output.
+fn not_said(e: &io::Error) -> String {
+    unless_closed(e, format!("cannot write to standard output: {e}"))
 }
 
 /// Says something on standard error. There is no place to tell of a failure.
