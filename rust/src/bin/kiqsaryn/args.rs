@@ -178,7 +178,7 @@ fn split(arg: &OsString) -> (String, Option<OsString>) {
 fn no_option(command: &Command, name: &str, arg: &OsString) -> String {
     let names: Vec<&str> = command.options.iter().map(|o| o.name).chain(["--help"]).collect();
     let told = if name.starts_with("--") { name.to_string() } else { arg.to_string_lossy().into_owned() };
-    let near = nearest(name, &names).map_or(String::new(), |near| format!("; did you mean {near}?"));
+    let near = nearest(&told, &names).map_or(String::new(), |near| format!("; did you mean {near}?"));
     format!("{} has no option {told:?}{near}", command.name)
 }
 
@@ -271,7 +271,7 @@ fn one_model(value: &OsString) -> Option<Model> {
 /// A sentence on a model that there is not.
 fn no_model(value: &OsString, names: &str) -> String {
     let all: Vec<&str> = Model::ALL.iter().map(|m| m.name()).collect();
-    let near = nearest(&value.to_string_lossy().to_ascii_lowercase(), &all).map_or(String::new(), |near| format!("; did you mean {near}?"));
+    let near = nearest(&value.to_string_lossy(), &all).map_or(String::new(), |near| format!("; did you mean {near}?"));
     format!("--model is {names}, not {value:?}{near}")
 }
 
@@ -454,7 +454,7 @@ fn too_many(command: &Command) -> String {
 fn command_of(word: &OsString) -> Result<&'static Command, String> {
     let name = word.to_str().unwrap_or("");
     table::named(name).ok_or_else(|| {
-        let names: Vec<&str> = COMMANDS.iter().map(|c| c.name).collect();
+        let names: Vec<&str> = COMMANDS.iter().map(|c| c.name).chain(["--help", "--version"]).collect();
         let near = nearest(name, &names).map_or(String::new(), |near| format!("; did you mean {near}?"));
         format!("there is no command {word:?}{near}")
     })

@@ -2,6 +2,8 @@
 
 /// How many letters differ at most in a word that was probably meant.
 const MOST: usize = 2;
+/// A word of more letters is near to none of the command line's.
+const LONGEST: usize = 40;
 
 /// How many letters are to be put in, left out or replaced to make the one word of the other, or two neighbours to be exchanged.
 fn distance(a: &str, b: &str) -> usize {
@@ -22,8 +24,13 @@ fn distance(a: &str, b: &str) -> usize {
     lines[a.len()][b.len()]
 }
 
-/// The nearest of these words, if one is near enough: a few letters differ, fewer than stay, or it begins with the whole word.
+/// The nearest of these words, in whatever case, if one is near enough: a few letters differ, fewer than stay, or it begins with the whole word.
 pub fn nearest<'a>(word: &str, words: &[&'a str]) -> Option<&'a str> {
+    let word = word.to_lowercase();
+    if word.chars().count() > LONGEST {
+        return None;
+    }
+    let word = word.as_str();
     let near = |other: &&'a str| (distance(word, other), *other);
     let best = words.iter().map(near).min_by_key(|(distance, _)| *distance);
     let begins = || words.iter().find(|other| word.len() > MOST && other.starts_with(word)).copied();

@@ -386,11 +386,14 @@ const COMPLETIONS: Command = Command {
     name: "completions",
     brief: "completions for bash or zsh",
     usages: &[Usage { operands: "bash|zsh", needed: &[] }],
-    about: &["Prints what completes the commands and options of kiqsaryn in a shell."],
+    about: &[
+        "Prints what completes the commands and options of kiqsaryn in a shell. bash finds it under the name kiqsaryn in the folder of its \
+         completions, zsh under the name _kiqsaryn in a folder of its fpath; ./install puts both in their places.",
+    ],
     options: &[],
     more: &[],
     status: "0 done, 3 wrong command line or file error.",
-    examples: &["kiqsaryn completions bash > ~/.local/share/bash-completion/completions/kiqsaryn"],
+    examples: &["source <(kiqsaryn completions bash)", "kiqsaryn completions zsh > _kiqsaryn"],
     most: 1,
 };
 
