@@ -8,7 +8,7 @@ mod running;
 use running::folder::{failed, Folder};
 use running::{err, out, status};
 
-/// A trace that is free under each model, and one that races under commit alone of posix and commit.
+/// A row that is free under each model, and one that is refused. The trace `t.csv` of the folder has one race, under commit.
 const FREE: &str = "0,write,1,0,10,\r\n";
 const BAD: &str = "0,flush,1,,,\r\n";
 const NAMES: &str = "process,kind,file,offset,length,message\r\n";

@@ -161,6 +161,22 @@ fn compare_race(race: &Value, words: &str) {
     assert!(!race.at("explanation").list().is_empty(), "{race}");
 }
 
+/// Fails unless the words have what the object of a refusal has.
+fn compare_refusal(refused: &Value, words: &str) {
+    assert!(words.contains(&flat(refused.at("question").text())), "{words}");
+    let Some(line) = refused.get("line") else {
+        assert_eq!(refused.at("trace").number(), 0, "{refused}");
+        return;
+    };
+    let (line, byte, column) = (line.number(), refused.at("byte").number(), refused.at("column").number());
+    assert!(words.contains(&format!("line {line}, byte {byte} (from 0), column {column}")), "{refused} in {words}");
+    for name in ["found", "cure"] {
+        let told = refused.at(name);
+        assert!(*told == Value::Null || words.contains(&flat(told.text())), "{name} of {refused} in {words}");
+    }
+    assert_eq!(*refused.at("cure") == Value::Null, !words.contains(" cure: kiqsaryn "), "{refused} in {words}");
+}
+
 /// Runs `check` and `races` in each form and compares what they say.
 fn compare_forms(args: &[&str], input: &[u8]) -> Value {
     let [check, races] = ["check", "races"].map(|command| {
@@ -170,7 +186,7 @@ fn compare_forms(args: &[&str], input: &[u8]) -> Value {
         let (object, words) = (only(&o, command), flat(&out(&call(&[]))));
         if object.get("refused").is_some() {
             assert_eq!(refused_line(&object), out(&csv), "{args:?}");
-            assert!(words.contains(&flat(object.at("refused").at("question").text())), "{words}");
+            compare_refusal(object.at("refused"), &words);
             return object;
         }
         let lines = if command == "check" { check_lines(&object) } else { race_lines(&object) };
@@ -204,6 +220,10 @@ fn every_example_is_told_alike_in_each_form() {
         assert_eq!((object.at("trace").text(), object.at("header").is_true()), (name, true));
         compare_forms(&[name, "--header", "no"], b"");
         compare_forms(&[name, "--header", "yes", "--model", "Session"], b"");
+    }
+    for habit in ["lf", "mark", "semicolons", "utf_16", "several"] {
+        let object = compare_forms(&[&format!("habits/{habit}.csv"), "--header", "yes"], b"");
+        assert!(object.at("refused").at("cure").text().starts_with(&format!("kiqsaryn write habits/{habit}.csv ")), "{object}");
     }
     for second in ["join/right.csv", "join/right_cut.csv", "join/left.csv"] {
         for headers in ["yes,no", "yes,yes", "no,yes"] {

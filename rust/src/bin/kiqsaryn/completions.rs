@@ -14,12 +14,22 @@ fn command_names() -> String {
     COMMANDS.iter().map(|c| c.name).chain(["--help", "--version"]).collect::<Vec<&str>>().join(" ")
 }
 
-/// The words that a command takes in the place of a file.
+/// The words that a command takes in the place of a file, or none.
 fn operands(command: &Command) -> Option<String> {
     match command.name {
         "completions" => Some(SHELLS.join(" ")),
         "help" => Some(COMMANDS.iter().map(|c| c.name).collect::<Vec<&str>>().join(" ")),
+        "manual" => Some(String::new()),
         _ => None,
+    }
+}
+
+/// The words that can stand behind an option, or none where they are not known.
+fn words(option: &Opt) -> Vec<&'static str> {
+    match option.value {
+        Value::Word(_, words) => words.to_vec(),
+        Value::Any(_) if option.name == "--headers" => vec!["yes,yes", "yes,no", "no,yes", "no,no"],
+        _ => Vec::new(),
     }
 }
 
@@ -33,24 +43,17 @@ fn bash_names(option: &Opt) -> String {
     }
 }
 
-/// What completes the value of each option: words, a file, or nothing.
+/// What completes the value of each option: a file, words, or nothing.
 fn bash_values(command: &Command) -> String {
     let mut s = String::new();
     for option in command.options {
         let reply = match option.value {
             Value::None => continue,
-            Value::Word(_, words) => format!("COMPREPLY=($(compgen -W '{}' -- \"$word\"))", words.join(" ")),
-            Value::Any(_) if option.name == "--headers" => {
-                "COMPREPLY=($(compgen -W 'yes,yes yes,no no,yes no,no' -- \"$word\"))".to_string()
-            }
-            Value::Any(_) => "COMPREPLY=()".to_string(),
-            Value::File(_) => "compopt -o filenames; COMPREPLY=($(compgen -f -- \"$word\"))".to_string(),
+            Value::File(_) => "_kiqsaryn_files \"$word\"".to_string(),
+            _ => format!("_kiqsaryn_words '{}' \"$word\"", words(option).join(" ")),
         };
-        s.push_str(&format!(
-            "        {}:{}) {reply}; return ;;\n",
-            command.name,
-            bash_names(option).replace('|', &format!("|{}:", command.name))
-        ));
+        let names = bash_names(option).replace('|', &format!("|{}:", command.name));
+        s.push_str(&format!("        {}:{names}) {reply}; return ;;\n", command.name));
     }
     s
 }
@@ -60,34 +63,48 @@ fn bash_options(command: &Command) -> String {
     format!("        {}) options='{}' ;;\n", command.name, names.join(" "))
 }
 
+/// What completes the operands of the commands that take no trace.
+fn bash_operands(command: &Command) -> Option<String> {
+    Some(format!("        {}) _kiqsaryn_words '{}' \"$word\"; return ;;\n", command.name, operands(command)?))
+}
+
+/// The shell parts words at an equals sign: the option then stands two words before its value.
 fn bash() -> String {
     let values: String = COMMANDS.iter().map(bash_values).collect();
     let options: String = COMMANDS.iter().map(bash_options).collect();
-    let operands = COMMANDS
-        .iter()
-        .filter_map(|c| Some(format!("        {}) COMPREPLY=($(compgen -W '{}' -- \"$word\")); return ;;\n", c.name, operands(c)?)));
-    let operands: String = operands.collect();
+    let operands: String = COMMANDS.iter().filter_map(bash_operands).collect();
     format!(
         "# bash completion for kiqsaryn
+_kiqsaryn_words() {{
+    COMPREPLY=($(compgen -W \"$1\" -- \"$2\"))
+}}
+_kiqsaryn_files() {{
+    compopt -o filenames 2> /dev/null
+    mapfile -t COMPREPLY < <(compgen -f -- \"$1\")
+}}
 _kiqsaryn() {{
     local word=${{COMP_WORDS[COMP_CWORD]}} before=${{COMP_WORDS[COMP_CWORD-1]}} command=${{COMP_WORDS[1]}} options=
     COMPREPLY=()
     if ((COMP_CWORD == 1)); then
-        COMPREPLY=($(compgen -W '{}' -- \"$word\"))
+        _kiqsaryn_words '{}' \"$word\"
         return
+    fi
+    if [[ $word == = ]]; then
+        word=
+    elif [[ $before == = ]]; then
+        before=${{COMP_WORDS[COMP_CWORD-2]}}
     fi
     case $command:$before in
 {values}    esac
     case $command in
 {options}    esac
     if [[ $word == -* ]]; then
-        COMPREPLY=($(compgen -W \"$options\" -- \"$word\"))
+        _kiqsaryn_words \"$options\" \"$word\"
         return
     fi
     case $command in
 {operands}    esac
-    compopt -o filenames
-    COMPREPLY=($(compgen -f -- \"$word\"))
+    _kiqsaryn_files \"$word\"
 }}
 complete -F _kiqsaryn kiqsaryn
 ",
@@ -102,19 +119,19 @@ fn zsh_text(text: &str) -> String {
     filled(text).replace('\\', "\\\\").replace('\'', "'\\''").replace('[', "\\[").replace(']', "\\]").replace(':', "\\:")
 }
 
+/// An option with its value, which stands behind it as the next word or in the same one.
 fn zsh_option(option: &Opt) -> String {
     let value = match option.value {
         Value::None => String::new(),
-        Value::Word(name, words) => format!(":{}:({})", zsh_text(name), words.join(" ")),
-        Value::Any(name) if option.name == "--headers" => format!(":{}:(yes,yes yes,no no,yes no,no)", zsh_text(name)),
-        Value::Any(name) => format!(":{}:", zsh_text(name)),
         Value::File(name) => format!(":{}:_files", zsh_text(name)),
+        Value::Word(name, _) | Value::Any(name) => format!(":{}:({})", zsh_text(name), words(option).join(" ")),
     };
     let text = zsh_text(option.text);
     let many = if option.many { "*" } else { "" };
+    let equals = if option.value == Value::None { "" } else { "=" };
     match option.short {
-        "" => format!("                '{many}{}[{text}]{value}' \\\n", option.name),
-        short => format!("                '({short} {0})'{{{short},{0}}}'[{text}]{value}' \\\n", option.name),
+        "" => format!("                '{many}{}{equals}[{text}]{value}' \\\n", option.name),
+        short => format!("                '({short} {0})'{{{short}+,{0}{equals}}}'[{text}]{value}' \\\n", option.name),
     }
 }
 
@@ -123,7 +140,7 @@ fn zsh_command(command: &Command) -> String {
     let rest = operands(command).map_or("'*:trace:_files'".to_string(), |words| format!("'1:word:({words})'"));
     format!(
         "        {})
-            _arguments -s \\
+            _arguments \\
 {options}                '(- *)'{{-h,--help}}'[show the options]' \\
                 {rest}
             ;;

@@ -100,7 +100,7 @@ fn of_all() -> String {
     s.push_str("\nkiqsaryn COMMAND --help shows the options of a command.\n");
     s.push_str(&paragraphs(table::ABOUT));
     s.push_str("\nExit status:\n");
-    s.extend(table::STATUSES.iter().map(|(status, text)| format!("  {status}  {text}\n")));
+    s.extend(table::STATUSES.iter().map(|(status, text)| labelled(&format!("  {status}  "), text)));
     s + &examples(&[table::EXAMPLE])
 }
 

@@ -50,6 +50,8 @@ fn of_command(command: &Command) -> String {
 /// The whole page.
 pub fn page() -> String {
     let mut s = format!(".TH KIQSARYN 1 \"\" \"kiqsaryn {}\" \"User Commands\"\n", env!("CARGO_PKG_VERSION"));
+    // No word is broken and no space widened: options and lines with commas stay as they are typed.
+    s.push_str(".nh\n.ad l\n");
     s.push_str(&format!(".SH NAME\nkiqsaryn \\- {}\n", roff(table::TITLE)));
     s.push_str(".SH SYNOPSIS\n\\fBkiqsaryn\\fR \\fICOMMAND\\fR [\\fITRACE\\fR...] [\\fIOPTIONS\\fR]\n.br\n");
     s.push_str("\\fBkiqsaryn\\fR \\fB\\-\\-help\\fR | \\fB\\-\\-version\\fR\n");

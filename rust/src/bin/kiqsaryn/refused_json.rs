@@ -1,8 +1,10 @@
 //! A refusal as a JSON object.
 
 use crate::args::Common;
+use crate::cure::cure;
 use crate::input::{Refused, TraceRefused, Which};
 use crate::json::{self, Field};
+use crate::refused;
 use crate::text::escape;
 use crate::trace_json::{of_inputs, of_two};
 use kiqsaryn::Refusal;
@@ -25,9 +27,20 @@ fn which(which: Which) -> Option<Field> {
     Some(("trace", number.to_string()))
 }
 
-/// What stands at the place where a trace is refused.
+/// Where a trace is refused, what stands there, and the command that mends it where one does.
 fn place(r: &TraceRefused) -> Vec<Field> {
-    vec![("record", json::string(&escape(&r.record, SHOWN)))]
+    let place = refused::place(r);
+    let text = |text: Option<&str>| json::maybe(text.map(json::string));
+    let command = cure(r).and_then(|cure| cure.command);
+    vec![
+        ("line", place.line.to_string()),
+        ("byte", place.byte.to_string()),
+        ("column", place.column.to_string()),
+        ("field", text(place.field)),
+        ("found", text(place.found.as_deref())),
+        ("record", json::string(&escape(&r.record, SHOWN))),
+        ("cure", text(command.as_deref())),
+    ]
 }
 
 fn of_one(r: &TraceRefused) -> Vec<Field> {

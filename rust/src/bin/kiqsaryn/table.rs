@@ -437,7 +437,7 @@ pub const STATUSES: [(u32, &str); 4] = [
     (0, "free under every model asked for; replay, explain, diagram or write done"),
     (1, "a race under at least one of them"),
     (2, "the trace, or the join of two, is refused"),
-    (3, "the command line is wrong, or a file cannot be read or written whole"),
+    (3, "the command line is wrong, or a file cannot be read or written whole; where a reader has closed its pipe, nothing is said of it"),
 ];
 pub const EXAMPLE: &str = "kiqsaryn check shelf.csv --header yes";
 

@@ -38,7 +38,7 @@ fn of_recording(recording: &Recording) -> Vec<Field> {
     vec![
         ("trace", json::string(&recording.name)),
         ("header", recording.header.to_string()),
-        ("bytes", recording.text.len().to_string()),
+        ("bytes", recording.bytes.to_string()),
         ("rows", recording.n.to_string()),
         ("processes", counts("process", &t.processes)),
         ("files", counts("file", &t.files)),
