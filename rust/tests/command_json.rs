@@ -1,4 +1,4 @@
-//! The JSON of `check` and `races`: every text is read by a strict reader and held against the lines with commas, the words, and the definitions,
+//! The JSON of `check`, `races` and `replay`: every text is read by a strict reader and held against the lines with commas, the words, and the definitions,
 //! and the examples of `docs/JSON.md` are what the command writes.
 
 #![allow(dead_code)]
@@ -367,6 +367,35 @@ fn random_joins_are_told_as_they_are() {
         accepted += 1;
     }
     assert!(accepted > 30 && refused > 10, "{accepted}, {refused}");
+}
+
+// ---- Replays
+
+/// A replay, of one trace or of a join, counts what its words count.
+#[test]
+fn replays_are_told_alike_in_each_form() {
+    let mut cases: Vec<Vec<String>> = Vec::new();
+    let mut add = |line: &str| cases.push(line.split(' ').map(str::to_string).collect());
+    for path in example_traces() {
+        add(&format!("{} --header yes", path.file_name().and_then(|n| n.to_str()).expect("a name")));
+    }
+    add("many_races.csv commit_missing.csv --header yes");
+    add("join/left.csv join/right.csv --headers yes,no");
+    add("join/left.csv join/right_cut.csv --headers yes,no");
+    for args in cases {
+        for model in ["posix", "commit", "session", "MPI-IO"] {
+            let args: Vec<&str> = ["replay", "--model", model].into_iter().chain(args.iter().map(String::as_str)).collect();
+            let (words, o) = (run(&args, b""), run(&with(&args, &["--json"]), b""));
+            assert_eq!((status(&o), err(&o)), (status(&words), err(&words)), "{args:?}");
+            let objects = traces(&o, "replay");
+            for object in objects.iter().filter(|object| object.get("refused").is_none()) {
+                let counts = ["reads", "bytes", "stale"].map(|name| object.at("counts").at(name).number());
+                let line = format!("eads: {}, bytes read: {}, stale bytes: {}\n", counts[0], counts[1], counts[2]);
+                assert!(out(&words).contains(&line), "{line} in {}", out(&words));
+                assert_eq!(object.at("reads").list().len() as u64, object.at("counts").at("shown").number());
+            }
+        }
+    }
 }
 
 // ---- What is chosen

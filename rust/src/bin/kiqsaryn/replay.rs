@@ -6,6 +6,7 @@ use crate::json;
 use crate::output::Failed;
 use crate::recording::Recording;
 use crate::text::{bytes_of, counted, describe, labelled, letters, refusal_of_library, span};
+use crate::trace_json::of_trace;
 use kiqsaryn::{make, make_plain, replay, replay_plain, Header, Model, Refusal, Replayed, Row, READ, SEND, WRITE};
 use std::collections::BTreeMap;
 use std::io::{self, Write};
@@ -421,14 +422,6 @@ pub fn put(out: &mut impl Write, trace: &Trace, reads: &Reads, model: Model) -> 
 
 // ---- As JSON
 
-/// The names of the traces.
-fn name(trace: &Trace) -> String {
-    match &trace.source {
-        Recorded::Alone(recording) => recording.name.clone(),
-        Recorded::Joined(join) => join.recordings.each_ref().map(|r| r.name.as_str()).join(" and "),
-    }
-}
-
 /// A row number in JSON; null for bytes never written.
 fn json_row(number: u32) -> String {
     json::maybe((number > 0).then_some(number))
@@ -451,7 +444,7 @@ fn put_json_read(out: &mut impl Write, ReadAnswer { number, row, pieces }: &Read
 /// Writes the reads that are shown, and the counts of the chosen files, as one JSON object. Where the choice is wrong, nothing is written.
 pub fn put_json(out: &mut impl Write, trace: &Trace, reads: &Reads, model: Model) -> Result<(), Failed> {
     let files = chosen_files(trace, reads)?;
-    write!(out, "{{\"trace\":{},\"model\":{},\"reads\":[", json::string(&name(trace)), json::string(model.name()))?;
+    write!(out, "{{{},\"model\":{},\"reads\":[", json::fields(&of_trace(trace)), json::string(model.name()))?;
     let mut totals = Totals::default();
     for (file, _) in &files {
         each_read(trace, *file, model, &mut |read| {
