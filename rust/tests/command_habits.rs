@@ -189,6 +189,10 @@ fn names_are_shown_as_they_are() {
             let o = f.sh(&format!("kiqsaryn {line} --header yes '{name}'"));
             assert!(out(&o).starts_with(&label), "{line} {name:?}: {}", out(&o));
         }
+        let o = f.sh(&format!("kiqsaryn diagram --header yes '{name}'"));
+        assert!(out(&o).contains(&format!("<title>{shown}</title>\n")), "{name:?}: {}", out(&o));
+        let o = f.sh(&format!("kiqsaryn explain --header yes '{name}' 5"));
+        assert!(out(&o).starts_with(&format!("Trace: {shown} (5 rows)\n")), "{name:?}: {}", out(&o));
         let o = f.sh(&format!("kiqsaryn check --header no '{name}'"));
         assert!(out(&o).starts_with(&format!("Trace: {shown}\n\nRefused")), "{name:?}: {}", out(&o));
         let o = f.sh(&format!("kiqsaryn check --header yes --csv --model posix t.csv '{name}'"));
@@ -223,7 +227,7 @@ fn a_name_with_a_comma_or_a_quote_is_one_field() {
 // ---- Pipes and descriptors that are closed
 
 /// Every command, with the status that it has where all can be read and written.
-const LINES: [(&str, i32); 16] = [
+const LINES: [(&str, i32); 19] = [
     ("kiqsaryn check t.csv --header yes", 1),
     ("kiqsaryn check t.csv --header yes --csv", 1),
     ("kiqsaryn check t.csv free.csv --header yes --json", 1),
@@ -233,6 +237,9 @@ const LINES: [(&str, i32); 16] = [
     ("kiqsaryn races t.csv --header yes --csv", 1),
     ("kiqsaryn races t.csv --header yes --json", 1),
     ("kiqsaryn replay t.csv --header yes --model commit", 0),
+    ("kiqsaryn replay t.csv --header yes --model commit --json", 0),
+    ("kiqsaryn explain t.csv 5 --header yes", 0),
+    ("kiqsaryn join t.csv none.csv --headers yes,yes", 1),
     ("kiqsaryn diagram t.csv --header yes", 0),
     ("kiqsaryn write t.csv --header yes", 0),
     ("kiqsaryn help", 0),

@@ -161,6 +161,20 @@ fn compare_race(race: &Value, words: &str) {
     assert!(!race.at("explanation").list().is_empty(), "{race}");
 }
 
+/// Fails unless the words have a group, its first race, and for how many of its races the same is missing.
+fn compare_group(group: &Value, words: &str) {
+    let (races, alike, processes) = (group.at("races").number(), group.at("alike").number(), group.at("processes").numbers());
+    let count = if races == 1 { "1 race".to_string() } else { format!("{races} races") };
+    let head = format!("File {}, process {} and process {}: {count}", group.at("file").number(), processes[0], processes[1]);
+    let same = match races {
+        1 => head.clone(),
+        _ if races == alike => format!("Alike: the same is missing for all {races} races."),
+        _ => format!("Alike: the same is missing for {alike} of the {races} races."),
+    };
+    assert!(words.contains(&head) && words.contains(&same), "{head}, {same} in {words}");
+    compare_race(group.at("first"), words);
+}
+
 /// Fails unless the words have what the object of a refusal has.
 fn compare_refusal(refused: &Value, words: &str) {
     assert!(words.contains(&flat(refused.at("question").text())), "{words}");
@@ -196,7 +210,7 @@ fn compare_forms(args: &[&str], input: &[u8]) -> Value {
                 "check" => {
                     model.get("first").filter(|first| **first != Value::Null).into_iter().for_each(|race| compare_race(race, &words))
                 }
-                _ => model.at("chosen_groups").list().iter().for_each(|group| compare_race(group.at("first"), &words)),
+                _ => model.at("chosen_groups").list().iter().for_each(|group| compare_group(group, &words)),
             }
         }
         object

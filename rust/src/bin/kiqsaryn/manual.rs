@@ -29,6 +29,7 @@ fn option(option: &Opt) -> String {
     format!(".TP\n{short}\\fB{}\\fR{value}\n{}\n", roff(option.name), roff(&filled(option.text)))
 }
 
+/// Lines that stay as they are typed.
 fn lines(lines: &[&str]) -> String {
     let lines: String = lines.iter().map(|line| format!("{}\n", roff(line))).collect();
     format!(".PP\n.nf\n{lines}.fi\n")
@@ -44,6 +45,7 @@ fn of_command(command: &Command) -> String {
     s.extend(command.options.iter().map(option));
     s.push_str(&paragraphs(command.more));
     s.push_str(&paragraphs(&[&format!("Exit status: {}", command.status)]));
+    s.push_str(&paragraphs(&[if command.examples.len() == 1 { "Example:" } else { "Examples:" }]));
     s + &lines(command.examples)
 }
 
@@ -62,6 +64,7 @@ pub fn page() -> String {
     s.extend(COMMANDS.iter().map(of_command));
     s.push_str(".SH EXIT STATUS\n");
     s.extend(table::STATUSES.iter().map(|(status, text)| format!(".TP\n\\fB{status}\\fR\n{}\n", roff(text))));
-    s.push_str(".SH EXAMPLES\n");
-    s + &lines(&[table::EXAMPLE])
+    s.push_str(".SH EXAMPLES");
+    let example = lines(&[table::EXAMPLE]);
+    s + example.strip_prefix(".PP").unwrap_or(&example)
 }
