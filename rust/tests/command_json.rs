@@ -20,7 +20,7 @@ use naive::writing;
 use running::folder::Folder;
 use running::pair::Pair;
 use running::{err, example_traces, feed, out, run, status, words_of, EXE};
-use std::collections::BTreeMap;
+use std::collections::{BTreeMap, BTreeSet};
 use std::ffi::OsStr;
 use std::os::unix::ffi::OsStrExt;
 use std::path::Path;
@@ -266,6 +266,10 @@ fn compare_counts(object: &Value, rows: &[Row]) {
     }
     assert_eq!(object.at("rows").number(), rows.len() as u64);
     assert_eq!((object.at("messages").at("rows").number(), object.at("barriers").at("rows").number()), (messages, barriers));
+    let of = |kind: &str| rows.iter().filter(|r| KINDS[r.kind as usize] == kind).map(|r| r.message).collect::<BTreeSet<u32>>();
+    let only_posted = of("recv").difference(&of("wait")).count();
+    assert_eq!(object.at("messages").at("recv_without_wait").number(), only_posted as u64, "{object}");
+    assert_eq!(object.at("barriers").at("barriers").number(), of("barrier").len() as u64, "{object}");
 }
 
 /// Fails unless a race is told with its rows and their bytes.
