@@ -113,6 +113,29 @@ fn sorted(words: &[&str]) -> Vec<String> {
     words
 }
 
+/// Words behind the command's name, and what is offered for the last of them.
+const OFFERED: &[(&[&str], &[&str])] = &[
+    (&["ch"], &["check"]),
+    (&["--v"], &["--version"]),
+    (&["check", "--head"], &["--header", "--headers"]),
+    (&["check", "--header", ""], &["yes", "no"]),
+    (&["check", "--header", "="], &["yes", "no"]),
+    (&["check", "--header", "=", "n"], &["no"]),
+    (&["check", "--headers", "y"], &["yes,yes", "yes,no"]),
+    (&["check", "--model", ""], &["posix", "commit", "session", "mpiio", "all"]),
+    (&["replay", "--model", ""], &["posix", "commit", "session", "mpiio"]),
+    (&["races", "--limit", ""], &[]),
+    (&["check", "t"], &["t.csv", "traces", "two words.csv"]),
+    (&["check", "t.csv", "two"], &["two words.csv"]),
+    (&["diagram", "t.csv", "-o", "tr"], &["traces"]),
+    (&["diagram", "t.csv", "--output", "=", "tr"], &["traces"]),
+    (&["write", "--line-ends", "t."], &["t.csv"]),
+    (&["completions", ""], &["bash", "zsh"]),
+    (&["help", "re"], &["replay", "report"]),
+    (&["manual", ""], &[]),
+    (&["nothing", "--"], &[]),
+];
+
 #[test]
 fn bash_completes() {
     if !is_installed("bash") {
@@ -132,28 +155,8 @@ fn bash_completes() {
         options.sort();
         assert_eq!(bash(&f, &["kiqsaryn", command, "-"]), options, "{command}");
     }
-    for (words, offered) in [
-        (&["ch"][..], &["check"][..]),
-        (&["--v"], &["--version"]),
-        (&["check", "--head"], &["--header", "--headers"]),
-        (&["check", "--header", ""], &["yes", "no"]),
-        (&["check", "--header", "="], &["yes", "no"]),
-        (&["check", "--header", "=", "n"], &["no"]),
-        (&["check", "--headers", "y"], &["yes,yes", "yes,no"]),
-        (&["check", "--model", ""], &["posix", "commit", "session", "mpiio", "all"]),
-        (&["replay", "--model", ""], &["posix", "commit", "session", "mpiio"]),
-        (&["races", "--limit", ""], &[]),
-        (&["check", "t"], &["t.csv", "traces", "two words.csv"]),
-        (&["check", "t.csv", "two"], &["two words.csv"]),
-        (&["diagram", "t.csv", "-o", "tr"], &["traces"]),
-        (&["diagram", "t.csv", "--output", "=", "tr"], &["traces"]),
-        (&["write", "--line-ends", "t."], &["t.csv"]),
-        (&["completions", ""], &["bash", "zsh"]),
-        (&["help", "re"], &["replay", "report"]),
-        (&["manual", ""], &[]),
-        (&["nothing", "--"], &[]),
-    ] {
-        assert_eq!(bash(&f, &[&["kiqsaryn"], words].concat()), sorted(offered), "{words:?}");
+    for (words, offered) in OFFERED {
+        assert_eq!(bash(&f, &[&["kiqsaryn"], *words].concat()), sorted(offered), "{words:?}");
     }
 }
 

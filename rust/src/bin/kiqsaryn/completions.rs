@@ -68,21 +68,24 @@ fn bash_operands(command: &Command) -> Option<String> {
     Some(format!("        {}) _kiqsaryn_words '{}' \"$word\"; return ;;\n", command.name, operands(command)?))
 }
 
+/// The functions that offer words, and files whose names may have spaces.
+const BASH_REPLIES: &str = "# bash completion for kiqsaryn
+_kiqsaryn_words() {
+    COMPREPLY=($(compgen -W \"$1\" -- \"$2\"))
+}
+_kiqsaryn_files() {
+    compopt -o filenames 2> /dev/null
+    mapfile -t COMPREPLY < <(compgen -f -- \"$1\")
+}
+";
+
 /// The shell parts words at an equals sign: the option then stands two words before its value.
 fn bash() -> String {
     let values: String = COMMANDS.iter().map(bash_values).collect();
     let options: String = COMMANDS.iter().map(bash_options).collect();
     let operands: String = COMMANDS.iter().filter_map(bash_operands).collect();
     format!(
-        "# bash completion for kiqsaryn
-_kiqsaryn_words() {{
-    COMPREPLY=($(compgen -W \"$1\" -- \"$2\"))
-}}
-_kiqsaryn_files() {{
-    compopt -o filenames 2> /dev/null
-    mapfile -t COMPREPLY < <(compgen -f -- \"$1\")
-}}
-_kiqsaryn() {{
+        "{BASH_REPLIES}_kiqsaryn() {{
     local word=${{COMP_WORDS[COMP_CWORD]}} before=${{COMP_WORDS[COMP_CWORD-1]}} command=${{COMP_WORDS[1]}} options=
     COMPREPLY=()
     if ((COMP_CWORD == 1)); then

@@ -89,7 +89,7 @@ pub fn put(out: &mut impl Write, trace: &Trace, models: &[Model], all: &[Found],
     let mut comma = "";
     for model in models {
         if let Some(section) = sections.iter().find(|section| section.found.models.contains(model)) {
-            write!(out, "{comma}\n")?;
+            writeln!(out, "{comma}")?;
             section.put(out, *model)?;
             comma = ",";
         }
