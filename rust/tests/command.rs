@@ -36,7 +36,7 @@ mod words;
 use explain::{explain, Claim, Explanation, Rows};
 use posted::Posted;
 use running::picture::well_formed;
-use running::{err, example_traces, examples, feed, out, run, status, words_of, EXE};
+use running::{err, example_traces, examples, feed, out, prints, run, status, words_of, EXE};
 
 const NAMES: &str = "process,kind,file,offset,length,message\r\n";
 
@@ -54,8 +54,6 @@ fn check_prints_what_stands_beside_every_example() {
         let name = path.file_name().and_then(|n| n.to_str()).expect("a name");
         let o = run(&["check", name, "--header", "yes"], b"");
         let want = std::fs::read_to_string(path.with_extension("check.txt")).expect("the output beside it");
-        assert_eq!(out(&o), want, "{name}");
-        assert_eq!(err(&o), "", "{name}");
         let short = std::fs::read_to_string(path.with_extension("out")).expect("the short output beside it");
         let expected = if short.starts_with("refused") {
             2
@@ -64,9 +62,8 @@ fn check_prints_what_stands_beside_every_example() {
         } else {
             0
         };
-        assert_eq!(status(&o), expected, "{name}");
-        let o = run(&["check", name, "--header=yes", "--csv"], b"");
-        assert_eq!((out(&o), status(&o)), (short, expected), "{name}");
+        prints(&o, &want, expected, name);
+        prints(&run(&["check", name, "--header=yes", "--csv"], b""), &short, expected, name);
     }
 }
 

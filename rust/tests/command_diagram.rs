@@ -10,7 +10,7 @@ use naive::random::Random;
 use naive::rows::some_rows_within;
 use naive::writing;
 use running::picture::{keeps_the_rules, lines, row_boxes, well_formed, Line, RowBox};
-use running::{err, examples, out, run, status};
+use running::{err, examples, out, prints, run, status};
 use std::collections::BTreeSet;
 
 fn diagram(text: &[u8], more: &[&str]) -> std::process::Output {
@@ -58,7 +58,7 @@ fn a_picture_is_what_stands_beside_the_example() {
     for name in ["commit_missing", "barrier_commit_too_late"] {
         let o = run(&["diagram", &format!("{name}.csv"), "--header", "yes"], b"");
         let want = std::fs::read_to_string(examples().join(format!("{name}.svg"))).expect("the picture beside it");
-        assert_eq!((out(&o), status(&o)), (want, 0), "{name}");
+        prints(&o, &want, 0, name);
         keeps_the_rules(&out(&o));
     }
 }

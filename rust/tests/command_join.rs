@@ -8,7 +8,7 @@ use kiqsaryn::{PROCESSES, ROWS};
 use running::folder::Folder;
 use running::pair::Pair;
 use running::picture::well_formed;
-use running::{err, examples, feed, out, run, status, without_places, EXE};
+use running::{err, examples, feed, out, prints, run, same, status, without_places, EXE};
 use std::fs;
 use std::io::Write;
 use std::process::{Command, Output, Stdio};
@@ -44,19 +44,20 @@ fn the_examples_are_joined_as_stands_beside_them() {
     let named = |text: String| text.replace(": left.csv", ": join/left.csv").replace("trace: right", "trace: join/right");
     for command in ["join", "check"] {
         let o = two(command, "join/right.csv", &[]);
-        assert_eq!((out(&o), status(&o)), (named(beside("left_right.join.txt")), 1), "{command}");
+        prints(&o, &named(beside("left_right.join.txt")), 1, command);
         let o = two(command, "join/right_cut.csv", &[]);
-        assert_eq!((out(&o), status(&o)), (named(beside("left_right_cut.join.txt")), 2), "{command}");
+        prints(&o, &named(beside("left_right_cut.join.txt")), 2, command);
     }
     let o = two("replay", "join/right.csv", &["--file", "1", "--model", "commit"]);
-    assert_eq!((out(&o), status(&o)), (named(beside("left_right.replay.txt")), 0));
+    prints(&o, &named(beside("left_right.replay.txt")), 0, "replay");
     let o = two("diagram", "join/right.csv", &[]);
     let title = "<title>left.csv and right.csv</title>";
     let picture = beside("left_right.svg").replace(title, "<title>join/left.csv and join/right.csv</title>");
     let picture = picture.replace(">A: left.csv", ">A: join/left.csv").replace(">B: right.csv", ">B: join/right.csv");
-    assert_eq!((out(&o), status(&o)), (picture, 0));
+    prints(&o, &picture, 0, "diagram");
     let o = two("join", "join/right.csv", &["-o", "-"]);
-    assert_eq!((out(&o), status(&o)), (beside("left_right.csv"), 1));
+    same(&out(&o), &beside("left_right.csv"), "join -o -");
+    assert_eq!(status(&o), 1);
 }
 
 /// Neither trace of the example is accepted alone, and their race is of a row of each.

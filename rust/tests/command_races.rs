@@ -23,7 +23,7 @@ use naive::rows::{numbers, some_rows_within};
 use naive::writing;
 use running::folder::{failed, Folder};
 use running::pair::Pair;
-use running::{err, examples, out, run, status};
+use running::{err, examples, out, prints, run, status};
 use std::collections::BTreeSet;
 
 type Race = (u32, u32);
@@ -286,10 +286,10 @@ fn compare_words(naive: &Naive, choice: &Choice, text: &str) {
 fn the_examples_have_what_stands_beside_them() {
     let beside = |name: &str| std::fs::read_to_string(examples().join(name)).expect("the output beside it");
     let o = run(&["races", "many_races.csv", "--header", "yes"], b"");
-    assert_eq!((out(&o), err(&o), status(&o)), (beside("many_races.races.txt"), String::new(), 1));
+    prints(&o, &beside("many_races.races.txt"), 1, "many_races.csv");
     let o = run(&["races", "join/left.csv", "join/right.csv", "--headers", "yes,no"], b"");
     let want = beside("join/left_right.races.txt").replace(": left.csv", ": join/left.csv").replace(": right.csv", ": join/right.csv");
-    assert_eq!((out(&o), err(&o), status(&o)), (want, String::new(), 1));
+    prints(&o, &want, 1, "left.csv and right.csv");
 }
 
 #[test]

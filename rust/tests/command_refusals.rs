@@ -5,7 +5,7 @@ mod running;
 
 use running::folder::Folder;
 use running::pair::Pair;
-use running::{err, examples, feed, out, run, status};
+use running::{err, examples, feed, out, prints, run, status};
 use std::fs;
 
 const NAMES: &str = "process,kind,file,offset,length,message\r\n";
@@ -211,7 +211,7 @@ fn every_habit_among_the_examples_is_told_and_mended_by_the_command_that_is_told
         let want = fs::read_to_string(examples().join(format!("habits/{name}.check.txt"))).expect("the output beside it");
         f.put_bytes(&format!("{name}.csv"), &trace);
         let o = f.sh(&format!("kiqsaryn check {name}.csv --header yes"));
-        assert_eq!((out(&o), status(&o), err(&o)), (want, 2, String::new()), "{name}");
+        prints(&o, &want, 2, name);
         let told = out(&o);
         let command = cure(&told).unwrap_or_else(|| panic!("no cure in {told}"));
         assert_eq!(command, format!("write {name}.csv --header yes {options} -o mended.csv"));

@@ -23,7 +23,7 @@ use naive::random::Random;
 use naive::rows::{numbers, some_rows_within};
 use naive::writing;
 use newer::{reason, Reason};
-use running::{err, examples, feed, out, run, status, EXE};
+use running::{err, examples, feed, out, prints, run, status, EXE};
 use std::collections::{BTreeMap, BTreeSet};
 use std::process::Command;
 
@@ -53,23 +53,23 @@ fn replay_prints_what_stands_beside_the_examples() {
         for file in [&["--file", "1"][..], &[]] {
             let args = [&["replay", &trace, "--header", "yes", "--model", model][..], file].concat();
             let o = run(&args, b"");
-            assert_eq!((out(&o), status(&o)), (beside(&format!("{name}.replay.txt")), 0), "{args:?}");
+            prints(&o, &beside(&format!("{name}.replay.txt")), 0, &args.join(" "));
         }
     }
     let o = run(&["replay", "many_races.csv", "--header", "yes", "--model", "commit"], b"");
-    assert_eq!((out(&o), status(&o)), (beside("many_races.replay.txt"), 0));
+    prints(&o, &beside("many_races.replay.txt"), 0, "many_races");
 }
 
 #[test]
 fn explain_prints_what_stands_beside_the_examples() {
     for (name, row) in [("commit_missing", "5"), ("many_races", "8"), ("open_too_early", "7")] {
         let o = run(&["explain", &format!("{name}.csv"), row, "--header", "yes"], b"");
-        assert_eq!((out(&o), status(&o)), (beside(&format!("{name}.explain.txt")), 0), "{name}");
+        prints(&o, &beside(&format!("{name}.explain.txt")), 0, name);
     }
     let join = examples().join("join");
     let args = ["explain", "left.csv", "right.csv", "7", "--headers", "yes,no", "--model", "mpiio"];
     let o = feed(Command::new(EXE).args(args).current_dir(join), b"");
-    assert_eq!((out(&o), status(&o)), (beside("join/left_right.explain.txt"), 0));
+    prints(&o, &beside("join/left_right.explain.txt"), 0, "left_right");
 }
 
 // ---- Wrong choices

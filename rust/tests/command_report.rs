@@ -13,7 +13,7 @@ use naive::writing;
 use running::folder::{failed, Folder};
 use running::page::{well_kept, Element};
 use running::pair::Pair;
-use running::{err, example_traces, examples, feed, out, run, status, EXE};
+use running::{err, example_traces, examples, feed, out, prints, run, status, EXE};
 use std::collections::BTreeSet;
 use std::fs;
 use std::path::PathBuf;
@@ -325,10 +325,7 @@ fn the_page_beside_the_example_is_what_the_command_writes() {
         fs::write(&path, out(&o)).expect("the page is written");
     }
     let beside = fs::read_to_string(&path).expect("the page beside the example");
-    for (k, (want, have)) in beside.lines().zip(out(&o).lines()).enumerate() {
-        assert_eq!(want, have, "line {} of {}: the file has the first, the command writes the second", k + 1, path.display());
-    }
-    assert!(beside == out(&o), "as long as {}", path.display());
+    prints(&o, &beside, 1, "the page");
     well_kept(&beside);
 }
 

@@ -3,7 +3,7 @@
 #[allow(dead_code)]
 mod running;
 
-use running::{err, feed, out, EXE};
+use running::{err, feed, out, same, EXE};
 use std::path::{Path, PathBuf};
 use std::process::Command;
 
@@ -38,7 +38,7 @@ fn block_behind(end: &str) -> String {
 #[test]
 fn the_first_verdicts_are_those_beside_the_example() {
     let beside = std::fs::read_to_string(root().join("examples/commit_missing.out")).expect("the output beside it");
-    assert_eq!(block_behind("bytes 5 to 14. It prints"), beside.replace("\r\n", "\n"));
+    same(&block_behind("bytes 5 to 14. It prints"), &beside.replace("\r\n", "\n"), "README.md");
 }
 
 #[test]

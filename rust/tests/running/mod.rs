@@ -59,6 +59,29 @@ pub fn err(o: &Output) -> String {
     words_of(&o.stderr)
 }
 
+/// Fails unless two texts are the same, and tells the first line that differs.
+pub fn same(got: &str, want: &str, what: &str) {
+    let (mut got, mut want) = (got.split_inclusive('\n'), want.split_inclusive('\n'));
+    for line in 1.. {
+        match (got.next(), want.next()) {
+            (None, None) => return,
+            (a, b) => assert!(a == b, "{what}: line {line} is\n  {}\nand not\n  {}", told(a), told(b)),
+        }
+    }
+}
+
+/// A line that may not be there, with its line end to be seen.
+fn told(line: Option<&str>) -> String {
+    line.map_or("the end".to_string(), |line| format!("{line:?}"))
+}
+
+/// Fails unless a command printed these words, with this status and nothing on standard error, and tells what differs.
+pub fn prints(o: &Output, want: &str, expected: i32, what: &str) {
+    same(&out(o), want, what);
+    same(&err(o), "", what);
+    assert_eq!(status(o), expected, "{what}");
+}
+
 /// What is said of a refused join but for the lines that name places in its traces.
 pub fn without_places(words: &str) -> String {
     let names_place = |line: &&str| line.starts_with("  place: ") || line.trim_start().starts_with("At line ");
