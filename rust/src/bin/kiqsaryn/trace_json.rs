@@ -6,6 +6,7 @@ use crate::explain::shared;
 use crate::input::{Recorded, Trace};
 use crate::json::{self, Field};
 use crate::recording::{name_of, Recording};
+use crate::sha256;
 use crate::tally::Tally;
 use kiqsaryn::{Model, Row, KINDS};
 use std::collections::BTreeMap;
@@ -39,6 +40,7 @@ fn of_recording(recording: &Recording) -> Vec<Field> {
         ("trace", json::string(&recording.name)),
         ("header", recording.header.to_string()),
         ("bytes", recording.bytes.to_string()),
+        ("sha256", json::string(&sha256::digits(&recording.text))),
         ("rows", recording.n.to_string()),
         ("processes", counts("process", &t.processes)),
         ("files", counts("file", &t.files)),
