@@ -12,28 +12,29 @@ const MANY: usize = 200;
 /// The same in a picture that stands in a page: those are always left out, and above so many rows also messages and barriers.
 const MANY_IN_PAGE: usize = 60;
 
-/// The rows that are drawn, and what is said of the choice where not all are.
+/// The rows that are drawn, what is said of the choice where not all are, and the same in few words.
 pub struct Drawn {
     pub rows: BTreeSet<u32>,
     pub said: String,
+    pub briefly: String,
 }
 
-/// How many rows are drawn, and which.
-fn said(trace: &Trace, rows: &BTreeSet<u32>, which: &str) -> String {
+/// How many rows are drawn, and what is said behind that; nothing where all are.
+fn said(trace: &Trace, rows: &BTreeSet<u32>, behind: &str) -> String {
     let (n, all) = (rows.len() as u64, u64::from(trace.rows().n));
     if n == all {
         return String::new();
     }
-    format!("{n} of {} drawn: {which}.", are(all, "row"))
+    format!("{n} of {} drawn{behind}.", are(all, "row"))
 }
 
 /// Every row.
 pub fn all(trace: &Trace) -> Drawn {
-    Drawn { rows: trace.rows().all().map(|(k, _)| k).collect(), said: String::new() }
+    Drawn { rows: trace.rows().all().map(|(k, _)| k).collect(), said: String::new(), briefly: String::new() }
 }
 
-/// Which rows of a race are drawn, in words.
-fn which(trace: &Trace, race: &Race, drawn: &BTreeSet<u32>, depth: Depth) -> String {
+/// Which rows of a race are drawn, and which between are left out if some are, in words.
+fn which(trace: &Trace, race: &Race, drawn: &BTreeSet<u32>, depth: Depth) -> (String, String) {
     let rows = trace.rows();
     let process = |k: u32| rows.row(k).map_or(0, |r| r.process);
     let (p, q) = (process(race.earlier), process(race.later));
@@ -45,14 +46,15 @@ fn which(trace: &Trace, race: &Race, drawn: &BTreeSet<u32>, depth: Depth) -> Str
             Depth::Whole | Depth::Messages => "the race, its explanation, and the messages and barriers between need",
         };
         let is = if folded == 1 { "is" } else { "are" };
-        return format!("those that {needed}. Between, {} of {both} {is} left out", counted(folded as u64, "row"));
+        let left_out = format!(". Between, {} of {both} {is} left out", counted(folded as u64, "row"));
+        return (format!("those that {needed}"), left_out);
     }
     let is_between = |k: &u32| (race.earlier..=race.later).contains(k) && [p, q].contains(&process(*k));
     let mut which = format!("those of {both} from row {} to row {}", race.earlier, race.later);
     if drawn.iter().any(|k| !is_between(k)) {
         which.push_str(", those that the explanation names, and those of the messages and barriers that go with them");
     }
-    which
+    (which, String::new())
 }
 
 /// "1 row is", "2 rows are".
@@ -63,8 +65,9 @@ fn are(n: u64, one: &str) -> String {
 /// The rows of a race, so deep.
 fn race_at(trace: &Trace, race: &Race, depth: Depth) -> Drawn {
     let rows = race.rows(&trace.rows(), depth);
-    let said = said(trace, &rows, &which(trace, race, &rows, depth));
-    Drawn { rows, said }
+    let (which, left_out) = which(trace, race, &rows, depth);
+    let (said, briefly) = (said(trace, &rows, &format!(": {which}{left_out}")), said(trace, &rows, &left_out));
+    Drawn { rows, said, briefly }
 }
 
 /// The rows of a race, of each depth that a picture can have, the best first.
@@ -165,6 +168,6 @@ pub fn chosen(trace: &Trace, crop: &Crop) -> Result<Drawn, String> {
     if drawn.is_empty() {
         return Err(format!("no row is chosen: {}", choice(crop)));
     }
-    let said = said(trace, &drawn, &choice(crop));
-    Ok(Drawn { rows: drawn, said })
+    let (said, briefly) = (said(trace, &drawn, &format!(": {}", choice(crop))), said(trace, &drawn, ""));
+    Ok(Drawn { rows: drawn, said, briefly })
 }

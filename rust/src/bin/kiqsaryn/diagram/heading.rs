@@ -101,8 +101,8 @@ impl Heading {
     /// What is said above a picture in a page that says the rest.
     pub fn in_page(drawn: &Drawn) -> Heading {
         let mut heading = Heading { lines: Vec::new(), legend: None };
-        if !drawn.said.is_empty() {
-            heading.say("", &drawn.said);
+        if !drawn.briefly.is_empty() {
+            heading.say("", &drawn.briefly);
         }
         heading
     }

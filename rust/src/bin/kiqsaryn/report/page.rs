@@ -150,7 +150,8 @@ const TERMS: [(&str, &str); 8] = [
 ];
 
 /// What the boxes and lines of the pictures mean.
-const MARKS: &str = "In a picture of a race each process has a lane, and the rows go down in the order of the trace. A box tells the row's number, \
+const MARKS: &str = "A picture of a race shows the two rows, the rows of their processes between, those that the reason names, and those by which \
+messages and barriers lead there. Each process has a lane, and the rows go down in the order of the trace. A box tells the row's number, \
     its kind, the file (f), the first and the last byte, the message (m) or the barrier (b). Frames with the word Race are the two rows; frames \
     with Found, Order or Posted are the rows that the reason names behind that word. An arrow is a message, from its send to the wait for it; a \
     thick line is a barrier; a dashed line joins the two rows; three dots stand for rows left out.";
