@@ -13,11 +13,12 @@ use std::process::{Command, Output};
 const ROOT: &str = concat!(env!("CARGO_MANIFEST_DIR"), "/..");
 
 /// The files that are installed, and their modes.
-const FILES: [(&str, u32); 6] = [
+const FILES: [(&str, u32); 7] = [
     ("lib/libkiqsaryn.a", 0o644),
     ("include/kiqsaryn.h", 0o644),
     ("bin/kiqsaryn", 0o755),
     ("share/man/man1/kiqsaryn.1", 0o644),
+    ("share/doc/kiqsaryn/JSON.md", 0o644),
     ("share/bash-completion/completions/kiqsaryn", 0o644),
     ("share/zsh/site-functions/_kiqsaryn", 0o644),
 ];
@@ -183,11 +184,12 @@ fn leaves_all(s: &Scratch) {
 #[test]
 fn what_is_missing_is_built() {
     let s = Scratch::new("builds");
-    for folder in ["bin", "repo", "repo/c", "repo/rust"] {
+    for folder in ["bin", "repo", "repo/c", "repo/docs", "repo/rust"] {
         fs::create_dir(s.path(folder)).expect("a folder");
     }
     fs::copy(Path::new(ROOT).join("install"), s.path("repo/install")).expect("a copy");
     fs::write(s.path("repo/c/kiqsaryn.h"), "header\n").expect("a file");
+    fs::write(s.path("repo/docs/JSON.md"), "text\n").expect("a file");
     let put = |name: &str, text: &str| {
         fs::write(s.path(name), text).expect("a file");
         fs::set_permissions(s.path(name), Permissions::from_mode(0o755)).expect("a mode");
