@@ -425,7 +425,7 @@ fn a_refusal_of_a_mended_text_names_the_place_in_the_file() {
         (&["--semicolons"][..], &b"0;open;1;;;\r\n0,open,1,,,"[..], "--semicolons: nothing is mended: commas stand outside quotes as well"),
         (&["--tabs"], b"0\topen\t1,5\t\t", "--tabs: nothing is mended: commas stand outside quotes as well"),
         (&["--utf-16"], b"\xff\xfe0\0,\0\xe9\0", "--utf-16: nothing is mended: byte 6 (from 0) starts a character that is not plain ASCII"),
-        (&["--utf-16"], b"\xff\xfe0\0,", "--utf-16: nothing is mended: byte 4 (from 0) starts a character that is not plain ASCII"),
+        (&["--utf-16"], b"\xff\xfe0\0,", "--utf-16: nothing is mended: byte 4 (from 0), the last one, is half a character"),
     ] {
         let told = place(options, text);
         assert!(told.contains(&format!("mended: {said} answered No:")), "{said} in {told}");

@@ -201,7 +201,10 @@ fn from_utf16(file: &[u8]) -> (Vec<u8>, (usize, usize), Done) {
             ([b, 0], true) | ([0, b], false) if b.is_ascii() => plain.push(*b),
             _ => {
                 let at: usize = lead + 2 * k;
-                let why = format!("byte {at} (from 0) starts a character that is not plain ASCII");
+                let why = match pair.len() {
+                    1 => format!("byte {at} (from 0), the last one, is half a character"),
+                    _ => format!("byte {at} (from 0) starts a character that is not plain ASCII"),
+                };
                 return (file.to_vec(), (0, 1), Done::Not(why));
             }
         }
