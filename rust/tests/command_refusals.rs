@@ -248,6 +248,10 @@ fn the_cure_names_the_trace_as_a_shell_takes_it() {
         fs::remove_file(f.path(name)).expect("the trace is removed");
     }
     assert!(!f.path("no").exists());
+    // A mark that turns the line is no more shown here than elsewhere.
+    f.put_bytes("a\u{202e}b.csv", &lf);
+    let o = f.sh("kiqsaryn check a*b.csv --header yes");
+    assert_eq!(cure(&out(&o)), Some("write TRACE --header yes --line-ends -o mended.csv"));
     // The limit on processes and the header word are said again; standard input is -.
     let o = run(&["check", "-", "--header", "no", "--processes", "4"], b"3,open,1,,,\n");
     assert_eq!(cure(&out(&o)), Some("write - --header no --processes 4 --line-ends -o mended.csv"));
@@ -285,6 +289,11 @@ fn a_cure_tells_what_the_mended_trace_comes_to() {
         words.contains("recognized: UTF-16, two bytes for each character cure: No option of write mends this trace: byte 32"),
         "{words}"
     );
+    // Of a trace that was not read to its end it is known that it has too many rows, and not what stands behind that end.
+    let words = told("0,open,1,,,\n".repeat(40_000).as_bytes());
+    assert!(words.ends_with("Mended so, it is refused with 6, at row 4097, line 4097."), "{words}");
+    let words = told(format!("0,open,1,,,\n0,open,1,,,{}\n", " ".repeat(200_000)).as_bytes());
+    assert!(words.ends_with("whether it is accepted once mended is not known."), "{words}");
     let words = told(b"0,open,1,,,\n0,open,1,,,\r0,open,1,,,\n");
     assert!(words.contains("recognized: LF alone at the end of 2 lines, CR alone at 1 cure:"), "{words}");
 }
@@ -311,9 +320,14 @@ fn the_other_header_word_is_named_where_the_first_record_reads_so() {
     let pair = Pair::new("words", b"0,open,1,,,\r\n", NAMES.as_bytes());
     let words = flat(&out(&pair.run("join", "no,no", &[])));
     assert!(words.contains("the second trace is row 1. It holds the names: say --headers no,yes."), "{words}");
+    // The cure is a command line of write, which has a word for one trace.
+    pair.put(b"0,open,1,,,\r\n", NAMES.replace("\r\n", "\n").as_bytes());
+    let words = flat(&out(&pair.run("join", "no,no", &[])));
+    assert!(words.ends_with("refused with 8, at row 1, line 1. The first record holds the names: say --header yes."), "{words}");
 }
 
-/// One of two traces is mended by itself. Where it waits for messages of the other one, `write` would refuse it, and the refusal tells so.
+/// One of two traces is mended by itself. Where it waits for messages of the other one, `write` would refuse it: the refusal tells so and offers no
+/// command.
 #[test]
 fn the_cure_of_one_of_two_traces_names_that_trace() {
     let pair = Pair::new("cures", b"0,open,1,,,\r\n", b"1,open,1,,,\n1,sync,1,,,\n");
@@ -321,8 +335,11 @@ fn the_cure_of_one_of_two_traces_names_that_trace() {
     assert_eq!(cure(&told), Some("write b.csv --header no --line-ends -o mended.csv"), "{told}");
     assert!(flat(&told).ends_with("Mended so, the trace is accepted: 2 rows."), "{told}");
     pair.put(b"0,send,,,,7\r\n", b"1,recv,,,,7\n1,wait,,,,7\n");
-    let told = flat(&out(&pair.run("join", "no,no", &[])));
-    assert!(told.contains("refused with 21, at row 2, line 2, since write takes it by itself. Save it again"), "{told}");
+    let told = out(&pair.run("join", "no,no", &[]));
+    let alone = "cure: Mended by write, it is refused with 21, at row 2, line 2, since write takes it by itself. Save it again";
+    assert!(cure(&told).is_none() && flat(&told).contains(alone), "{told}");
+    let object = out(&pair.run("check", "no,no", &["--json"]));
+    assert!(object.contains("\"cure\":null}"), "{object}");
 }
 
 // ---- What write mends

@@ -5,8 +5,8 @@ use crate::fields::line_and_column;
 use crate::input::{ask, is_of_order, reads_as, TraceRefused, Which};
 use crate::mend::{mend, recognized, Doings, Done, Habit, Mended};
 use crate::recording::{byte_limit, record, record_start};
-use crate::text::counted;
-use kiqsaryn::{Checked, Refusal, PROCESSES};
+use crate::text::{counted, is_shown};
+use kiqsaryn::{Checked, Refusal, PROCESSES, ROWS};
 use std::fs;
 use std::path::Path;
 
@@ -40,8 +40,19 @@ pub fn cure(r: &TraceRefused) -> Option<Cure> {
         return not_mended(r, &not);
     }
     let recognized: Vec<String> = new.map(|habit| in_words(habit, &mended)).collect();
-    let then = if stopped { NOT_READ.to_string() } else { outcome(r, &mended, answer) };
-    Some(Cure { recognized: recognized.join(", "), command: Some(command(r, options)), then })
+    let then = if stopped && !is_too_long(answer) { NOT_READ.to_string() } else { outcome(r, &mended, answer) };
+    let command = (!is_refused_alone(r, answer)).then(|| command(r, options));
+    Some(Cure { recognized: recognized.join(", "), command, then })
+}
+
+/// Whether the library's answer to a part of a trace says that there are too many rows; no further part changes that.
+fn is_too_long(answer: Checked) -> bool {
+    matches!(answer, Checked::Refused { refusal: Refusal::TooManyRows, place } if place > ROWS)
+}
+
+/// Whether one of two traces, mended, is refused by itself for the order of messages or barriers, of which the other trace may have the rest.
+fn is_refused_alone(r: &TraceRefused, answer: Checked) -> bool {
+    r.which != Which::Only && matches!(answer, Checked::Refused { refusal, .. } if is_of_order(refusal))
 }
 
 /// A habit that the refused record shows and no option mends, and why.
@@ -92,21 +103,21 @@ fn outcome(r: &TraceRefused, mended: &Mended, answer: Checked) -> String {
             let (text, at, _) = mended.origin(record_start(&mended.text, r.header, place));
             let (line, _) = line_and_column(text, at);
             let at = if place == 0 { "the header".to_string() } else { format!("row {place}") };
-            let refused = format!("Mended so, it is refused with {}, at {at}, line {line}", refusal.number());
-            match r.which != Which::Only && is_of_order(refusal) {
-                true => format!("{refused}, since write takes it by itself. Save it again without the habit."),
-                false => format!("{refused}.{}", header_word(r, &mended.text, place)),
+            let refused = format!("it is refused with {}, at {at}, line {line}", refusal.number());
+            match is_refused_alone(r, answer) {
+                true => format!("Mended by write, {refused}, since write takes it by itself. Save it again without the habit."),
+                false => format!("Mended so, {refused}.{}", header_word(r, &mended.text, place)),
             }
         }
     }
 }
 
-/// Which header word to say where the mended trace is refused at its first record and that reads as the other word says.
+/// Which header word to say to `write` where the mended trace is refused at its first record and that reads as the other word says.
 fn header_word(r: &TraceRefused, text: &[u8], place: u32) -> String {
     let is_first = place == u32::from(!r.header);
     match is_first && reads_as(record(text, r.header, place), !r.header, r.processes) {
-        true if r.header => format!(" The first record reads as a row: say {}.", r.said_other),
-        true => format!(" The first record holds the names: say {}.", r.said_other),
+        true if r.header => " The first record reads as a row: say --header no.".to_string(),
+        true => " The first record holds the names: say --header yes.".to_string(),
         false => String::new(),
     }
 }
@@ -135,7 +146,7 @@ fn free_name() -> String {
 fn shell_word(path: &Path) -> String {
     let is_plain = |c: char| c.is_ascii_alphanumeric() || "_./,:@%+=-".contains(c);
     match path.to_str() {
-        Some(word) if word.is_empty() || word.chars().any(char::is_control) => "TRACE".to_string(),
+        Some(word) if word.is_empty() || !word.chars().all(is_shown) => "TRACE".to_string(),
         Some(word) if word.starts_with('-') => shell_word(&Path::new(".").join(word)),
         Some(word) if word.chars().all(is_plain) => word.to_string(),
         Some(word) => format!("'{}'", word.replace('\'', "'\\''")),

@@ -49,7 +49,7 @@ pub fn path_name(path: &Path) -> String {
 }
 
 /// Whether a letter of a name is shown as it is: no control character, and none that turns the direction of a line or is not seen.
-fn is_shown(c: char) -> bool {
+pub fn is_shown(c: char) -> bool {
     let hidden = ['\u{200b}'..='\u{200f}', '\u{2028}'..='\u{202e}', '\u{2060}'..='\u{206f}', '\u{feff}'..='\u{feff}'];
     !c.is_control() && !hidden.iter().any(|range| range.contains(&c))
 }
