@@ -137,6 +137,7 @@ fn what_was_probably_meant_is_asked() {
         ("zzz", "there is no command \"zzz\""),
         ("t.csv --header yes", "there is no command \"t.csv\""),
         ("''", "there is no command \"\""),
+        ("check t.csv --help=all", "--help takes no value"),
         ("check t.csv --hedaer yes", "check has no option \"--hedaer\"; did you mean --header?"),
         ("check t.csv --hedaer=yes", "check has no option \"--hedaer\"; did you mean --header?"),
         ("check t.csv -header yes", "check has no option \"-header\"; did you mean --header?"),
@@ -387,6 +388,15 @@ fn a_failure_leaves_no_blank_line() {
     }
 }
 
+/// A choice of what one of several traces does not have is told with the name of that trace.
+#[test]
+fn a_failed_answer_names_the_trace_of_several() {
+    let f = folder("named");
+    let o = all(&f, "kiqsaryn replay t.csv free.csv --header yes --model commit --file 9");
+    let of = |name: &str| format!("kiqsaryn: {name}: no row is of file 9; the trace has rows of file 1\n");
+    assert_eq!(o, (3, String::new(), of("t.csv") + &of("free.csv")));
+}
+
 #[test]
 fn lines_with_commas_name_the_trace_of_several() {
     let f = folder("commas");
@@ -417,6 +427,8 @@ fn standard_input_is_one_of_several_traces_at_most() {
 #[test]
 fn two_traces_are_joined_or_each_by_itself() {
     let f = folder("two");
+    let said = err(&f.sh("kiqsaryn check t.csv"));
+    assert!(said.lines().all(|line| line.len() <= 78), "{said}");
     let said = err(&f.sh("kiqsaryn check t.csv free.csv"));
     assert!(said.contains("--header yes or --header no to take each trace by itself") && said.contains("--headers yes,no"), "{said}");
     let both = "--header takes each trace by itself, and --headers joins two: say one of them";

@@ -173,11 +173,19 @@ impl Answers<'_> {
         self.say(&json::object(&fields))
     }
 
+    /// A sentence on a trace that was read; of several it starts with the trace's name.
+    fn named(&self, failed: Failed) -> Failed {
+        match failed {
+            Failed::Sentence(sentence) if self.each.len() > 1 => Failed::Sentence(format!("{}: {sentence}", self.name)),
+            failed => failed,
+        }
+    }
+
     /// Answers about one trace; the status.
     fn answer(&mut self, common: &Common, answer: &impl Fn(&mut Self, &Trace) -> Result<u8, Failed>) -> io::Result<u8> {
         self.begin(common);
         let done = match input::load(common) {
-            Ok(Loaded::Accepted(trace)) => answer(self, &trace).inspect(|_| self.count(&trace)),
+            Ok(Loaded::Accepted(trace)) => answer(self, &trace).inspect(|_| self.count(&trace)).map_err(|failed| self.named(failed)),
             Ok(Loaded::Refused(r)) => {
                 self.tally.refused += 1;
                 self.refuse(&r, common).map(|()| REFUSED).map_err(Failed::from)

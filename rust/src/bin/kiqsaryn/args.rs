@@ -131,7 +131,7 @@ pub enum Request {
 }
 
 const WHY_HEADER: &str = "
-  yes: the first record holds the names process,kind,file,offset,length,message
+  yes: the first record has the names process,kind,file,offset,length,message
   no:  the first record is row 1
 It is never guessed: a first row taken for a header would be lost, and a
 header taken for a row would be refused or shift every row number.";
@@ -196,6 +196,7 @@ fn gather(mut args: impl Iterator<Item = OsString>, command: &Command) -> Result
         match name.as_str() {
             "--" if value.is_none() => only_operands = true,
             "--help" | "-h" if value.is_none() => given.help = true,
+            "--help" => return Err("--help takes no value".to_string()),
             _ => match command.option(&name) {
                 None => return Err(no_option(command, &name, &arg)),
                 Some(option) => given.take(option, value, &mut args)?,
