@@ -59,6 +59,26 @@ fn standard_output_never_goes_over_the_trace() {
     assert_eq!(f.names(), ["hard.csv", "t.csv"]);
 }
 
+/// Words on standard error would go into the trace, so there are none: not of a refusal, nor of another trace that cannot be read.
+#[test]
+fn standard_error_never_goes_over_the_trace() {
+    let f = Folder::new("append-errors");
+    let trace = f.read("t.csv");
+    let commands =
+        ["check T", "check gone.csv T", "races T --csv", "replay T --model commit", "explain T 5", "report T", "diagram T", "write T"];
+    for command in commands {
+        for (trace_word, files) in [("t.csv", "2>> t.csv"), ("-", "< t.csv 2>> t.csv"), ("t.csv", ">> t.csv 2>&1")] {
+            for header in ["yes", "no"] {
+                let line = format!("kiqsaryn {} --header {header} {files}", command.replace('T', trace_word));
+                let o = f.sh(&line);
+                assert_eq!((out(&o), err(&o), status(&o)), (String::new(), String::new(), 3), "{line}");
+                assert_eq!(f.read("t.csv"), trace, "{line}");
+            }
+        }
+    }
+    assert_eq!(f.names(), ["t.csv"]);
+}
+
 // ---- Files that are written
 
 #[test]

@@ -80,14 +80,14 @@ impl Outcome {
     }
 }
 
-/// What is said where output to one of the places would overwrite a trace; nothing is said on standard error where that is the trace.
+/// What is said where output to one of the places, or words on standard error, would go into a trace. Where standard error is the trace, nothing is said.
 fn overwriting(common: &Common, places: &[Place]) -> Option<Outcome> {
     let trace = match &common.inputs {
         Inputs::One(_) => "the trace itself",
         Inputs::Two(_) => "one of the traces",
     };
     let overwrites = |place: &&Place| common.inputs.all().iter().any(|input| output::overwrites(&input.source, place));
-    Some(match places.iter().find(overwrites)? {
+    Some(match [Place::Error].iter().chain(places).find(overwrites)? {
         Place::File(_) => Outcome::failed(&format!("-o names {trace}; nothing is written")),
         Place::Output => Outcome::failed(&format!("standard output is {trace}; nothing is written")),
         Place::Error => Outcome::err(String::new(), WRONG),
@@ -233,7 +233,7 @@ fn run_join(common: &Common, models: &[Model], csv: bool, header: bool, file: Op
     let to_standard = file.as_deref().is_none_or(output::is_standard);
     with_trace(
         common,
-        &[Place::Error, file.as_deref().map_or(Place::Output, Place::File), Place::Output],
+        &[file.as_deref().map_or(Place::Output, Place::File), Place::Output],
         |r| {
             let words = refused_words(r, csv);
             if to_standard {
@@ -258,7 +258,7 @@ fn run_join(common: &Common, models: &[Model], csv: bool, header: bool, file: Op
 fn run_write(common: &Common, header: bool, output: Option<PathBuf>) -> Outcome {
     with_trace(
         common,
-        &[Place::Error, output.as_deref().map_or(Place::Output, Place::File), Place::Output],
+        &[output.as_deref().map_or(Place::Output, Place::File), Place::Output],
         |r| Outcome::err(refused::report(r), REFUSED),
         |trace| {
             let text = write::text(trace, header)?;
