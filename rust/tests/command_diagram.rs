@@ -386,6 +386,19 @@ fn says_how_many(picture: &str, rows: &[Row]) {
     assert_eq!(gaps.sum::<usize>(), hidden, "{picture}");
 }
 
+/// A receive that a third process posts stands in the picture, and the row of that process that would have to come behind a wait for it.
+#[test]
+fn a_receive_posted_on_the_way_is_drawn_with_its_rows() {
+    let rows =
+        ["0,write,1,0,4,", "0,send,,,,1", "1,recv,,,,1", "1,read,2,0,4,", "1,send,,,,2", "2,recv,,,,2", "2,wait,,,,2", "2,read,1,0,4,"];
+    let text = rows.join("\r\n");
+    let picture = picture(text.as_bytes(), &["--model", "posix"]);
+    assert!(words_in(&picture).contains("no row of process 1 before row 5 waits for it"), "{picture}");
+    let boxes = row_boxes(&picture);
+    assert_eq!(numbers(&boxes), BTreeSet::from([1, 2, 3, 5, 6, 7, 8]), "{picture}");
+    assert!(lines(&picture).iter().any(|line| line.joins(row_box(&boxes, 5), row_box(&boxes, 7))), "{picture}");
+}
+
 /// 400 rows with many races: the first, and any other that is asked for.
 #[test]
 fn another_race_is_drawn_on_request() {

@@ -76,7 +76,7 @@ impl Race {
             }
             Claim::PostedOnly { posted, wait } => {
                 self.mark(posted.recv, Mark::Posted);
-                self.needed.extend([posted.send].into_iter().chain(wait));
+                self.needed.extend([posted.send, posted.before].into_iter().chain(wait));
             }
             Claim::NoPublish { .. } | Claim::NoRefresh { .. } | Claim::NotBefore { .. } | Claim::LastBefore { last: None, .. } => {}
         }
