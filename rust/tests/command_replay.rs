@@ -619,8 +619,8 @@ const WHY: &[(&str, &str, &str, &str)] = &[
         "1,write 0,write 0,close 1,open 1,read",
         "5",
         "session",
-        "row 1 is process 1's own write, and it has no close of file 1 between row 1 and row 4, its last open before row 5: own bytes that are \
-         not yet published come first.",
+        "row 1 is process 1's own write, and it has no close of file 1 between row 1 and row 4, its last open of file 1 before row 5: own bytes \
+         that are not yet published come first.",
     ),
     (
         "0,write 1,write 1,commit 0,commit 1,read",
@@ -632,8 +632,8 @@ const WHY: &[(&str, &str, &str, &str)] = &[
         "1,write 0,write 0,sync 1,sync 1,read",
         "5",
         "mpiio",
-        "row 3 (sync) publishes row 2, and row 4 (sync), behind it, publishes the older row 1 over it. Process 1's last open or sync before row 5 \
-         is row 4 (sync).",
+        "row 3 (sync) publishes row 2, and row 4 (sync), behind it, publishes the older row 1 over it. Process 1's last open or sync of file 1 \
+         before row 5 is row 4 (sync).",
     ),
 ];
 
@@ -655,6 +655,20 @@ fn each_reason_has_its_words() {
         let o = fed(&["explain", "-", row, "--model", model], text.as_bytes());
         assert_eq!((behind(&out(&o), "Why"), status(&o)), (vec![why.to_string()], 0), "{rows}\n{}", out(&o));
         assert_eq!(behind(&out(&o), "Race").len(), 1, "{}", out(&o));
+    }
+}
+
+/// Where the reader opens another file behind its last open of the read's file, the sentences name the file that they are about.
+#[test]
+fn an_open_of_another_file_is_not_taken_for_that_of_the_read() {
+    let reads = "1,open,1,,,\r\n1,open,2,,,\r\n1,read,1,0,4,\r\n";
+    let [older, newer] = ["1,write,1,0,4,\r\n0,write,1,0,4,\r\n", "0,write,1,0,4,\r\n1,write,1,0,4,\r\n"];
+    for (rows, row, why) in [
+        (format!("{older}0,close,1,,,\r\n{reads}"), "6", "between row 1 and row 4, its last open of file 1 before row 6: own bytes"),
+        (format!("{newer}1,close,1,,,\r\n0,close,1,,,\r\n{reads}"), "7", "Process 1's last open of file 1 before row 7 is row 5."),
+    ] {
+        let words = out(&fed(&["explain", "-", row, "--model", "session"], rows.as_bytes()));
+        assert!(matches!(&behind(&words, "Why")[..], [told] if told.contains(why)), "{words}");
     }
 }
 

@@ -103,19 +103,27 @@ fn reason_words(trace: &Trace, told: &Told, (got, newer): Stale, reason: Reason)
             format!("{last}, and row {newer} is published behind it, by {row}.")
         }
         Reason::OwnFirst { refresh, .. } => {
-            let last = if refresh == read { String::new() } else { format!(", its last {refresh_word} before row {read}") };
+            let last = if refresh == read { String::new() } else { format!(", its last {refresh_word} of file {file} before row {read}") };
             let none = format!("it has no {publish_word} of file {file} between row {got} and {}{last}", by(refresh, refreshing)?);
             format!("row {got} is process {reader}'s own write, and {none}: own bytes that are not yet published come first.")
         }
         Reason::PublishedOver { publish, over, refresh } => {
-            let (row, over) = (by(publish, publishing)?, by(over, publishing)?);
-            let both = format!("{row} publishes row {newer}, and {over}, behind it, publishes the older row {got} over it.");
-            match refresh == read {
-                true => both,
-                false => format!("{both} Process {reader}'s last {refresh_word} before row {read} is {}.", by(refresh, refreshing)?),
-            }
+            let published = [by(publish, publishing)?, by(over, publishing)?];
+            let refresh = if refresh == read { None } else { Some(by(refresh, refreshing)?) };
+            over_words(told, (got, newer), published, refresh)
         }
     })
+}
+
+/// That one row publishes the newer bytes and another the older ones over them; and the reader's last refreshing row, where it is not the read itself.
+fn over_words(told: &Told, (got, newer): Stale, [row, over]: [String; 2], refresh: Option<String>) -> String {
+    let (read, Row { process: reader, file, .. }) = (told.read.number, told.read.row);
+    let refresh_word = one_of(refreshing(told.model));
+    let both = format!("{row} publishes row {newer}, and {over}, behind it, publishes the older row {got} over it.");
+    match refresh {
+        None => both,
+        Some(refresh) => format!("{both} Process {reader}'s last {refresh_word} of file {file} before row {read} is {refresh}."),
+    }
 }
 
 /// Why bytes are stale under a model, in sentences behind their labels.
