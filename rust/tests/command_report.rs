@@ -363,6 +363,9 @@ fn the_limit_leaves_races_and_stale_reads_out_and_says_so() {
         compare_verdicts(&told, &page);
         let races = page.of_id("races").words();
         let hidden = 6_usize.saturating_sub(limit);
+        let first = page.all("header")[0].words();
+        assert_eq!(first.contains("every race with its reason and a picture"), hidden == 0, "limit {limit}: {first}");
+        assert_eq!(first.contains(&format!("of the races under each model the first {limit}")), (1..6).contains(&limit), "{first}");
         let said = races.contains(&format!("{hidden} race{} under commit, session, mpiio", if hidden == 1 { "" } else { "s" }));
         assert_eq!(said, hidden > 0, "limit {limit}: {races}");
         let stale = page.of_id("stale").words();

@@ -44,6 +44,18 @@ impl Judged<'_> {
         None
     }
 
+    /// What the page shows of races and stale reads.
+    pub fn shown(&self) -> String {
+        match (self.limit, self.found.iter().all(|found| found.list.len() / PAIR <= self.limit)) {
+            (0, false) => "and how many races and stale reads there are.".to_string(),
+            (_, true) => "every race with its reason and a picture, and the reads that get old bytes in the recorded order.".to_string(),
+            (n, false) => format!(
+                "of the races under each model the first {n}, with their reasons and pictures, and reads that get old bytes in the \
+                 recorded order."
+            ),
+        }
+    }
+
     /// One line on all models.
     pub fn summary(&self) -> String {
         if self.trace.rows().n == 0 {

@@ -123,11 +123,11 @@ const PARTS: [(&str, &str); 5] = [
 pub fn head(judged: &Judged) -> String {
     let mut s = format!("<header>\n<h1>{}</h1>\n", text(&title(judged.trace)));
     s.push_str(&format!("<p class=\"summary\">{}</p>\n", text(&judged.summary())));
-    s.push_str(&paragraph(
+    s.push_str(&paragraph(&format!(
         "A storage race is a pair of operations that touch the same bytes of a file and that the consistency model of the storage does not \
-         order, so that a read may return old bytes. This page shows what was read of the recorded trace, the verdict under each model, every \
-         race with its reason and a picture, and the reads that get old bytes in the recorded order.",
-    ));
+         order, so that a read may return old bytes. This page shows what was read of the recorded trace, the verdict under each model, {}",
+        judged.shown()
+    )));
     s.push_str(&paragraph(&format!("Made by kiqsaryn {VERSION}. The same trace gives the same page.")));
     s.push_str("<nav aria-label=\"Parts of this page\"><ul>");
     for (id, name) in PARTS {
