@@ -25,8 +25,8 @@ pub fn escape(bytes: &[u8], most: usize) -> String {
     s
 }
 
-/// The most bytes of a path that are shown.
-const PATH: usize = 400;
+/// The most letters of a path that are shown.
+pub const PATH: usize = 400;
 
 /// A path as printable text on one line: letters of every script as they are, and other bytes escaped.
 pub fn path_name(path: &Path) -> String {

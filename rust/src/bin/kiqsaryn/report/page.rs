@@ -6,7 +6,7 @@ use crate::args::REPORT_LIMIT;
 use crate::diagram;
 use crate::input::{Recorded, Trace};
 use crate::recording::Recording;
-use crate::text::counted;
+use crate::text::{counted, letters, PATH};
 use kiqsaryn::{Model, PROCESSES};
 
 const VERSION: &str = env!("CARGO_PKG_VERSION");
@@ -90,12 +90,18 @@ fn shell_word(name: &str) -> String {
 
 /// A command about the trace, with the options that tell how it was read. A trace that came by standard input has no name of its own.
 pub fn command(name: &str, trace: &Trace) -> String {
-    let of = |r: &Recording| if r.name == "standard input" { "TRACE".to_string() } else { shell_word(&r.name) };
+    let is_named = |r: &Recording| r.name != "standard input" && is_as_the_file_has_it(&r.name);
+    let of = |r: &Recording| if is_named(r) { shell_word(&r.name) } else { "TRACE".to_string() };
     let words: Vec<&str> = recordings(trace).iter().map(|r| if r.header { "yes" } else { "no" }).collect();
     let names: Vec<String> = recordings(trace).iter().map(of).collect();
     let option = if words.len() > 1 { "--headers" } else { "--header" };
     let mut s = format!("kiqsaryn {name} {} {option} {}", names.join(" "), words.join(","));
     if trace.processes != PROCESSES {
+/// Whether a name is shown as the file has it: no letter of it is escaped, and none is cut off.
+fn is_as_the_file_has_it(name: &str) -> bool {
+    !name.contains('\\') && letters(name) <= PATH
+}
+
         s.push_str(&format!(" --processes {}", trace.processes));
     }
     s
