@@ -426,6 +426,43 @@ fn a_name_of_any_bytes_is_shown() {
         let title = well_kept(&out(&o)).all("h1")[0].words();
         assert!(title.chars().all(|c| (' '..='~').contains(&c)) && title.contains('\\'), "{title}");
     }
+    // A name that is not shown as the file has it stands in no command.
+    let long = format!("{}t.csv", "./".repeat(200));
+    for (name, is_shown) in [("a\\b.csv", false), (long.as_str(), false), (&long[6..], true)] {
+        let o = folder.sh(&format!("[ -e '{name}' ] || cp t.csv '{name}'; kiqsaryn report '{name}' --header yes"));
+        let line = well_kept(&out(&o)).all("pre")[0].words();
+        let want = if is_shown { name } else { "TRACE" };
+        assert_eq!(line, format!("kiqsaryn report {want} --header yes -o report.html"));
+    }
+}
+
+/// Names of files that are longer than a line can be broken wherever they stand in a table.
+#[test]
+fn long_names_of_joined_traces_are_broken() {
+    let folder = Folder::new("report-long-names");
+    let names = ["l", "r"].map(|letter| format!("{}.csv", letter.repeat(200)));
+    for (name, from) in names.iter().zip(["left.csv", "right.csv"]) {
+        folder.put(name, &fs::read_to_string(examples().join("join").join(from)).expect("a trace"), 0o644);
+    }
+    let args = ["report", &names[0], &names[1], "--headers", "yes,no"];
+    let page = well_kept(&out(&feed(Command::new(EXE).args(args).current_dir(&folder.path), b"")));
+    let has_name = |e: &&Element| names.iter().any(|name| e.words().contains(name));
+    let cells: Vec<&Element> = ["verdicts", "races", "stale"].iter().flat_map(|id| page.of_id(id).all("td")).filter(has_name).collect();
+    assert!(cells.len() > 8 && cells.iter().all(|cell| cell.of_class("name").len() == 1), "{} cells", cells.len());
+}
+
+/// A picture of many lanes is not made so small that nobody can read it.
+#[test]
+fn a_picture_wider_than_the_page_keeps_its_size_on_a_screen() {
+    let mut text = "0,write,1,0,4,\r\n".to_string();
+    (0..12).for_each(|p| text.push_str(&format!("{p},send,,,,{p}\r\n{0},recv,,,,{p}\r\n{0},wait,,,,{p}\r\n", p + 1)));
+    let wide = |text: &str, more: &[&str]| {
+        let page = alone("no", text.as_bytes()).page(more);
+        let pictures = page.of_id("races").all("svg").into_iter().map(|svg| svg.value("class").to_string());
+        pictures.collect::<Vec<String>>()
+    };
+    assert_eq!(wide(&format!("{text}12,read,1,0,4,\r\n"), &["--model", "commit"]), ["kiqsaryn wide"]);
+    assert_eq!(wide(&format!("{text}1,read,1,0,4,\r\n"), &["--model", "commit"]), ["kiqsaryn"]);
 }
 
 #[test]

@@ -25,6 +25,9 @@ pub use style::STYLE;
 /// No viewer opens a picture of more pixels from left to right, or from top to bottom.
 const LARGEST: usize = 32_767;
 
+/// A picture of a page that has more pixels from left to right keeps its size on a screen: nobody could read it at the width of the page.
+const WIDE: usize = 1_600;
+
 /// A picture that is laid out.
 struct Picture<'a> {
     trace: &'a Trace,
@@ -59,7 +62,8 @@ impl<'a> Picture<'a> {
     fn element(&self, id: &str, style: Option<&str>) -> String {
         let (width, height) = (self.width, self.height);
         let size = format!("width=\"{width}\" height=\"{height}\" viewBox=\"0 0 {width} {height}\"");
-        let mut s = format!("<svg xmlns=\"http://www.w3.org/2000/svg\" class=\"kiqsaryn\" {size}>\n<title>{}</title>\n", xml(&self.title));
+        let class = if style.is_none() && width > WIDE { "kiqsaryn wide" } else { "kiqsaryn" };
+        let mut s = format!("<svg xmlns=\"http://www.w3.org/2000/svg\" class=\"{class}\" {size}>\n<title>{}</title>\n", xml(&self.title));
         if let Some(style) = style {
             s.push_str(&format!("<style>{style}</style>\n"));
         }

@@ -1,6 +1,6 @@
 //! The verdicts, and what the page says of them.
 
-use super::page::{section as page_section, table, text};
+use super::page::{row_words, section as page_section, table, text};
 use crate::check;
 use crate::input::Trace;
 use crate::races::Found;
@@ -81,7 +81,7 @@ impl Judged<'_> {
             let words = format!("<span class=\"free\">{}</span>", text(check::free(self.trace)));
             return vec![model.name().to_string(), words, "0".to_string(), String::new()];
         };
-        let pair = text(&format!("{} and {}", self.trace.row_name(earlier), self.trace.row_name(later)));
+        let pair = row_words(self.trace, &format!("{} and {}", self.trace.row_name(earlier), self.trace.row_name(later)));
         let first = match self.limit {
             0 => pair,
             _ => format!("<a href=\"#{}\">{pair}</a>", race_id(place, (earlier, later))),

@@ -29,6 +29,14 @@ pub fn text(words: &str) -> String {
     s
 }
 
+/// Words that name a row, as they stand in a table. A joined row is named with its file, whose name may be longer than a line.
+pub fn row_words(trace: &Trace, words: &str) -> String {
+    match &trace.source {
+        Recorded::Alone(_) => text(words),
+        Recorded::Joined(_) => format!("<span class=\"name\">{}</span>", text(words)),
+    }
+}
+
 /// A section under its heading.
 pub fn section(id: &str, heading: &str, body: &str) -> String {
     format!("<section id=\"{id}\">\n<h2>{}</h2>\n{body}</section>\n", text(heading))
@@ -88,6 +96,11 @@ fn shell_word(name: &str) -> String {
     }
 }
 
+/// Whether a name is shown as the file has it: no letter of it is escaped, and none is cut off.
+fn is_as_the_file_has_it(name: &str) -> bool {
+    !name.contains('\\') && letters(name) <= PATH
+}
+
 /// A command about the trace, with the options that tell how it was read. A trace that came by standard input has no name of its own.
 pub fn command(name: &str, trace: &Trace) -> String {
     let is_named = |r: &Recording| r.name != "standard input" && is_as_the_file_has_it(&r.name);
@@ -97,11 +110,6 @@ pub fn command(name: &str, trace: &Trace) -> String {
     let option = if words.len() > 1 { "--headers" } else { "--header" };
     let mut s = format!("kiqsaryn {name} {} {option} {}", names.join(" "), words.join(","));
     if trace.processes != PROCESSES {
-/// Whether a name is shown as the file has it: no letter of it is escaped, and none is cut off.
-fn is_as_the_file_has_it(name: &str) -> bool {
-    !name.contains('\\') && letters(name) <= PATH
-}
-
         s.push_str(&format!(" --processes {}", trace.processes));
     }
     s

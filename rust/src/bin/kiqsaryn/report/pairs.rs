@@ -1,7 +1,7 @@
 //! The races, in groups as `races` shows them: what is missing, said once for all races of a group that lack the same, and a picture of each race.
 
 use super::judged::{race_id, Judged};
-use super::page::{command, not_shown, paragraph, section as page_section, table, text};
+use super::page::{command, not_shown, paragraph, row_words, section as page_section, table, text};
 use crate::alike::Lacks;
 use crate::args::Choice;
 use crate::check::{free, why};
@@ -178,7 +178,7 @@ impl<'a> Part<'a> {
 
     /// A race as a line of a table; both row numbers lead to its picture.
     fn line(&self, pair: Pair) -> Vec<String> {
-        let link = |entry: String| format!("<a href=\"#{}\">{}</a>", race_id(self.place, pair), text(&entry));
+        let link = |entry: String| format!("<a href=\"#{}\">{}</a>", race_id(self.place, pair), row_words(self.trace, &entry));
         let cell = |(k, entry): (usize, String)| if k % 3 == 0 && k < 6 { link(entry) } else { text(&entry) };
         entries(self.trace, pair).into_iter().enumerate().map(cell).collect()
     }

@@ -2,7 +2,7 @@
 
 use super::bytes::picture;
 use super::judged::Judged;
-use super::page::{command, not_shown, paragraph, section as page_section, table, text};
+use super::page::{command, not_shown, paragraph, row_words, section as page_section, table, text};
 use crate::input::{Recorded, Trace};
 use crate::output::Failed;
 use crate::races::names;
@@ -139,7 +139,7 @@ fn collect(trace: &Trace, models: &[Model], limit: usize) -> Result<Vec<Under>, 
 fn writer(trace: &Trace, row: u32) -> String {
     match row {
         0 => "unwritten".to_string(),
-        _ => text(&trace.row_name(row)),
+        _ => row_words(trace, &trace.row_name(row)),
     }
 }
 

@@ -8,10 +8,10 @@ pub const STYLE: &str = "\
 *{box-sizing:border-box}
 html{background:var(--paper);color:var(--ink);font:16px/1.5 system-ui,-apple-system,'Segoe UI',Roboto,'Liberation Sans','DejaVu Sans',sans-serif}
 body{margin:0}
-main{max-width:1000px;margin:0 auto;padding:28px 24px 64px}
-h1{font-size:1.75rem;line-height:1.25;margin:0 0 .5rem;overflow-wrap:anywhere}
+main{max-width:1000px;margin:0 auto;padding:28px 24px 64px;overflow-wrap:anywhere}
+h1{font-size:1.75rem;line-height:1.25;margin:0 0 .5rem}
 h2{font-size:1.35rem;margin:2.4rem 0 .6rem;padding-bottom:.25rem;border-bottom:2px solid var(--line)}
-h3{font-size:1.12rem;margin:1.6rem 0 .5rem;overflow-wrap:anywhere}
+h3{font-size:1.12rem;margin:1.6rem 0 .5rem}
 h4{font-size:1rem;margin:1.4rem 0 .4rem}
 h5{font-size:.95rem;margin:0 0 .3rem}
 p{margin:.5rem 0}
@@ -22,7 +22,8 @@ code,pre,.hash{font-family:ui-monospace,'Liberation Mono','DejaVu Sans Mono',Men
 code{overflow-wrap:anywhere}
 pre{background:var(--band);padding:.6rem .9rem;white-space:pre-wrap;overflow-wrap:anywhere}
 .scroll{overflow-x:auto}
-table{border-collapse:collapse;margin:.5rem 0;font-size:.95rem}
+table{border-collapse:collapse;margin:.5rem 0;font-size:.95rem;overflow-wrap:normal}
+.name{overflow-wrap:anywhere}
 th,td{text-align:left;vertical-align:top;padding:.28rem .8rem .28rem .5rem;border-bottom:1px solid var(--line);font-variant-numeric:tabular-nums}
 thead th{border-bottom:2px solid var(--line);color:var(--soft);font-weight:600}
 .facts th{color:var(--soft);font-weight:600;white-space:nowrap}
@@ -39,6 +40,7 @@ figure{margin:1rem 0}
 figcaption{font-size:.9rem;color:var(--soft);margin-bottom:.3rem}
 figure:target{outline:3px solid var(--link);outline-offset:4px}
 svg{display:block;max-width:100%;height:auto}
+@media screen{svg.wide{max-width:none}}
 svg.bytes text{font-family:monospace;font-size:12px;fill:var(--ink)}
 svg.bytes .in,svg.bytes .stale,svg.bytes .scale{text-anchor:middle}
 svg.bytes .in,svg.bytes .stale{paint-order:stroke;stroke:var(--paper);stroke-width:4px;stroke-linejoin:round}
