@@ -451,6 +451,20 @@ fn long_names_of_joined_traces_are_broken() {
     assert!(cells.len() > 8 && cells.iter().all(|cell| cell.of_class("name").len() == 1), "{} cells", cells.len());
 }
 
+/// A picture that leaves rows out counts those of the two processes alone, also where a barrier of a third one is left out.
+#[test]
+fn a_picture_counts_the_rows_that_it_leaves_out() {
+    let mut text = "0,write,1,0,4,\r\n".to_string();
+    (0..35).for_each(|m| text.push_str(&format!("0,send,,,,{m}\r\n1,recv,,,,{m}\r\n1,wait,,,,{m}\r\n")));
+    (0..3).for_each(|p| text.push_str(&format!("{p},barrier,,,,1\r\n")));
+    for (from, to, m) in [(0, 2, 100), (2, 1, 101)] {
+        text.push_str(&format!("{from},send,,,,{m}\r\n{to},recv,,,,{m}\r\n{to},wait,,,,{m}\r\n"));
+    }
+    text.push_str("1,read,1,0,4,\r\n");
+    let words = alone("no", text.as_bytes()).page(&["--model", "commit"]).of_id("races").words();
+    assert!(words.contains("6 of 116 rows are drawn. Between, 108 rows of process 0 and process 1 are left out."), "{words}");
+}
+
 /// A picture of many lanes is not made so small that nobody can read it.
 #[test]
 fn a_picture_wider_than_the_page_keeps_its_size_on_a_screen() {

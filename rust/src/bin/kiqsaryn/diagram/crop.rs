@@ -39,7 +39,8 @@ fn which(trace: &Trace, race: &Race, drawn: &BTreeSet<u32>, depth: Depth) -> (St
     let process = |k: u32| rows.row(k).map_or(0, |r| r.process);
     let (p, q) = (process(race.earlier), process(race.later));
     let both = format!("process {p} and process {q}");
-    let folded = race.rows(&rows, Depth::Whole).len() - drawn.len();
+    let is_between = |k: &u32| (race.earlier..=race.later).contains(k) && [p, q].contains(&process(*k));
+    let folded = race.rows(&rows, Depth::Whole).difference(drawn).filter(|k| is_between(k)).count();
     if folded > 0 {
         let needed = match depth {
             Depth::Bare => "the race and its explanation need",
@@ -49,7 +50,6 @@ fn which(trace: &Trace, race: &Race, drawn: &BTreeSet<u32>, depth: Depth) -> (St
         let left_out = format!(". Between, {} of {both} {is} left out", counted(folded as u64, "row"));
         return (format!("those that {needed}"), left_out);
     }
-    let is_between = |k: &u32| (race.earlier..=race.later).contains(k) && [p, q].contains(&process(*k));
     let mut which = format!("those of {both} from row {} to row {}", race.earlier, race.later);
     if drawn.iter().any(|k| !is_between(k)) {
         which.push_str(", those that the explanation names, and those of the messages and barriers that go with them");
