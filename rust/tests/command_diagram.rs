@@ -378,7 +378,8 @@ fn the_way_of_the_order_is_drawn() {
 fn says_how_many(picture: &str, rows: &[Row]) {
     let boxes = row_boxes(picture);
     let (n, all) = (boxes.len(), rows.len());
-    assert_eq!(picture.contains(&format!(">{n} of {all} rows are drawn: ")), n < all, "{picture}");
+    let are = if n == 1 { "is" } else { "are" };
+    assert_eq!(picture.contains(&format!(">{n} of {all} rows {are} drawn: ")), n < all, "{picture}");
     let processes: BTreeSet<u32> = boxes.iter().map(|b| rows[b.number as usize - 1].process).collect();
     let hidden = rows.iter().filter(|r| processes.contains(&r.process)).count() - n;
     let gaps =

@@ -25,7 +25,7 @@ fn said(trace: &Trace, rows: &BTreeSet<u32>, behind: &str) -> String {
     if n == all {
         return String::new();
     }
-    format!("{n} of {} drawn{behind}.", are(all, "row"))
+    format!("{n} of {} {} drawn{behind}.", counted(all, "row"), if n == 1 { "is" } else { "are" })
 }
 
 /// Every row.
@@ -55,11 +55,6 @@ fn which(trace: &Trace, race: &Race, drawn: &BTreeSet<u32>, depth: Depth) -> (St
         which.push_str(", those that the explanation names, and those of the messages and barriers that go with them");
     }
     (which, String::new())
-}
-
-/// "1 row is", "2 rows are".
-fn are(n: u64, one: &str) -> String {
-    format!("{} {}", counted(n, one), if n == 1 { "is" } else { "are" })
 }
 
 /// The rows of a race, so deep.
