@@ -7,7 +7,7 @@ use mathlib.Core.List.{List}
 use lib.ListN.{length, take}
 use lib.Seq.{length-take-le, take_all}
 use lib.Dec.{eqb, lit<}
-use Rattle.csv.proofs.Cutting.{records-cut}
+use Rattle.csv_records.proofs.Cutting.{records-cut}
 use Rattle.models.specs.Models.{POSIX}
 use Rattle.trace.specs.Questions.{call_questions, read_trace, check_trace, refused}
 use Rattle.rows.specs.Questions.{first_no}

@@ -6,7 +6,7 @@ use mathlib.Core.Path.{◌≡◌, refl, sym, ap, ◌∙◌}
 use mathlib.Core.List.{List, ◌++◌}
 use lib.ListN.{length, replicate, length-replicate}
 use Rattle.rows.specs.Limits.{MODELS, ROWS}
-use Rattle.csv.specs.Reading.{records}
+use Rattle.csv_records.specs.Reading.{records}
 use Rattle.rows.specs.declared.Row.{Row}
 use Rattle.trace.specs.declared.Checked.{Checked}
 use Rattle.trace.specs.declared.Checked.TheVariants as checked

@@ -46,7 +46,7 @@ const ROOM: usize = 256;
 
 // The answer of the whole call: the row count of an accepted trace that is free; the row count with the numbers of the earlier and the
 // later row of the first race; or the number and place of a refusal.
-#[derive(Drop)]
+#[derive(Clone, Copy)]
 pub enum Judged {
     Free(u32),
     Race(u32, u32, u32),

@@ -11,7 +11,7 @@ use Rattle.rows.specs.Limits.{FILES}
 use Rattle.rows.specs.Kinds.{WRITE, COMMIT, CLOSE, SEND, RECV, WAIT, ARRIVAL, BARRIER}
 use Rattle.models.specs.Models.{COMMIT_MODEL, SESSION}
 use Rattle.models.specs.Table.{publishes, refreshes}
-use Rattle.csv.specs.Reading.{records, records_from, on_found, read_at, fields_from, on_stop, prepend}
+use Rattle.csv_records.specs.Reading.{records, records_from, on_found, read_at, fields_from, on_stop, prepend}
 use Rattle.csv_field.specs.FieldReading.{field_at, after_cr, stop_of, text_length, is_text}
 use Rattle.csv_content.specs.Content.{content_of, same_bytes}
 use Rattle.rows.specs.declared.Row.{Row}

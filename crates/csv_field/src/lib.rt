@@ -4,7 +4,7 @@ ghost use Rattle.csv_field.specs.FieldReading.{is_text, is_quoted, text_length, 
 
 // Where a field's bytes stand, without the quotes around them. `doubled` says that two quotes side by side stand among them, which are
 // one byte of the content.
-#[derive(Drop)]
+#[derive(Clone, Copy)]
 pub struct Span {
     pub start: usize,
     pub len: usize,
@@ -13,7 +13,7 @@ pub struct Span {
 
 // The bytes after an opening quote: they hold no closing quote; a byte that quotes may not hold comes first; or the closing quote stands
 // after `.0` bytes, and `.1` says that two quotes side by side stand before it.
-#[derive(Drop)]
+#[derive(Clone, Copy)]
 pub enum Quotes {
     Unclosed,
     Broken,
@@ -21,7 +21,7 @@ pub enum Quotes {
 }
 
 // What follows a field: a comma; CR LF; the end of the text; a byte that may not follow; or the limit, past which the reader may not look.
-#[derive(Drop)]
+#[derive(Clone, Copy)]
 pub enum Stop {
     Comma,
     LineEnd,
@@ -31,7 +31,7 @@ pub enum Stop {
 }
 
 // A field: its span, the place after the field and its quotes, and what follows there.
-#[derive(Drop)]
+#[derive(Clone, Copy)]
 pub struct ScannedField {
     pub span: Span,
     pub end: usize,

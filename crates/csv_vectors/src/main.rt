@@ -13,7 +13,7 @@
 ghost use Rattle.std.specs.Prelude.{◌≤◌, ◌<◌, length};
 ghost use Rattle.io.specs.Counts.{IsPrefixLen};
 
-use csv::Status;
+use csv_records::Status;
 use csv_field::Span;
 
 const STDIN: i32 = 0;
@@ -83,7 +83,7 @@ fn put_spans(text: &[u8], count: usize, spans: [Span; 6]) {
 
 // Writes one record and answers the place after the record, or the end of the text where no record stands there.
 fn put_record(text: &[u8], at: usize, limit: usize) -> usize {
-    let r = csv::read_record(text, at, limit);
+    let r = csv_records::read_record(text, at, limit);
     let status = r.status;
     match status {
         Status::End => put(b" end\n"),
@@ -121,7 +121,7 @@ fn show(text: &[u8], limit: usize) {
 
 // Writes whether the first field of a text is the word.
 fn compare(text: &[u8], word: &[u8]) {
-    let r = csv::read_record(text, 0, text.len());
+    let r = csv_records::read_record(text, 0, text.len());
     let spans = r.spans;
     if csv_content::is_word(text, spans[0], word) {
         put(b"same\n");
@@ -147,7 +147,7 @@ fn raw_at(line: &[u8], at: usize) -> u8 {
 }
 
 // One byte of a text, and the place behind what stands for it; `good` is false at a bar and at `%` without two digits.
-#[derive(Drop)]
+#[derive(Clone, Copy)]
 struct Byte {
     value: u8,
     next: usize,
@@ -188,7 +188,7 @@ fn decode_byte(line: &[u8], at: usize) -> Byte
 }
 
 // The number of bytes of a text, and the place where decoding ended: at the bar behind the text, where the line is readable.
-#[derive(Drop)]
+#[derive(Clone, Copy)]
 struct Decoded {
     count: usize,
     end: usize,

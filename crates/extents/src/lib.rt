@@ -8,7 +8,7 @@ pub mod lawful;
 use rows::refusal;
 
 // Nothing to list, a count of pieces, or a refusal's number.
-#[derive(Drop)]
+#[derive(Clone, Copy)]
 pub enum Answer {
     Done,
     Listed(u32),
@@ -16,7 +16,7 @@ pub enum Answer {
 }
 
 // The row number and the mark of a byte, and the first byte behind it where either differs, 4,294,967,295 where there is none.
-#[derive(Drop)]
+#[derive(Clone, Copy)]
 pub struct Stretch {
     pub number: u32,
     pub mark: u32,
@@ -24,7 +24,7 @@ pub struct Stretch {
 }
 
 // What a lookup finds, or a refusal's number.
-#[derive(Drop)]
+#[derive(Clone, Copy)]
 pub enum LookupAnswer {
     Found(Stretch),
     Refused(u32),

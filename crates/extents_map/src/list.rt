@@ -5,7 +5,7 @@ ghost use Rattle.extents_meaning.specs.Maps.{bytes_of, lawful, listed_in};
 ghost use Rattle.extents_map.specs.Pieces.{Room, Turned};
 
 // How many pieces are put, and the one in hand, whose bytes from `start` on have the value; none is in hand where the value is 0.
-#[derive(Drop)]
+#[derive(Clone, Copy)]
 struct Piece {
     count: usize,
     start: u32,

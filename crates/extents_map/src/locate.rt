@@ -6,7 +6,7 @@ ghost use Rattle.extents_meaning.specs.Maps.{runs, lawful};
 ghost use Rattle.extents_map.specs.Beside.{end_of, run_no, run_before};
 
 // The part of a run that stays beside a range: its start, its length, which may be 0, and its cell; and where the range then ends on this side.
-#[derive(Drop)]
+#[derive(Clone, Copy)]
 pub struct Side {
     pub start: u32,
     pub length: u32,

@@ -7,7 +7,7 @@ ghost use Rattle.extents_map.specs.Mixes.{mixed as Mixes·mixed, mix_in};
 ghost use Rattle.extents_map.specs.Cursors.{Part, Passing, Looked, edge_of, BothLooked};
 
 // The cell of a byte, the next byte that has another, and the run to go on from: the first that does not end at the byte or before.
-#[derive(Drop)]
+#[derive(Clone, Copy)]
 pub struct Look {
     pub cell: u32,
     pub next: u32,
@@ -183,7 +183,7 @@ pub fn mark_in(cell: u32) -> u32
 }
 
 // What a mix makes of the cells of two maps, a view and the published map.
-#[derive(Drop)]
+#[derive(Clone, Copy)]
 pub enum Mode {
     Publish,
     MarkPublished,
@@ -193,7 +193,7 @@ pub enum Mode {
 }
 
 // A mix of two maps and a range that has a cell of its own.
-#[derive(Drop)]
+#[derive(Clone, Copy)]
 pub struct Mix {
     pub mode: Mode,
     pub start: u32,
@@ -202,7 +202,7 @@ pub struct Mix {
 }
 
 // What two maps and a range have at a byte, the next byte at which one of them changes, and the runs to go on from.
-#[derive(Drop)]
+#[derive(Clone, Copy)]
 pub struct Both {
     pub cell: u32,
     pub other: u32,

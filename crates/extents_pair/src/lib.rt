@@ -12,7 +12,7 @@ ghost use Rattle.rows.specs.Limits.{OFFSET_MAX, ROWS};
 use extents_map::scan::{Mix, Mode};
 
 // A view and the published map: two maps of one space by their numbers in a slice, and how many runs of the view are unpublished.
-#[derive(Drop)]
+#[derive(Clone, Copy)]
 pub struct Pair {
     pub space: usize,
     pub view: usize,

@@ -16,7 +16,7 @@ use extents_map::scan::{Mix, Mode};
 use extents_pair::Pair;
 
 // What is laid of a run of a view: its range, empty where the run is published, its cell without the mark, and its mark.
-#[derive(Drop)]
+#[derive(Clone, Copy)]
 struct Own {
     from: u32,
     to: u32,

@@ -16,7 +16,7 @@ use extents_map::scan::{Mix, Mode};
 use extents_pair::Pair;
 
 // The runs written so far, and a run in hand: from a start to an end, of a cell, none where the cell is 0.
-#[derive(Drop)]
+#[derive(Clone, Copy)]
 struct Hand {
     written: usize,
     start: u32,
@@ -25,7 +25,7 @@ struct Hand {
 }
 
 // What a walk writes at a byte, whether the byte needs it, the next byte at which that changes, and the runs to go on from.
-#[derive(Drop)]
+#[derive(Clone, Copy)]
 struct Step {
     cell: u32,
     need: bool,

@@ -14,7 +14,7 @@ use rows::refusal;
 const CHAINS: usize = 4096;
 
 // The counts were filled, or the number of the question that was answered No.
-#[derive(Drop)]
+#[derive(Clone, Copy)]
 pub enum Filled {
     Done,
     Refused(u32),

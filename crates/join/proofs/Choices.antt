@@ -8,10 +8,10 @@ use lib.ListN.{length}
 use borrow.Author.Tests.{eq-eqb, ne_eqb}
 use Rattle.csv_content.specs.Content.{raw_of}
 use Rattle.csv_field.specs.declared.Span.{Span}
-use Rattle.csv.specs.Reading.{Finding, nothing, malformed, past-limit, found, read_at, reading_of}
-use Rattle.csv.specs.declared.Reading.{Reading}
-use Rattle.csv.specs.declared.Status.TheVariants.{End, Malformed, Limit, Record}
-use Rattle.csv.proofs.Answers.{tells}
+use Rattle.csv_records.specs.Reading.{Finding, nothing, malformed, past-limit, found, read_at, reading_of}
+use Rattle.csv_records.specs.declared.Reading.{Reading}
+use Rattle.csv_records.specs.declared.Status.TheVariants.{End, Malformed, Limit, Record}
+use Rattle.csv_records.proofs.Answers.{tells}
 use Rattle.rows.specs.declared.Row.{Row}
 use Rattle.rows.specs.Kinds.{ARRIVAL}
 use Rattle.messages.specs.Table.{is_sent, entry_for}

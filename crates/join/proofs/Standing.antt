@@ -8,9 +8,9 @@ use lib.ListN.{length, take, drop, length-map}
 use lib.Dec.{eqb}
 use Rattle.csv_field.specs.declared.Span.{Span}
 use Rattle.csv_content.specs.Content.{content_of}
-use Rattle.csv.specs.Reading.{read_at, found}
-use Rattle.csv.proofs.Answers.{all-six}
-use Rattle.csv.proofs.Places.{found-places}
+use Rattle.csv_records.specs.Reading.{read_at, found}
+use Rattle.csv_records.proofs.Answers.{all-six}
+use Rattle.csv_records.proofs.Places.{found-places}
 use Rattle.rows.specs.declared.Row.{Row}
 use Rattle.rows.specs.Questions.{first_no}
 use Rattle.rows.specs.Kinds.{ARRIVAL}

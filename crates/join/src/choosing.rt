@@ -2,7 +2,7 @@
 ghost use Rattle.std.specs.Prelude.{◌≡◌, false, ◌-◌};
 ghost use Rattle.join.specs.Choosing.{no_next, next_in, stepped, unsent_by, waits_by, ready_by, turn_by, part_named};
 
-use csv::Status;
+use csv_records::Status;
 use csv_field::Span;
 use rows::Row;
 use trace_numbers::ReadRow;
@@ -14,7 +14,7 @@ pub const SECOND: u32 = 2;
 
 // What stands next in a file: whether there is a record, its row, where it starts, where it ends before its line end, and where the record
 // behind it starts.
-#[derive(Drop)]
+#[derive(Clone, Copy)]
 pub struct Next {
     pub some: bool,
     pub row: Row,
@@ -24,7 +24,7 @@ pub struct Next {
 }
 
 // The record that comes next: the file that holds it, where it starts there, and where it ends before its line end.
-#[derive(Drop)]
+#[derive(Clone, Copy)]
 pub struct Choice {
     pub file: u32,
     pub start: usize,
@@ -32,7 +32,7 @@ pub struct Choice {
 }
 
 // What comes next: nothing, since both files are at their end; nothing, since no next row can be taken; or a record.
-#[derive(Drop)]
+#[derive(Clone, Copy)]
 pub enum Turn {
     Over,
     Stuck,
@@ -64,7 +64,7 @@ fn no_next() -> Next
 pub(crate) fn next_at(text: &[u8], at: usize, process_limit: u32) -> Next
     ensures { result ≡ next_in process_limit text.now at }
 {
-    let r = csv::read_record(text, at, text.len());
+    let r = csv_records::read_record(text, at, text.len());
     let status = r.status;
     match status {
         Status::Record => {

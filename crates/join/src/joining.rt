@@ -21,7 +21,7 @@ fn start_of(text: &[u8], header: u32) -> usize
     if header == 0 {
         return 0;
     }
-    let r = csv::read_record(text, 0, text.len());
+    let r = csv_records::read_record(text, 0, text.len());
     r.next
 }
 

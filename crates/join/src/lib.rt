@@ -16,7 +16,7 @@ use rows::refusal;
 use trace::Checked;
 
 // The numbers of a join: the header words of both files, the model, and the limits of rows and processes.
-#[derive(Drop)]
+#[derive(Clone, Copy)]
 pub struct JoinCall {
     pub first_header: u32,
     pub second_header: u32,
@@ -26,7 +26,7 @@ pub struct JoinCall {
 }
 
 // The answer to a join: its row count; or the number of the question that was answered No, the place, and the file whose place it is (0 for none).
-#[derive(Drop)]
+#[derive(Clone, Copy)]
 pub enum Joined {
     Accepted(u32),
     Refused(u32, u32, u32),

@@ -8,7 +8,7 @@ use races::Found;
 
 // The answer of the whole call: the row count of an accepted join that is free; the row count with the numbers of the earlier and the later row
 // of the first race; or the number, place and file of a refusal.
-#[derive(Drop)]
+#[derive(Clone, Copy)]
 pub enum JudgedJoin {
     Free(u32),
     Race(u32, u32, u32),

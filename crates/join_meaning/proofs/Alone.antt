@@ -7,7 +7,7 @@ use mathlib.Core.List.{List, [], ◌∷◌, ◌++◌}
 use lib.ListN.{length}
 use lib.Dec.{leb, eqb}
 use borrow.Author.Tests.{eqb-true, le-leb, lt-ltb}
-use Rattle.csv.specs.Reading.{Records, records, records_from, on_found, read_at, Ending, all_read, at-malformed, at-limit}
+use Rattle.csv_records.specs.Reading.{Records, records, records_from, on_found, read_at, Ending, all_read, at-malformed, at-limit}
 use Rattle.rows.specs.declared.Row.{Row}
 use Rattle.rows.specs.Limits.{MODELS, ROWS}
 use Rattle.rows.specs.Questions.{first_no, long_enough}

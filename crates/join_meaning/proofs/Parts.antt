@@ -10,9 +10,9 @@ use lib.Dec.{eqb}
 use Rattle.csv_field.specs.FieldGrammar.{COMMA}
 use Rattle.csv_field.specs.declared.Span.{Span}
 use Rattle.csv_content.specs.Content.{content_of}
-use Rattle.csv.specs.Grammar.{Record, Line, ended, last, Text, none}
-use Rattle.csv.specs.Reading.{read_at, found}
-use Rattle.csv.proofs.Grammar.{found-line, line-found}
+use Rattle.csv_records.specs.Grammar.{Record, Line, ended, last, Text, none}
+use Rattle.csv_records.specs.Reading.{read_at, found}
+use Rattle.csv_records.proofs.Grammar.{found-line, line-found}
 use Rattle.rows.specs.declared.Row.{Row}
 use Rattle.trace.specs.Rows.{row_of}
 use Rattle.trace.specs.Questions as outcome

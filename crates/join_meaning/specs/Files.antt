@@ -1,6 +1,6 @@
 -- One file of a join by itself: the questions 4 to 11 of its records, and its entries, which are its rows with the places of their records.
 use Rattle.std.specs.Prelude.{ℕ, zero, suc, ◌+◌, ◌-◌, cond, List, [], ◌∷◌, ◌++◌, map, length, take, drop, eqb}
-use Rattle.csv.specs.Reading.{Finding, nothing, malformed, past-limit, found, read_at, Records, records, Ending, all_read, at-malformed, at-limit}
+use Rattle.csv_records.specs.Reading.{Finding, nothing, malformed, past-limit, found, read_at, Records, records, Ending, all_read, at-malformed, at-limit}
 use Rattle.csv_content.specs.Content.{content_of}
 use Rattle.rows.specs.declared.Row.{Row}
 use Rattle.rows.specs.Questions.{first_no}

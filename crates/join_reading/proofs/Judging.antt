@@ -6,10 +6,10 @@ use mathlib.Core.Bool.{Bool, cond}
 use mathlib.Core.List.{List, [], ◌∷◌, ◌++◌}
 use lib.ListN.{length, take, drop}
 use borrow.Author.Tests.{eq-eqb, ne_eqb, ltb-true}
-use Rattle.csv.specs.Reading.{read_at, nothing, malformed, past-limit, reading_of, Ending, all_read, at-malformed, at-limit}
-use Rattle.csv.specs.declared.Reading.{Reading}
-use Rattle.csv.specs.declared.Status.TheVariants.{Record}
-use Rattle.csv.proofs.Answers.{Told, tells}
+use Rattle.csv_records.specs.Reading.{read_at, nothing, malformed, past-limit, reading_of, Ending, all_read, at-malformed, at-limit}
+use Rattle.csv_records.specs.declared.Reading.{Reading}
+use Rattle.csv_records.specs.declared.Status.TheVariants.{Record}
+use Rattle.csv_records.proofs.Answers.{Told, tells}
 use Rattle.rows.specs.declared.Row.{Row}
 use Rattle.rows.specs.Rows.{six}
 use Rattle.rows.specs.Questions.{Question, first_no}

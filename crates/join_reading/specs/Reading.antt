@@ -1,6 +1,6 @@
 -- What reading one file of a join by itself answers and leaves: the questions 1 to 3 of the call, then what join_meaning says of the text.
 use Rattle.std.specs.Prelude.{ℕ, suc, ◌*◌, ◌≡◌, cond, List, [], ◌∷◌, length, leb, eqb}
-use Rattle.csv.specs.Reading.{records_from}
+use Rattle.csv_records.specs.Reading.{records_from}
 use Rattle.rows.specs.Limits.{FIELDS}
 use Rattle.rows.specs.Questions.{Question, first_no}
 use Rattle.rows.specs.Refusals.{SHORT_SLICE, LIMITS, HEADER_WORD}

@@ -6,7 +6,7 @@ ghost use Rattle.trace.specs.Questions.{checked_of, Holds};
 ghost use Rattle.join_meaning.specs.Files.{read_file};
 ghost use Rattle.join_reading.specs.Reading.{file_questions, check_file, file_from, ReadsFile};
 
-use csv::Status;
+use csv_records::Status;
 use rows::refusal;
 use trace::Checked;
 use trace_numbers::ReadRow;
@@ -75,7 +75,7 @@ fn read_text(
     if header == 0 {
         return read_rows(text, 0, row_limit, process_limit, rows);
     }
-    let r = csv::read_record(text, 0, text.len());
+    let r = csv_records::read_record(text, 0, text.len());
     let status = r.status;
     match status {
         Status::End => Checked::Refused(refusal::HEADER, 0),
@@ -106,7 +106,7 @@ fn read_rows(
     let mut at = start;
     let mut n: usize = 0;
     loop {
-        let r = csv::read_record(text, at, text.len());
+        let r = csv_records::read_record(text, at, text.len());
         let place = n as u32 + 1;
         let status = r.status;
         match status {

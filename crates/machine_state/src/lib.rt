@@ -11,7 +11,7 @@ use rows::{Row, refusal};
 
 // What a machine serves: a model, processes below a limit, one file, and maps with space for so many runs each. A plain file ignores
 // its model.
-#[derive(Drop)]
+#[derive(Clone, Copy)]
 pub struct Machine {
     pub model: u32,
     pub process_limit: u32,
@@ -140,14 +140,14 @@ pub fn count_in(answer: Answer) -> u32
 }
 
 // What making answers: the maps are made, or the number of the question that was answered No.
-#[derive(Drop)]
+#[derive(Clone, Copy)]
 pub enum Made {
     Made,
     Refused(u32),
 }
 
 // How far a replay came: the rows gone through, the pieces of its reads, and 0, or the number of the question that the next row answers No.
-#[derive(Drop)]
+#[derive(Clone, Copy)]
 pub struct Replayed {
     pub rows: u32,
     pub pieces: usize,

@@ -25,7 +25,7 @@ const NOTES: usize = rows::PROCESSES as usize;
 const PAIR: usize = 2;
 
 // Free, the numbers of the earlier and the later row of the first race, or the number of the question that was answered No.
-#[derive(Drop)]
+#[derive(Clone, Copy)]
 pub enum Found {
     Free,
     Race(u32, u32),
@@ -33,7 +33,7 @@ pub enum Found {
 }
 
 // The number of pairs, or the number and place of a refusal; the place is 0 where the refusal names no record.
-#[derive(Drop)]
+#[derive(Clone, Copy)]
 pub enum Listed {
     Pairs(u32),
     Refused(u32, u32),
@@ -259,7 +259,7 @@ fn counts_before(counts: &[u16], processes: usize, p: usize, i: usize, j: usize)
 
 // A later row y of the first n rows under a model, the index of the last row that refreshes for y, plus one (0 where none does), and whether
 // a write publishes by itself.
-#[derive(Drop)]
+#[derive(Clone, Copy)]
 struct Later {
     n: usize,
     processes: usize,

@@ -63,7 +63,7 @@ pub const LENGTH_AT: usize = 4;
 pub const MESSAGE_AT: usize = 5;
 
 // A row: six numbers in field order. Fields that the kind does not use are 0.
-#[derive(Drop)]
+#[derive(Clone, Copy)]
 pub struct Row {
     pub process: u32,
     pub kind: u32,

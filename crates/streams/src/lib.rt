@@ -7,7 +7,7 @@ pub const TRIES: u32 = 65536;
 
 // What a call of C's read or write came to: the call moved so many bytes, the input has ended, a signal interrupted the call before it moved
 // a byte, or the call failed.
-#[derive(Drop)]
+#[derive(Clone, Copy)]
 pub enum Moved {
     Took(usize),
     End,
@@ -16,7 +16,7 @@ pub enum Moved {
 }
 
 // What reading to the end came to: so many bytes at the start of the buffer, or a read that failed.
-#[derive(Drop)]
+#[derive(Clone, Copy)]
 pub enum Read {
     Whole(usize),
     Failed,

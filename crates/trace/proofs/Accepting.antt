@@ -9,11 +9,11 @@ use lib.ListN.{length, get_or, take}
 use lib.Seq.{append_snoc}
 use lib.Dec.{eqb}
 use borrow.Author.Tests.{lt-ltb, ltb-true, eq-eqb, eqb-true}
-use Rattle.csv.specs.Grammar.{Text}
+use Rattle.csv_records.specs.Grammar.{Text}
 use Rattle.csv_content.specs.Content.{same_bytes}
-use Rattle.csv.specs.Reading.{records, Records, Ending, all_read, at-malformed, at-limit}
+use Rattle.csv_records.specs.Reading.{records, Records, Ending, all_read, at-malformed, at-limit}
 use Rattle.csv_content.proofs.Contents.{same-iff}
-use Rattle.csv.proofs.Grammar.{all-read_iff}
+use Rattle.csv_records.proofs.Grammar.{all-read_iff}
 use Rattle.rows.specs.declared.Row.{Row}
 use Rattle.trace.specs.Rows.{header_names, same_fields, row_of}
 use Rattle.trace.specs.Questions.{in_row_limit, six_fields, kind_known, filled_as_used, numbers_in_range, end_in_range, message_questions, field_questions, record_questions, row_questions, is_header, Outcome, refused, accepted, judge_rows, judge_header, read_records, read_trace, check_trace}

@@ -8,7 +8,7 @@ use mathlib.Core.List.{List, [], ◌∷◌, ◌++◌}
 use lib.ListN.{length, length-append}
 use lib.Dec.{eqb}
 use borrow.Author.Tests.{eq-eqb, ne_eqb, eqb-true, eqb-false}
-use Rattle.csv.specs.Reading.{Records}
+use Rattle.csv_records.specs.Reading.{Records}
 use Rattle.rows.specs.declared.Row.{Row}
 use Rattle.rows.specs.Refusals.{BARRIER_ORDER}
 use Rattle.barriers.specs.Barriers.{barrier_place}

@@ -8,10 +8,10 @@ use mathlib.Core.List.{List, [], ◌∷◌, ◌++◌}
 use lib.ListN.{length, take, drop, replicate}
 use lib.Dec.{ltb, eqb}
 use borrow.Author.Tests.{eq-eqb, ltb-true}
-use Rattle.csv.specs.Reading.{read_at, reading_of}
-use Rattle.csv.specs.declared.Reading.{Reading}
-use Rattle.csv.specs.declared.Status.TheVariants.{Record}
-use Rattle.csv.proofs.Answers.{Told, tells}
+use Rattle.csv_records.specs.Reading.{read_at, reading_of}
+use Rattle.csv_records.specs.declared.Reading.{Reading}
+use Rattle.csv_records.specs.declared.Status.TheVariants.{Record}
+use Rattle.csv_records.proofs.Answers.{Told, tells}
 use Rattle.rows.specs.declared.Row.{Row}
 use Rattle.trace_numbers.specs.declared.ReadRow.{ReadRow}
 use Rattle.trace_numbers.specs.declared.ReadRow.TheVariants.{Kept, No}

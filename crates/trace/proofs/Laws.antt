@@ -8,7 +8,7 @@ use lib.ListN.{length, length-append}
 use lib.Seq.{append_snoc}
 use lib.Dec.{ltb, eqb}
 use borrow.Author.Tests.{leb-true, ltb-true, eqb-true, eqb-false}
-use Rattle.csv.specs.Reading.{Records, records, Ending, all_read, at-malformed, at-limit}
+use Rattle.csv_records.specs.Reading.{Records, records, Ending, all_read, at-malformed, at-limit}
 use Rattle.rows.specs.Limits.{PROCESSES, ROWS, FILES, MESSAGES, OFFSET_MAX}
 use Rattle.rows.specs.declared.Row.{Row}
 use Rattle.trace.specs.Rows.{kind_of, used_by, is_plain, value, value_from, is_number, field, row_of}

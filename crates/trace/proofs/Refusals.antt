@@ -8,7 +8,7 @@ use mathlib.Core.List.{List, [], ◌∷◌, ◌++◌}
 use lib.ListN.{length, length-append}
 use lib.Dec.{eqb}
 use borrow.Author.Tests.{ltb-true, eqb-true, eqb-false}
-use Rattle.csv.specs.Reading.{Records, records, Ending, all_read, at-malformed, at-limit}
+use Rattle.csv_records.specs.Reading.{Records, records, Ending, all_read, at-malformed, at-limit}
 use Rattle.rows.specs.Limits.{ROWS}
 use Rattle.rows.specs.declared.Row.{Row}
 use Rattle.trace.specs.Rows.{row_of}

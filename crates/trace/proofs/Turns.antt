@@ -8,13 +8,13 @@ use lib.ListN.{length, take, drop, length-append, length-map}
 use lib.Dec.{ltb, eqb}
 use borrow.Author.Tests.{eq-eqb, ne_eqb, eqb-true, eqb-false}
 use Rattle.csv_content.specs.Content.{content_of, same_bytes}
-use Rattle.csv.specs.Reading.{read_at, records, records_from, on_found, Finding, nothing, malformed, past-limit, found, Records, Ending, all_read, at-malformed, at-limit, first_six, reading_of}
+use Rattle.csv_records.specs.Reading.{read_at, records, records_from, on_found, Finding, nothing, malformed, past-limit, found, Records, Ending, all_read, at-malformed, at-limit, first_six, reading_of}
 use Rattle.csv_field.specs.declared.Span.{Span}
-use Rattle.csv.specs.declared.Reading.{Reading}
-use Rattle.csv.specs.declared.Status.TheVariants.{Record}
-use Rattle.csv.proofs.Limit.{records-next}
-use Rattle.csv.proofs.Places.{found-places}
-use Rattle.csv.proofs.Answers.{Told, tells, all-six}
+use Rattle.csv_records.specs.declared.Reading.{Reading}
+use Rattle.csv_records.specs.declared.Status.TheVariants.{Record}
+use Rattle.csv_records.proofs.Limit.{records-next}
+use Rattle.csv_records.proofs.Places.{found-places}
+use Rattle.csv_records.proofs.Answers.{Told, tells, all-six}
 use Rattle.rows.specs.declared.Row.{Row}
 use Rattle.rows.specs.Rows.{six, numbers}
 use Rattle.rows.specs.Questions.{Question, first_no}

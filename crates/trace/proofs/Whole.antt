@@ -7,9 +7,9 @@ use mathlib.Core.List.{List, [], ◌∷◌, ◌++◌}
 use lib.ListN.{length, take, drop, replicate, length-append}
 use borrow.Rule.Slice.PartMut.{put_mid}
 use borrow.Author.Tests.{eq-eqb, ne_eqb, le-leb, lt-leb}
-use Rattle.csv.specs.Reading.{read_at, reading_of, records, Records, Ending, all_read, at-malformed, at-limit}
-use Rattle.csv.specs.declared.Reading.{Reading}
-use Rattle.csv.specs.declared.Status.TheVariants.{Record}
+use Rattle.csv_records.specs.Reading.{read_at, reading_of, records, Records, Ending, all_read, at-malformed, at-limit}
+use Rattle.csv_records.specs.declared.Reading.{Reading}
+use Rattle.csv_records.specs.declared.Status.TheVariants.{Record}
 use Rattle.rows.specs.declared.Row.{Row}
 use Rattle.trace.specs.declared.Checked.TheVariants.{Accepted, Refused}
 use Rattle.rows.specs.Limits.{PROCESSES, MESSAGES}

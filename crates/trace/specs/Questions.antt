@@ -2,7 +2,7 @@
 -- questions 8 to 11, which are put to the fields of one record, and the crate `messages` those from 12 on, which are put to a row behind the
 -- rows before it. The crate `barriers` defines 22, which is put to all rows once every record has passed.
 use Rattle.std.specs.Prelude.{ℕ, ◌+◌, ◌*◌, ◌-◌, Bool, cond, ◌&&◌, List, [], ◌∷◌, ◌++◌, ◌≡◌, length, drop, replicate, leb, ltb, eqb}
-use Rattle.csv.specs.Reading.{records, Records, Ending, all_read, at-malformed, at-limit}
+use Rattle.csv_records.specs.Reading.{records, Records, Ending, all_read, at-malformed, at-limit}
 use Rattle.rows.specs.Limits.{MODELS, ROWS}
 use Rattle.rows.specs.declared.Row.{Row}
 use Rattle.trace.specs.declared.Checked.{Checked}

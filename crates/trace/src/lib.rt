@@ -2,19 +2,19 @@
 mod reading;
 
 ghost use Rattle.std.specs.Prelude.{◌≡◌, ◌≤◌, ◌*◌, length, replicate};
-ghost use Rattle.csv.specs.Reading.{records};
+ghost use Rattle.csv_records.specs.Reading.{records};
 ghost use Rattle.trace.specs.Questions.{call_questions, record_questions, read_records, read_trace, check_trace, checked_of, Holds, Leaves};
 ghost use Rattle.rows.specs.Questions.{first_no};
 ghost use Rattle.trace.specs.Reads.{fields_of, headed, judged_by};
 ghost use Rattle.rows.specs.Limits.{ROWS, PROCESSES};
 
-use csv::Status;
+use csv_records::Status;
 use csv_field::Span;
 use rows::refusal;
 use trace_numbers::ReadRow;
 
 // The numbers of a call: the header word, the model, and the limits of rows, processes and bytes.
-#[derive(Drop)]
+#[derive(Clone, Copy)]
 pub struct Call {
     pub header: u32,
     pub model: u32,
@@ -24,7 +24,7 @@ pub struct Call {
 }
 
 // The answer to a trace: its row count, or the number of the question that was answered No and the record's place.
-#[derive(Drop)]
+#[derive(Clone, Copy)]
 pub enum Checked {
     Accepted(u32),
     Refused(u32, u32),
@@ -145,7 +145,7 @@ fn read_records(
     if header == 0 {
         return reading::read_rows(text, 0, row_limit, process_limit, byte_limit, rows);
     }
-    let r = csv::read_record(text, 0, byte_limit);
+    let r = csv_records::read_record(text, 0, byte_limit);
     let status = r.status;
     match status {
         Status::End => Checked::Refused(refusal::HEADER, 0),

@@ -5,7 +5,7 @@ ghost use Rattle.trace.specs.Reads.{fields_of, judged_row, table_left, judge_fro
 ghost use Rattle.rows.specs.Limits.{ROWS, PROCESSES};
 
 use crate::{Checked, judge_record};
-use csv::Status;
+use csv_records::Status;
 use csv_field::Span;
 use rows::refusal;
 use trace_numbers::ReadRow;
@@ -52,7 +52,7 @@ pub(crate) fn read_rows(
     let mut at = start;
     let mut n: usize = 0;
     loop {
-        let r = csv::read_record(text, at, byte_limit);
+        let r = csv_records::read_record(text, at, byte_limit);
         let place = n as u32 + 1;
         let status = r.status;
         match status {

@@ -16,14 +16,14 @@ const OFFSETS: u64 = rows::OFFSET_MAX as u64 + 1;
 const MESSAGES: u64 = rows::MESSAGES as u64;
 
 // A number below its bound, or bytes that are no such number.
-#[derive(Drop)]
+#[derive(Clone, Copy)]
 pub enum Number {
     Plain(u32),
     Bad,
 }
 
 // The fields that a kind uses besides process and kind; offset and length go together.
-#[derive(Drop)]
+#[derive(Clone, Copy)]
 pub struct Used {
     pub file: bool,
     pub range: bool,
@@ -31,7 +31,7 @@ pub struct Used {
 }
 
 // A record's row, or the number of the question that was answered No.
-#[derive(Drop)]
+#[derive(Clone, Copy)]
 pub enum ReadRow {
     Kept(Row),
     No(u32),

@@ -9,7 +9,7 @@ use lib.ListN.{length}
 use lib.Seq.{append_snoc}
 use lib.Dec.{ltb, eqb}
 use borrow.Author.Tests.{lt-ltb, ltb-true, le-leb, leb-true, eq-eqb, eqb-true}
-use Rattle.csv.specs.Reading.{records}
+use Rattle.csv_records.specs.Reading.{records}
 use Rattle.csv_content.specs.Content.{is_nil}
 use Rattle.messages.specs.Questions.{message_questions}
 use Rattle.print.specs.Decimal.{decimal_of}

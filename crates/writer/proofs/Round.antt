@@ -13,9 +13,9 @@ use borrow.Author.Tests.{le-leb, leb-true, eqb-true}
 use Rattle.csv_field.specs.FieldGrammar.{CRLF}
 use Rattle.csv_field.specs.FieldReading.{is_text, text_length}
 use Rattle.csv_field.proofs.Runs.{run_text}
-use Rattle.csv.specs.Grammar.{Record, ended, Text}
-use Rattle.csv.specs.Reading.{Records, records}
-use Rattle.csv.proofs.Grammar.{records-text}
+use Rattle.csv_records.specs.Grammar.{Record, ended, Text}
+use Rattle.csv_records.specs.Reading.{Records, records}
+use Rattle.csv_records.proofs.Grammar.{records-text}
 use Rattle.messages.specs.Questions.{message_questions}
 use Rattle.rows.specs.declared.Row.{Row}
 use Rattle.rows.specs.Limits.{MODELS, PROCESSES, ROWS, FIELDS}

@@ -11,7 +11,7 @@ use asking::Asked;
 use rows::refusal;
 
 // The length of the text, or the number of the question that was answered No and the row's number (0 for none).
-#[derive(Drop)]
+#[derive(Clone, Copy)]
 pub enum Written {
     Length(usize),
     Refused(u32, u32),

@@ -13,7 +13,7 @@ use Rattle.csv_field.specs.FieldGrammar.{COMMA, CRLF, NonEscaped, none, non_esca
 use Rattle.csv_field.specs.FieldReading.{is_text, text_length}
 use Rattle.csv_field.proofs.Runs.{run_text}
 use Rattle.csv_content.specs.Content.{same_bytes}
-use Rattle.csv.specs.Grammar.{Record, one, more}
+use Rattle.csv_records.specs.Grammar.{Record, one, more}
 use Rattle.print.specs.Decimal.{decimal_of, width_of}
 use Rattle.print.proofs.Laying.{number-length}
 use Rattle.print.proofs.Parts.{number-most}

@@ -4,8 +4,8 @@ use Prim.Native.Nat.{◌+◌, ◌*◌, ◌-◌, ◌≤◌}
 use native.Mathlib.Omega.{arith}
 use mathlib.Core.Path.{◌≡◌, refl, ◌∙◌}
 use lib.ListN.{length}
-use Rattle.csv.specs.Reading.{read_at}
-use Rattle.csv.proofs.Answers.{tells}
+use Rattle.csv_records.specs.Reading.{read_at}
+use Rattle.csv_records.proofs.Answers.{tells}
 use Rattle.rows.proofs.Slices.{with_room}
 use Rattle.trace.proofs.Turns.{at-end, end-held, malformed_here, limit-here, refusal, onward}
 use Rattle.join_reading.proofs.Judging.{FileGoing, judges_file, begin, no_row, row_room, next_row_lem}

@@ -3,8 +3,8 @@ use borrow.Author.Rules.{rules}
 use borrow.Author.Tests.{not-true, not-false}
 use mathlib.Core.Path.{◌≡◌, sym, ap, ◌∙◌}
 use lib.ListN.{length}
-use Rattle.csv.specs.Reading.{read_at}
-use Rattle.csv.proofs.Answers.{tells}
+use Rattle.csv_records.specs.Reading.{read_at}
+use Rattle.csv_records.proofs.Answers.{tells}
 use Rattle.trace.specs.Questions.{checked_of}
 use Rattle.trace.proofs.Turns.{refusal}
 use Rattle.join_reading.specs.Reading.{file_from}

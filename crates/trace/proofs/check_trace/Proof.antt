@@ -3,7 +3,7 @@ use borrow.Author.Rules.{rules}
 use Rattle.trace.proofs.Whole.{call-passed, call-refused, first_three, accepted-told, refused-told, leaves_all, leaves_none, leaves-rows, rows_within}
 use Rattle.trace.proofs.Laws.{legal, refused-from_four}
 use Rattle.trace.specs.Questions.{check_trace, checked_of, Holds}
-use Rattle.csv.specs.Reading.{records}
+use Rattle.csv_records.specs.Reading.{records}
 use lib.ListN.{length, replicate}
 use Prim.Native.Nat.{ℕ}
 use native.Mathlib.Omega.{arith}

@@ -3,8 +3,8 @@ use borrow.Author.Rules.{rules}
 use Rattle.trace.proofs.Whole.{heads_records, no_header, header_read}
 use Rattle.trace.proofs.Turns.{header-missing, header-malformed, header-over, refusal}
 use Rattle.trace.specs.Questions.{checked_of}
-use Rattle.csv.proofs.Answers.{tells}
-use Rattle.csv.specs.Reading.{read_at}
+use Rattle.csv_records.proofs.Answers.{tells}
+use Rattle.csv_records.specs.Reading.{read_at}
 use borrow.Author.Tests.{not-true, not-false}
 use mathlib.Core.Path.{sym, ap, ◌∙◌}
 use Rattle.trace.proofs.read_records.Statement.{statement}

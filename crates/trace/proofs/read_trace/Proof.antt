@@ -1,6 +1,6 @@
 -- `trace::read_trace` meets its contract.
 use borrow.Author.Rules.{rules}
-use Rattle.csv.specs.Reading.{records}
+use Rattle.csv_records.specs.Reading.{records}
 use mathlib.Core.Path.{sym, ◌∙◌}
 use Rattle.trace.proofs.Whole.{record_refused, rows_have_room, barriers-passed, barriers-refused}
 use Rattle.trace.proofs.read_trace.Statement.{statement}

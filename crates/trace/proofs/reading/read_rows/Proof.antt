@@ -3,8 +3,8 @@ use borrow.Author.Rules.{rules}
 use Rattle.trace.proofs.Going.{WithTable, judges_rows, begin, no_row, row_room, next_row_lem}
 use Rattle.trace.proofs.Turns.{at-end, end-held, malformed_here, limit-here, refusal, onward}
 use Rattle.rows.proofs.Slices.{with_room}
-use Rattle.csv.proofs.Answers.{tells}
-use Rattle.csv.specs.Reading.{read_at}
+use Rattle.csv_records.proofs.Answers.{tells}
+use Rattle.csv_records.specs.Reading.{read_at}
 use lib.ListN.{length}
 use Prim.Native.Nat.{◌+◌, ◌*◌, ◌-◌, ◌≤◌}
 use native.Mathlib.Omega.{arith}

@@ -8,9 +8,9 @@ use mathlib.Core.List.{List, [], ◌∷◌, ◌++◌}
 use lib.ListN.{length, take, set, replicate, length-append, length-take}
 use lib.Seq.{set_out}
 use Rattle.csv_field.specs.FieldReading.{field_at, no_span}
-use Rattle.csv.specs.Reading.{Finding, malformed, past-limit, found, prepend, on_stop, fields_from, record_in, first_six, reading_of, without}
+use Rattle.csv_records.specs.Reading.{Finding, malformed, past-limit, found, prepend, on_stop, fields_from, record_in, first_six, reading_of, without}
 use Rattle.csv_field.specs.declared.Span.{Span}
-use Rattle.csv.specs.declared.Status.TheVariants.{Malformed, Limit, Record}
+use Rattle.csv_records.specs.declared.Status.TheVariants.{Malformed, Limit, Record}
 use Rattle.csv_field.specs.declared.ScannedField.{ScannedField}
 use Rattle.csv_field.specs.declared.Stop.{Stop}
 use Rattle.csv_field.specs.declared.Stop.TheVariants.{Comma, LineEnd, TextEnd, Bad, Cut}

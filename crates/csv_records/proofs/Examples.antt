@@ -4,7 +4,7 @@ use mathlib.Core.Path.{◌≡◌, refl}
 use mathlib.Core.List.{List, [], ◌∷◌}
 use Rattle.csv_field.specs.FieldReading.{field_at, quoted_to, quotes, afterQuote, after_cr, stop_of, text_length, is_text, is_quoted}
 use Rattle.csv_content.specs.Content.{content_of, undouble}
-use Rattle.csv.specs.Reading.{Records, all_read, records, records_from, on_found, read_at, fields_from, on_stop, prepend}
+use Rattle.csv_records.specs.Reading.{Records, all_read, records, records_from, on_found, read_at, fields_from, on_stop, prepend}
 
 -- all of a text is read, with these records
 abbrev read : List (List (List ℕ)) → Records

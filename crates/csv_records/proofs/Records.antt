@@ -6,10 +6,10 @@ use mathlib.Core.Bool.{Bool, false}
 use mathlib.Core.List.{List, [], ◌∷◌, ◌++◌, map, append_assoc}
 use lib.ListN.{length, drop, length-append}
 use Rattle.csv_field.specs.FieldGrammar.{COMMA, CRLF, Field}
-use Rattle.csv.specs.Grammar.{Record}
+use Rattle.csv_records.specs.Grammar.{Record}
 use Rattle.csv_field.specs.FieldReading.{after_cr, stop_of, field_at}
 use Rattle.csv_content.specs.Content.{content_of}
-use Rattle.csv.specs.Reading.{Finding, nothing, malformed, past-limit, found, prepend, on_stop, fields_from}
+use Rattle.csv_records.specs.Reading.{Finding, nothing, malformed, past-limit, found, prepend, on_stop, fields_from}
 use Rattle.csv_field.specs.declared.Span.{Span}
 use Rattle.csv_field.specs.declared.ScannedField.{ScannedField}
 use Rattle.csv_field.specs.declared.Stop.{Stop}
@@ -17,7 +17,7 @@ use Rattle.csv_field.specs.declared.Stop.TheVariants.{Comma, LineEnd, TextEnd, B
 use Rattle.csv_field.proofs.Runs.{Ends}
 use Rattle.csv_field.proofs.Places.{whole-place}
 use Rattle.csv_content.proofs.Fields.{behind, Fair, Taken, field-taken, Follow, follow, Stands, field-stands}
-use Rattle.csv.proofs.Places.{prepend-found}
+use Rattle.csv_records.proofs.Places.{prepend-found}
 
 -- what stands after a record
 pub data Halt (cut : Bool) : List ℕ → Type 0 where

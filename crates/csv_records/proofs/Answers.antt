@@ -5,11 +5,11 @@ use mathlib.Core.List.{List}
 use lib.ListN.{length, replicate}
 use lib.Seq.{take_at}
 use Rattle.csv_field.specs.FieldReading.{no_span}
-use Rattle.csv.specs.Reading.{Finding, nothing, malformed, past-limit, found, reading_of, first_six}
+use Rattle.csv_records.specs.Reading.{Finding, nothing, malformed, past-limit, found, reading_of, first_six}
 use Rattle.csv_field.specs.declared.Span.{Span}
-use Rattle.csv.specs.declared.Status.{Status}
-use Rattle.csv.specs.declared.Status.TheVariants.{End, Malformed, Limit, Record}
-use Rattle.csv.specs.declared.Reading.{Reading}
+use Rattle.csv_records.specs.declared.Status.{Status}
+use Rattle.csv_records.specs.declared.Status.TheVariants.{End, Malformed, Limit, Record}
+use Rattle.csv_records.specs.declared.Reading.{Reading}
 
 -- the finding is a record, and the reading has its numbers
 pub record Told (f : Finding) (r : Reading) : Type 0 where

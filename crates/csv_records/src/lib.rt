@@ -1,6 +1,6 @@
 // Records of RFC 4180, read in place: a reading answers places in the text and copies nothing.
 ghost use Rattle.std.specs.Prelude.{◌≡◌};
-ghost use Rattle.csv.specs.Reading.{read_at, reading_of, record_in, without, whole_record};
+ghost use Rattle.csv_records.specs.Reading.{read_at, reading_of, record_in, without, whole_record};
 
 use csv_field::{Span, Stop};
 
@@ -9,7 +9,7 @@ pub const KEPT: usize = 6;
 
 // What stands at a place: no record, since the text ends there; a malformed record; a record that only a byte past the limit could
 // decide; a whole record.
-#[derive(Drop)]
+#[derive(Clone, Copy)]
 pub enum Status {
     End,
     Malformed,

@@ -9,7 +9,7 @@ use lib.ListN.{length, take, drop, length-take, drop_of_length-le}
 use lib.Dec.{ltb}
 use borrow.Author.Tests.{ltb-true, ltb-false}
 use Rattle.csv_field.specs.FieldReading.{text_length, stop_of, field_at}
-use Rattle.csv.specs.Reading.{prepend, on_stop, fields_from, record_in, read_at, Finding, nothing, malformed, past-limit, found}
+use Rattle.csv_records.specs.Reading.{prepend, on_stop, fields_from, record_in, read_at, Finding, nothing, malformed, past-limit, found}
 use Rattle.csv_field.specs.declared.Span.{Span}
 use Rattle.csv_field.specs.declared.ScannedField.{ScannedField}
 use Rattle.csv_field.specs.declared.Stop.{Stop}

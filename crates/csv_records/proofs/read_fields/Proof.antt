@@ -1,19 +1,19 @@
--- `csv::read_fields` meets its contract.
+-- `csv_records::read_fields` meets its contract.
 use borrow.Author.Rules.{rules}
-use Rattle.csv.specs.Reading.{first_six}
+use Rattle.csv_records.specs.Reading.{first_six}
 use native.Mathlib.Omega.{arith}
 use mathlib.Core.List.{[], ◌∷◌, ◌++◌}
 use mathlib.Core.Logic.{⊎_elim, inl, inr}
 use mathlib.Core.Path.{◌≡◌, ◌∙◌}
-use Rattle.csv.proofs.Going.{Going, start, stored, comma-in, line-in, next, last_line, last-text, bad, over}
+use Rattle.csv_records.proofs.Going.{Going, start, stored, comma-in, line-in, next, last_line, last-text, bad, over}
 use lib.ListN.{length}
 use Prim.Native.Nat.{◌+◌, ◌-◌}
-use Rattle.csv.proofs.read_fields.Statement.{statement}
-use Rattle.csv.proofs.read_fields.Tie as tie
-use Rattle.csv.proofs.read_fields.Reads as reads
-use Rattle.csv.proofs.read_fields.Lts as lts
-use Rattle.csv.proofs.refusal.Reads as refusal-reads
-use Rattle.csv.proofs.whole_record.Reads as whole-record-reads
+use Rattle.csv_records.proofs.read_fields.Statement.{statement}
+use Rattle.csv_records.proofs.read_fields.Tie as tie
+use Rattle.csv_records.proofs.read_fields.Reads as reads
+use Rattle.csv_records.proofs.read_fields.Lts as lts
+use Rattle.csv_records.proofs.refusal.Reads as refusal-reads
+use Rattle.csv_records.proofs.whole_record.Reads as whole-record-reads
 use Rattle.csv_field.proofs.field_at.Reads as field-at-reads
 
 -- The record at the start has the fields read so far, whose spans are kept up to the sixth, and the fields from i on.

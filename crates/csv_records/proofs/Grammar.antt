@@ -12,14 +12,14 @@ use lib.Seq.{take_all, take-length, take-append_seam, drop_at, drop-append-le}
 use lib.Dec.{ltb}
 use borrow.Author.Tests.{lt-ltb, le-ltb, ltb-true, ltb-false}
 use Rattle.csv_field.specs.FieldGrammar.{CRLF}
-use Rattle.csv.specs.Grammar.{Record, Line, ended, last, Text}
+use Rattle.csv_records.specs.Grammar.{Record, Line, ended, last, Text}
 use Rattle.csv_content.specs.Content.{content_of}
-use Rattle.csv.specs.Reading.{record_in, read_at, Finding, nothing, malformed, past-limit, found, on_found, records_from, records, Records, all_read}
+use Rattle.csv_records.specs.Reading.{record_in, read_at, Finding, nothing, malformed, past-limit, found, on_found, records_from, records, Records, all_read}
 use Rattle.csv_field.specs.declared.Span.{Span}
 use Rattle.csv_content.proofs.Fields.{behind}
-use Rattle.csv.proofs.Records.{Halt, line, whole, after, record_found, Derived, found-derived, Settled, settled}
-use Rattle.csv.proofs.Places.{found-places}
-use Rattle.csv.proofs.Limit.{limit-same}
+use Rattle.csv_records.proofs.Records.{Halt, line, whole, after, record_found, Derived, found-derived, Settled, settled}
+use Rattle.csv_records.proofs.Places.{found-places}
+use Rattle.csv_records.proofs.Limit.{limit-same}
 
 -- a record at the front of a text has the text's first bytes
 line-own : {t own rest : List ℕ} {fields : List (List ℕ)} → Line t own fields rest → take (length own) t ≡ own

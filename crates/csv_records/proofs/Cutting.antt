@@ -9,15 +9,15 @@ use lib.ListN.{length, take}
 use lib.Seq.{length-take-le, take-take, take_all}
 use Rattle.csv_field.specs.FieldReading.{field_at}
 use Rattle.csv_content.specs.Content.{content_of}
-use Rattle.csv.specs.Reading.{prepend, on_stop, fields_from, record_in, read_at, on_found, records_from, records, Records, Finding, nothing, malformed, past-limit, found}
+use Rattle.csv_records.specs.Reading.{prepend, on_stop, fields_from, record_in, read_at, on_found, records_from, records, Records, Finding, nothing, malformed, past-limit, found}
 use Rattle.csv_field.specs.declared.Span.{Span}
 use Rattle.csv_field.specs.declared.ScannedField.{ScannedField}
 use Rattle.csv_field.specs.declared.Stop.{Stop}
 use Rattle.csv_field.specs.declared.Stop.TheVariants.{Comma, LineEnd, TextEnd, Bad, Cut}
 use Rattle.csv_field.proofs.Places.{comma-place, span_in}
 use Rattle.csv_content.proofs.Contents.{content-cut}
-use Rattle.csv.proofs.Places.{prepend-found, found-places}
-use Rattle.csv.proofs.Limit.{read-cut, records-enough}
+use Rattle.csv_records.proofs.Places.{prepend-found, found-places}
+use Rattle.csv_records.proofs.Limit.{read-cut, records-enough}
 
 -- every span ends at or before a place
 abbrev Inside : ℕ → List Span → Type 0

@@ -1,14 +1,14 @@
--- `csv::read_record` meets its contract.
+-- `csv_records::read_record` meets its contract.
 use borrow.Author.Rules.{rules}
-use Rattle.csv.proofs.Limit.{read_past, read-cut, read_whole}
-use Rattle.csv.specs.Reading.{record_in, reading_of}
+use Rattle.csv_records.proofs.Limit.{read_past, read-cut, read_whole}
+use Rattle.csv_records.specs.Reading.{record_in, reading_of}
 use lib.ListN.{take}
 use lib.Seq.{length-take-le}
 use native.Mathlib.Omega.{arith}
 use mathlib.Core.Path.{◌≡◌, sym, ap, ◌∙◌}
 use mathlib.Core.Bool.{true}
-use Rattle.csv.proofs.read_record.Statement.{statement}
-use Rattle.csv.proofs.read_record.Tie as tie
+use Rattle.csv_records.proofs.read_record.Statement.{statement}
+use Rattle.csv_records.proofs.read_record.Tie as tie
 
 refusal-requires : tie.Need-refusal-requires
 refusal-requires c κs = search rules

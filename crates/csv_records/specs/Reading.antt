@@ -6,9 +6,9 @@ use Rattle.csv_field.specs.declared.Span.{Span}
 use Rattle.csv_field.specs.declared.Stop.{Stop}
 use Rattle.csv_field.specs.declared.Stop.TheVariants.{Comma, LineEnd, TextEnd, Bad, Cut}
 use Rattle.csv_content.specs.Content.{content_of}
-use Rattle.csv.specs.declared.Status.{Status}
-use Rattle.csv.specs.declared.Status.TheVariants.{End, Malformed, Limit, Record}
-use Rattle.csv.specs.declared.Reading.{Reading}
+use Rattle.csv_records.specs.declared.Status.{Status}
+use Rattle.csv_records.specs.declared.Status.TheVariants.{End, Malformed, Limit, Record}
+use Rattle.csv_records.specs.declared.Reading.{Reading}
 
 -- What a reader finds at a place: no record, since the text ends there; a malformed record; the limit before the record is decided; or a
 -- record, with the spans of its fields, the end before its line end, and the place of the next record.

@@ -10,14 +10,14 @@ use lib.ListN.{length, take, drop, length-take, length-append, take-append-drop}
 use lib.Seq.{take_all}
 use borrow.Author.Tests.{lt-ltb, le-ltb}
 use Rattle.csv_field.specs.FieldReading.{field_at}
-use Rattle.csv.specs.Reading.{prepend, on_stop, fields_from, record_in, read_at, Records, on_found, records_from, Finding, nothing, malformed, past-limit, found}
+use Rattle.csv_records.specs.Reading.{prepend, on_stop, fields_from, record_in, read_at, Records, on_found, records_from, Finding, nothing, malformed, past-limit, found}
 use Rattle.csv_field.specs.declared.Span.{Span}
 use Rattle.csv_field.specs.declared.ScannedField.{ScannedField}
 use Rattle.csv_field.specs.declared.Stop.{Stop}
 use Rattle.csv_field.specs.declared.Stop.TheVariants.{Comma, LineEnd, TextEnd, Bad, Cut}
 use Rattle.csv_field.proofs.Places.{comma-place, whole-place}
 use Rattle.csv_field.proofs.MoreBytes.{field-more, field_cut}
-use Rattle.csv.proofs.Places.{fields-past, found-places}
+use Rattle.csv_records.proofs.Places.{fields-past, found-places}
 
 -- ---- The bytes that a reader looks at
 
