@@ -137,7 +137,7 @@ open_for all later (suc m) = not (all_arrived m all later)
 stand_small : (p before : ℕ) (rows : List Row) → before ≤ MESSAGES → stand_from p before rows ≤ MESSAGES
 unfolding stand_from
 stand_small p before [] h = h
-stand_small p before (r ∷ rs) h = stand_small p _ rs (go (eqb r.process p) (is_barrier r) (dec_lt r.message MESSAGES))
+stand_small p before (r ∷ rs) h = stand_small p (cond (eqb r.process p) (cond (is_barrier r && ltb r.message MESSAGES) (suc r.message) 0) before) rs (go (eqb r.process p) (is_barrier r) (dec_lt r.message MESSAGES))
   where
     go : (b c : Bool) → Dec (r.message < MESSAGES) → cond b (cond (c && ltb r.message MESSAGES) (suc r.message) 0) before ≤ MESSAGES
     go false c d = h

@@ -1,5 +1,7 @@
 // Barriers: whether every process that has a row in a trace arrives at each barrier once, and none goes on before all have arrived. This is
 // question 22. The tables of one pass also tell a join which rows to hold back.
+#![tactic(auto)]
+
 pub mod participants;
 
 ghost use Rattle.std.specs.Prelude.{◌≡◌, ℕ, ◌<◌, get_or};

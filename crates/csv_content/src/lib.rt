@@ -1,4 +1,6 @@
 // The content of a field by its span: the functions copy nothing.
+#![tactic(auto)]
+
 ghost use Rattle.std.specs.Prelude.{◌≡◌, false, ◌&&◌, eqb};
 ghost use Rattle.csv_content.specs.Content.{raw_of, content_of, undouble, same_bytes, is_nil};
 

@@ -1,4 +1,6 @@
 // One field of a text, found by its bytes.
+#![tactic(auto)]
+
 ghost use Rattle.std.specs.Prelude.{◌≡◌, false, ◌+◌, ◌<◌, get_or, drop, eqb};
 ghost use Rattle.csv_field.specs.FieldReading.{is_text, is_quoted, text_length, quotes, after_cr, stop_of, quoted_at, field_at};
 

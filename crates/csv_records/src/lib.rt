@@ -1,4 +1,6 @@
 // Records of RFC 4180, read in place: a reading answers places in the text and copies nothing.
+#![tactic(auto)]
+
 ghost use Rattle.std.specs.Prelude.{◌≡◌};
 ghost use Rattle.csv_records.specs.Reading.{read_at, reading_of, record_in, without, whole_record};
 

@@ -1,4 +1,6 @@
 // Giving a range of a map a cell, in place.
+#![tactic(auto)]
+
 ghost use Rattle.std.specs.Prelude.{ℕ, ◌+◌, ◌*◌, ◌-◌, ◌/◌, ◌%◌, ◌≤◌, ◌<◌, min, ◌≡◌, true, cond, ◌⊎◌, List, ◌++◌, length, length as size_of, take, drop, set, replicate, leb};
 ghost use Rattle.std.proofs.Math.Seq.{slice};
 ghost use Rattle.extents_meaning.specs.Cells.{number_in, overwrite};

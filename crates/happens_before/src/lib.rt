@@ -1,5 +1,7 @@
 // Fills the happens-before counts of every row of a trace: how many rows of each process happen before the row or are the row. One pass over
 // the rows keeps three tables of the rows before (specs/Tables.antt), so no row is looked for by a scan.
+#![tactic(auto)]
+
 ghost use Rattle.std.specs.Prelude.{◌≡◌, ℕ, max, ◌+◌, ◌*◌, ◌-◌, ◌<◌, ◌≤◌, length};
 ghost use Rattle.rows.specs.Questions.{long_enough, first_no};
 ghost use Rattle.happens_before.specs.Clock.{alike, pairs, cell_in, with_counts, joined_row, joined_last, joined_pairs, joined_sends, joined_barrier, with_own, filled_row};

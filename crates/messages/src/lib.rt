@@ -1,4 +1,6 @@
 // A table by message, to which rows are put one after the other: whether a row's message is in order behind the rows before it.
+#![tactic(auto)]
+
 ghost use Rattle.std.specs.Prelude.{◌≡◌, not, ◌&&◌, set};
 ghost use Rattle.rows.specs.Questions.{first_no};
 ghost use Rattle.messages.specs.Table.{is_sent, is_posted, is_waited, is_sent_by, is_posted_by, with_send, with_post, with_wait};

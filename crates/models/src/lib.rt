@@ -1,4 +1,6 @@
 // The table of the models: which rows publish and which refresh, by model and kind.
+#![tactic(auto)]
+
 ghost use Rattle.std.specs.Prelude.{◌≡◌};
 ghost use Rattle.models.specs.Table.{publishes, refreshes, table_entry};
 

@@ -1,4 +1,6 @@
 // Puts bytes and decimal numbers into a lent slice from an index on. Where there is no room nothing is put, and the answer is that index.
+#![tactic(auto)]
+
 ghost use Rattle.std.specs.Prelude.{◌+◌, ◌≤◌, ◌<◌, ◌≡◌, length};
 ghost use Rattle.print.specs.Decimal.{BASE, DIGIT_0, WIDTH, digits_of, width_of, decimal_of};
 ghost use Rattle.print.specs.Puts.{lay, put_in, put_end};

@@ -1,4 +1,6 @@
 // Tells whether two ranges share a byte, by arithmetic alone: no step asks which of two numbers is the larger.
+#![tactic(auto)]
+
 ghost use Rattle.std.specs.Prelude.{◌≡◌, cond, max, min, ◌-◌, ◌<◌, leb};
 ghost use Rattle.ranges.specs.Ranges.{TOP, overlap_of};
 

@@ -1,5 +1,7 @@
 // The limits of the product, the kinds and refusals by their numbers, a row, and the slice that holds six numbers for each row.
 // specs/Limits.antt, specs/Kinds.antt and specs/Refusals.antt have these numbers for the contracts.
+#![tactic(auto)]
+
 pub mod refusal;
 
 ghost use Rattle.std.specs.Prelude.{◌≡◌, length, get_or, replicate};

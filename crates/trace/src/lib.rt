@@ -1,4 +1,6 @@
 // Reads a trace, rows of file operations in RFC 4180 text, into slices that the caller lends, and puts the questions to it: 1 to 12, 21 and 22.
+#![tactic(auto)]
+
 mod reading;
 
 ghost use Rattle.std.specs.Prelude.{◌≡◌, ◌≤◌, ◌*◌, length, replicate};

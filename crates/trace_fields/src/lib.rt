@@ -1,4 +1,6 @@
 // The questions 8 to 11, put to the fields of one record: its kind, the fields that the kind uses, their numbers, and the end of its range.
+#![tactic(auto)]
+
 ghost use Rattle.std.specs.Prelude.{◌≡◌};
 ghost use Rattle.csv_content.specs.Content.{content_of};
 ghost use Rattle.trace_fields.specs.Rows.{kind_of, used_by};

@@ -1,4 +1,6 @@
 // The numbers of one record's fields: question 10, and the row that the numbers make.
+#![tactic(auto)]
+
 ghost use Rattle.std.specs.Prelude.{◌≡◌, ◌≤◌};
 ghost use Rattle.csv_content.specs.Content.{content_of};
 ghost use Rattle.trace_numbers.specs.Numbers.{starts_plain, number_below, OFFSETS, number_where, fields_of, read_numbers};

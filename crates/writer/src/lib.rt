@@ -1,4 +1,6 @@
 // Writes rows back as a trace: plain RFC 4180 text, with or without the header, into a lent slice from a place that the caller names.
+#![tactic(auto)]
+
 mod asking;
 mod putting;
 mod sizing;

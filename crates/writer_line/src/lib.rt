@@ -1,4 +1,6 @@
 // A row as a line of plain text: how long the line is, and the line put into a lent slice.
+#![tactic(auto)]
+
 ghost use Rattle.std.specs.Prelude.{◌≡◌, [], ◌∷◌, ◌+◌, ◌≤◌, length, get_or};
 ghost use Rattle.csv_field.specs.FieldGrammar.{COMMA};
 ghost use Rattle.print.specs.Puts.{lay, put_in, put_end};

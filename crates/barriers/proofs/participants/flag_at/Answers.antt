@@ -1,0 +1,8 @@
+-- `barriers::participants::flag_at` meets its contract.
+use mathlib.Core.Path.{sym}
+use mathlib.Core.Bool.{false}
+use lib.ListN.{get_or-eq_default}
+use Rattle.barriers.proofs.participants.flag_at.Goals as goal
+
+pub returns-else-p-flags : goal.returns-else-p-flags
+returns-else-p-flags c = sym (get_or-eq_default c.args.flags.now false c.if-p-flags.false)

@@ -1,0 +1,33 @@
+-- `csv_field::skip_text` meets its contract.
+use Rattle.csv_field.proofs.Steps.{run_on, run_off, run_end}
+use native.Mathlib.Omega.{arith}
+use mathlib.Core.Path.{refl, sym, ◌∙◌}
+use Rattle.csv_field.proofs.skip_text.Goals as goal
+
+pub loop-i-init : goal.loop-i-init
+loop-i-init c = refl
+
+pub returns-then-not-is_text : goal.returns-then-not-is_text
+returns-then-not-is_text c =
+    let l = c.loop-i in
+    omega (
+      arith,
+      l.invariant,
+      run_off c.args.s.now l.i
+          c.loop-i-test.true (sym c.is_text.ensures ∙ c.if-not-is_text.true),
+    )
+
+pub loop-i-preserved : goal.loop-i-preserved
+loop-i-preserved c =
+    let l = c.loop-i in
+    omega (
+      arith,
+      l.invariant,
+      run_on c.args.s.now l.i
+          c.loop-i-test.true (sym c.is_text.ensures ∙ c.if-not-is_text.false),
+    )
+
+pub returns : goal.returns
+returns c =
+    let l = c.loop-i in
+    omega (arith, l.invariant, run_end c.args.s.now l.i c.loop-i-test.false)

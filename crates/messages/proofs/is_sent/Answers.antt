@@ -1,0 +1,6 @@
+-- `messages::is_sent` meets its contract.
+use mathlib.Core.Path.{refl}
+use Rattle.messages.proofs.is_sent.Goals as goal
+
+pub returns : goal.returns
+returns c = refl

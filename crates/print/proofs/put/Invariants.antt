@@ -1,0 +1,12 @@
+-- `print::put` meets its contract.
+use Rattle.print.proofs.Laying.{Copying}
+use Prim.Native.Nat.{◌-◌}
+use lib.ListN.{length}
+use Rattle.print.proofs.put.Given as goal
+
+-- The first i bytes lie in their places, and all other bytes are as they were.
+abbrev pub invariant-loop-i : goal.invariant-loop-i
+invariant-loop-i l = Copying l.initial.out l.at l.bytes l.out l.i
+
+abbrev pub decreases-loop-i : goal.decreases-loop-i
+decreases-loop-i l = length l.bytes - l.i

@@ -1,0 +1,8 @@
+-- `ranges::smaller` meets its contract.
+use Prim.Native.Nat.{ℕ, ◌-◌}
+use mathlib.Core.Path.{ap, ◌∙◌}
+use Rattle.ranges.proofs.Differences.{lowered}
+use Rattle.ranges.proofs.smaller.Goals as goal
+
+pub returns : goal.returns
+returns c = ap (λ (d : ℕ). c.args.a - d) c.above.ensures ∙ lowered c.args.a c.args.b
