@@ -1,4 +1,6 @@
 // One or two maps of a slice that has several, by their numbers.
+#![tactic(auto)]
+
 ghost use Rattle.std.specs.Prelude.{ℕ, ◌+◌, ◌*◌, ◌-◌, ◌≤◌, ◌<◌, ◌≡◌, true, ◌⊎◌, length, leb, ltb};
 ghost use Rattle.extents_meaning.specs.Cells.{number_in, overwrite, as_published, refreshed};
 ghost use Rattle.extents_meaning.specs.Runs.{runs_from, runs_of, pieces_of};

@@ -1,5 +1,7 @@
 // Publishing the unpublished runs of a view, and a range with a cell of its own, on the published map in the same slice, in place: run by run as long
 // as the map fits, and from there on by rewriting the published map.
+#![tactic(auto)]
+
 ghost use Rattle.std.specs.Prelude.{◌+◌, ◌*◌, ◌-◌, ◌≤◌, ◌<◌, ◌≡◌, true, false, ◌⊎◌, length};
 ghost use Rattle.rows.specs.Limits.{ROWS};
 ghost use Rattle.extents_meaning.specs.Cells.{number_in, cell_of, overwrite};

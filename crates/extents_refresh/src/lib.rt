@@ -1,4 +1,6 @@
 // Refreshing a view from the published map, both maps in one slice, and marking the runs of a view published.
+#![tactic(auto)]
+
 ghost use Rattle.std.specs.Prelude.{◌+◌, ◌*◌, ◌≤◌, ◌<◌, max, ◌≡◌, true, false, length};
 ghost use Rattle.extents_meaning.specs.Cells.{as_published, refreshed};
 ghost use Rattle.extents_meaning.specs.Runs.{run_of, runs_of};

@@ -1,6 +1,8 @@
 // Rewriting a map in place: each byte of a target map gets the cell that a mix makes of it and of another map's cell at the byte. No room but the
 // map's own is used. A first walk keeps of the target what the result needs; the kept runs move up to the place behind which all is 0; a second walk
 // reads them there and writes the result's runs from the front.
+#![tactic(auto)]
+
 ghost use Rattle.std.specs.Prelude.{◌+◌, ◌*◌, ◌/◌, ◌≤◌, max, ◌≡◌, true, length};
 ghost use Rattle.extents_meaning.specs.Runs.{runs_of};
 ghost use Rattle.extents_meaning.specs.Maps.{map_for, with_part, with_map};

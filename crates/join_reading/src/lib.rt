@@ -1,4 +1,6 @@
 // Reads one file of a join by itself: puts the questions 1 to 11 to it, and leaves its rows in a slice that the caller lends.
+#![tactic(auto)]
+
 ghost use Rattle.std.specs.Prelude.{◌≡◌, ◌≤◌, ◌*◌, length};
 ghost use Rattle.rows.specs.Limits.{ROWS, FIELDS};
 ghost use Rattle.rows.specs.Questions.{first_no};

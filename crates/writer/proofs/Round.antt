@@ -167,7 +167,7 @@ wrote xs n header P outLength place text e = go (eqb first 0) refl e
 
 -- The records of a text that are rows are the fields of the rows.
 row-records : (header : ℕ) (rows : List Row) → header ≤ 1 → RowRecords header (records_of header rows) (map contents_of rows)
-row-records zero rows h = RowRecords.no_Header
+row-records zero rows h = RowRecords.no_header
 row-records (suc zero) rows h = RowRecords.header
 row-records (suc (suc n)) rows h = absurd (omega arith)
 

@@ -40,7 +40,7 @@ loop-next-preserved c =
     let h = c.loop-next-test.true in
     let here = next_row_lem a.rows.now a.j c.requires.chains a.t a.processes a.counts.now fits l.invariant h in
     let link = next-found a.rows.now a.j c.requires.chains a.t a.processes a.counts.now fits l.invariant h in
-    elim c.if-belong.branch [ then-belong w ↦ rw w.counts-is (pairs-join a.processes a.rows.now a.counts.now a.t a.j fits l.invariant here c.belong.ensures link w.if-belong.true w.join.auto.counts w.join.ensures) | else-belong w ↦ rw w.1 (pairs-skip a.processes a.rows.now a.counts.now a.t a.j fits l.invariant here c.belong.ensures link w.if-belong.false) ]
+    elim c.if-belong.branch [ then-belong w ↦ rw w.counts-is (pairs-join a.processes a.rows.now a.counts.now a.t a.j fits l.invariant here c.belong.ensures link w.if-belong.true w.join.auto.counts w.join.ensures) | else-belong w ↦ rw w.counts-is (pairs-skip a.processes a.rows.now a.counts.now a.t a.j fits l.invariant here c.belong.ensures link w.if-belong.false) ]
 
 pub shape_of-counts : goal.shape_of-counts
 shape_of-counts c = c.loop-next.invariant.size

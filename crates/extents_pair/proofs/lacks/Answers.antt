@@ -1,0 +1,28 @@
+-- `extents_pair::lacks` meets its contract.
+use Prim.Native.Nat.{◌-◌}
+use native.Mathlib.Omega.{arith}
+use mathlib.Core.Path.{refl, ap}
+use lib.Dec.{ltb}
+use Rattle.extents_meaning.specs.Cells.{refreshed}
+use Rattle.extents_meaning.specs.Runs.{pieces_of}
+use Rattle.extents_map.specs.Mixes.{mixed}
+use Rattle.extents_pair.specs.InPairs.{viewIn, belowIn}
+use Rattle.extents_pair.proofs.Rooms.{room-enough}
+use Rattle.extents_pair.proofs.lacks.Goals as goal
+
+pub most_runs-requires : goal.most_runs-requires
+most_runs-requires c = (c.requires.maps_value, refl, c.requires.from_le_to.1)
+
+pub returns-then-most_runs-room : goal.returns-then-most_runs-room
+unfolding mixed
+returns-then-most_runs-room c =
+    let a = c.args in
+    room-enough (refreshed (viewIn a.pair a.maps.now) (belowIn a.pair a.maps.now)) a.from (a.to - a.from) a.room
+    (omega (arith, c.requires.from_le_to.0, c.ranges.to)) (c.most_runs.ensures 0 0 0) (omega (arith, c.if-most_runs-room.true))
+
+pub count-requires : goal.count-requires
+count-requires c = record { maps_value = c.requires.maps_value; from_le_to = (c.requires.from_le_to.0, omega arith) }
+
+pub returns : goal.returns
+unfolding mixed pieces_of
+returns c = ap (ltb c.args.room) c.count.ensures
