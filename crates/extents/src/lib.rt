@@ -1,4 +1,6 @@
 // The map of pieces: which row number and mark every byte of a file has, kept as longest runs in a lent slice.
+#![tactic(auto)]
+
 ghost use Rattle.std.specs.Prelude.{◌≡◌};
 ghost use Rattle.extents_meaning.specs.Maps.{lawful, lawful_published};
 ghost use Rattle.extents.specs.Entries.{WriteEntry, ListEntry, PublishEntry, RefreshEntry, SyncEntry, WriteThroughEntry, ReadEntry, LookupEntry};

@@ -1,4 +1,6 @@
 // Joins the traces of two controllers of one shelf into one trace, and puts every question to it.
+#![tactic(auto)]
+
 pub mod choosing;
 mod joining;
 mod sharing;

@@ -1,0 +1,42 @@
+-- `extents::lawful::publish` meets its contract.
+use Rattle.extents.proofs.Doubles.{publish-enough, publish-short, publish-full, share-fits, publish-done}
+use Rattle.extents.specs.Entries.{publishedMaps}
+use Rattle.extents.proofs.Entering.{refused}
+use Rattle.extents.specs.declared.Answer.TheVariants.{Done}
+use mathlib.Core.Path.{refl}
+use native.Mathlib.Omega.{arith}
+use Rattle.extents_pair.proofs.Pairing.{two-told}
+use mathlib.Core.Bool.{not}
+use mathlib.Core.Path.{ap}
+use Rattle.extents.proofs.lawful.publish.Goals as goal
+
+pub own_runs-own-requires : goal.own_runs-own-requires
+own_runs-own-requires c =
+    let a = c.args in
+    let t = two-told a.space a.view a.below a.maps.now c.requires in
+    record { space_in_bounds = t.view_in; maps_value = t.view-law }
+
+pub fits-requires : goal.fits-requires
+fits-requires c = record { maps_value = c.requires; mode_value = (refl, omega arith, c.own_runs-own.ensures) }
+
+pub returns-then-not-fits : goal.returns-then-not-fits
+returns-then-not-fits c =
+    let a = c.args in
+    refused 16 Done (publishedMaps a.space a.view a.below a.maps.now) a.maps.now (publish-full a.space a.view a.below
+    a.maps.now c.requires (publish-short
+    a.space a.view a.below a.maps.now c.fits.ensures (ap not c.if-not-fits.true))) (omega arith)
+
+pub share-requires : goal.share-requires
+share-requires c =
+    let a = c.args in record { maps_value = c.requires; start_le_end = (omega arith, λ l. absurd (omega (arith, l)), omega arith, c.own_runs-own.ensures); maps_len_bound = share-fits a.space a.view a.below a.maps.now c.requires
+            (publish-enough a.space a.view a.below a.maps.now c.fits.ensures (ap not c.if-not-fits.false)) }
+
+pub mark_published-requires : goal.mark_published-requires
+mark_published-requires c = c.share.ensures.maps_after_2
+
+pub returns : goal.returns
+returns c =
+    let a = c.args in
+    publish-done a.space a.view a.below a.maps.now c.requires
+    (publish-enough a.space a.view a.below a.maps.now c.fits.ensures (ap not c.if-not-fits.false)) c.share.ensures.maps_after
+    c.mark_published.ensures

@@ -1,0 +1,135 @@
+-- `extents::lawful::write_through` meets its contract.
+use Rattle.extents.proofs.Doubles.{view-in-as-published, view-law-as-published, write-through-lay, write-through-done, write-through-empty, write-through-enough, write-through-short, mark-published-enough, mark-published-short, cell-zero, write-through-low, write-through-high, write-through-past, write-through-full, write-through-view-full, write-through-share}
+use Rattle.extents.proofs.Entering.{cell-fine, refused}
+use Rattle.extents.specs.Entries.{writtenThroughMaps}
+use mathlib.Core.Bool.{false}
+use Rattle.extents.specs.declared.Answer.TheVariants.{Done}
+use mathlib.Core.Path.{refl}
+use native.Mathlib.Omega.{arith}
+use Rattle.extents_pair.proofs.Pairing.{two-told}
+use mathlib.Core.Bool.{not}
+use mathlib.Core.Path.{ap}
+use Rattle.extents.proofs.lawful.write_through.Goals as goal
+
+pub returns-then-number-lt1 : goal.returns-then-number-lt1
+returns-then-number-lt1 c =
+    let a = c.args in
+    refused 14 Done (writtenThroughMaps a.space a.view a.below a.maps.now a.start a.length a.number) a.maps.now (write-through-low
+    a.space a.view a.below a.maps.now a.start a.length a.number (omega arith) (omega arith) c.requires c.if-number-lt1.true) (omega
+    arith)
+
+pub returns-then-number-gt-ROWS : goal.returns-then-number-gt-ROWS
+returns-then-number-gt-ROWS c =
+    let a = c.args in
+    refused 14 Done (writtenThroughMaps a.space a.view a.below a.maps.now a.start a.length a.number) a.maps.now (write-through-high
+    a.space a.view a.below a.maps.now a.start a.length a.number (omega arith) (omega arith) c.requires c.if-number-gt-ROWS.true) (omega
+    arith)
+
+pub returns-then-start-length : goal.returns-then-start-length
+returns-then-start-length c =
+    let a = c.args in
+    refused 11 Done (writtenThroughMaps a.space a.view a.below a.maps.now a.start a.length a.number) a.maps.now (write-through-past
+    a.space a.view a.below a.maps.now a.start a.length a.number (omega arith) (omega arith) c.requires (omega (
+      arith,
+      c.if-number-lt1.false,
+    )) (omega (arith, c.if-number-gt-ROWS.false)) (omega (arith, c.if-start-length.true)))
+    (omega arith)
+
+pub overflow_add-end : goal.overflow_add-end
+overflow_add-end c = omega (arith, c.if-start-length.false)
+
+pub overflow_mul-cell : goal.overflow_mul-cell
+overflow_mul-cell c = omega (arith, c.if-number-gt-ROWS.false)
+
+pub own_runs-own-requires : goal.own_runs-own-requires
+own_runs-own-requires c =
+    let a = c.args in
+    let t = two-told a.space a.view a.below a.maps.now c.requires in
+    record { space_in_bounds = t.view_in; maps_value = t.view-law }
+
+pub fits-requires : goal.fits-requires
+fits-requires c = record { maps_value = c.requires; mode_value = (refl, omega arith, c.own_runs-own.ensures) }
+
+pub returns-then-not-fits : goal.returns-then-not-fits
+returns-then-not-fits c =
+    let a = c.args in
+    refused 16 Done (writtenThroughMaps a.space a.view a.below a.maps.now a.start a.length a.number) a.maps.now (write-through-full
+    a.space a.view a.below a.maps.now a.start a.length a.number (omega arith) (omega arith) c.requires (omega (
+      arith,
+      c.if-number-lt1.false,
+    )) (omega (arith, c.if-number-gt-ROWS.false)) (omega (arith, c.if-start-length.false))
+    (write-through-short a.space a.view a.below a.maps.now a.start a.length a.number (cell-zero
+    a.number) c.fits.ensures (ap not c.if-not-fits.true))) (omega arith)
+
+pub fits-requires-2 : goal.fits-requires-2
+fits-requires-2 c = record { maps_value = c.requires; mode_value = (refl, omega arith, c.own_runs-own.ensures) }
+
+pub returns-then-not-fits-2 : goal.returns-then-not-fits-2
+returns-then-not-fits-2 c =
+    let a = c.args in
+    refused 16 Done (writtenThroughMaps a.space a.view a.below a.maps.now a.start a.length a.number) a.maps.now (write-through-view-full
+    a.space a.view a.below a.maps.now a.start a.length a.number (omega arith) (omega arith) c.requires (omega (
+      arith,
+      c.if-number-lt1.false,
+    )) (omega (arith, c.if-number-gt-ROWS.false)) (omega (arith, c.if-start-length.false))
+    (mark-published-short a.space a.view a.below a.maps.now a.start a.length a.number (cell-zero
+    a.number) c.fits-2.ensures (ap not c.if-not-fits-2.true))) (omega arith)
+
+pub share-requires : goal.share-requires
+share-requires c =
+    let a = c.args in record { maps_value = c.requires; start_le_end = (
+          omega arith,
+          λ l. omega (arith, c.if-number-lt1.false),
+          omega (arith, c.if-number-gt-ROWS.false),
+          c.own_runs-own.ensures,
+        ); maps_len_bound = write-through-share a.space a.view a.below a.maps.now a.start a.length a.number (omega arith) (omega
+            arith) c.requires (omega (arith, c.if-number-lt1.false)) (omega (
+              arith,
+              c.if-number-gt-ROWS.false,
+            )) (omega (arith, c.if-start-length.false)) (write-through-enough a.space a.view a.below a.maps.now
+            a.start a.length a.number (cell-zero a.number) c.fits.ensures (ap not c.if-not-fits.false)) (mark-published-enough a.space a.view
+            a.below a.maps.now a.start a.length a.number (cell-zero a.number) c.fits-2.ensures (ap not c.if-not-fits-2.false)) }
+
+pub mark_published-requires : goal.mark_published-requires
+mark_published-requires c = c.share.ensures.maps_after_2
+
+pub lay-requires : goal.lay-requires
+lay-requires c =
+    let a = c.args in record { space_in_bounds = view-in-as-published a.space a.view a.below a.maps.now a.start a.length a.number (omega arith) (omega arith) c.requires
+          (omega (arith, c.if-number-lt1.false)) (omega (arith, c.if-number-gt-ROWS.false))
+          (omega (arith, c.if-start-length.false)) (write-through-enough a.space a.view a.below a.maps.now a.start a.length
+          a.number (cell-zero a.number) c.fits.ensures (ap not c.if-not-fits.false)) (mark-published-enough a.space a.view a.below a.maps.now a.start a.length a.number (cell-zero a.number) c.fits-2.ensures (ap not c.if-not-fits-2.false)) c.share.ensures.maps_after
+          c.mark_published.ensures; maps_value = view-law-as-published a.space a.view a.below a.maps.now a.start a.length a.number (omega arith) (omega arith) c.requires
+            (omega (arith, c.if-number-lt1.false)) (omega (arith, c.if-number-gt-ROWS.false))
+            (omega (arith, c.if-start-length.false)) (write-through-enough a.space a.view a.below a.maps.now a.start a.length
+            a.number (cell-zero a.number) c.fits.ensures (ap not c.if-not-fits.false)) (mark-published-enough a.space a.view a.below a.maps.now a.start a.length a.number (cell-zero a.number) c.fits-2.ensures (ap not c.if-not-fits-2.false)) c.share.ensures.maps_after
+            c.mark_published.ensures; start_lt_end = (c.if-start-end.true, cell-fine a.number false (omega (arith, c.if-number-lt1.false)) (omega (arith, c.if-number-gt-ROWS.false)) (cell-zero a.number)); maps_len_bound = write-through-lay
+              a.space a.view a.below a.maps.now a.start a.length a.number (omega arith) (omega arith) c.requires (omega
+              (arith, c.if-number-lt1.false)) (omega (arith, c.if-number-gt-ROWS.false)) (omega (
+                arith,
+                c.if-start-length.false,
+              )) (write-through-enough a.space a.view a.below a.maps.now a.start a.length a.number
+              (cell-zero a.number) c.fits.ensures (ap not c.if-not-fits.false)) (mark-published-enough a.space a.view a.below a.maps.now
+              a.start a.length a.number (cell-zero a.number) c.fits-2.ensures (ap not c.if-not-fits-2.false)) c.share.ensures.maps_after
+              c.mark_published.ensures (cell-zero
+              a.number) }
+
+pub returns-then-start-end : goal.returns-then-start-end
+returns-then-start-end c =
+    let a = c.args in
+    write-through-done a.space a.view a.below a.maps.now a.start a.length a.number (omega arith) (omega arith) c.requires (omega
+    (arith, c.if-number-lt1.false)) (omega (arith, c.if-number-gt-ROWS.false))
+    (omega (arith, c.if-start-length.false)) (write-through-enough a.space a.view a.below a.maps.now a.start a.length
+    a.number (cell-zero a.number) c.fits.ensures (ap not c.if-not-fits.false)) (mark-published-enough a.space a.view a.below a.maps.now a.start a.length a.number (cell-zero a.number) c.fits-2.ensures (ap not c.if-not-fits-2.false)) c.share.ensures.maps_after
+    c.mark_published.ensures
+    (cell-zero a.number) c.lay.ensures
+
+pub returns-else-start-end : goal.returns-else-start-end
+returns-else-start-end c =
+    let a = c.args in
+    write-through-empty a.space a.view a.below a.maps.now a.start a.length a.number (omega arith) (omega arith) c.requires (omega
+    (arith, c.if-number-lt1.false)) (omega (arith, c.if-number-gt-ROWS.false))
+    (omega (arith, c.if-start-length.false)) (write-through-enough a.space a.view a.below a.maps.now a.start a.length
+    a.number (cell-zero a.number) c.fits.ensures (ap not c.if-not-fits.false)) (mark-published-enough a.space a.view a.below a.maps.now a.start a.length a.number (cell-zero a.number) c.fits-2.ensures (ap not c.if-not-fits-2.false)) c.share.ensures.maps_after
+    c.mark_published.ensures
+    c.if-start-end.false

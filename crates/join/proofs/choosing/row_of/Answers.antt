@@ -1,0 +1,7 @@
+-- `join::choosing::row_of` meets its contract.
+use mathlib.Core.Path.{ap}
+use Rattle.join.specs.declared.choosing.Next.{Next}
+use Rattle.join.proofs.choosing.row_of.Goals as goal
+
+pub returns : goal.returns
+returns c = ap (λ (x : Next). x.row) c.next_at-next.ensures
