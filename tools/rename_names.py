@@ -23,7 +23,16 @@ INNER = re.compile(r"^\s+(?:pub )?(" + ID + r") :\s")
 
 
 # Names that the rules alone would make unreadable, or that would hide a word beside them: a field that says what a call leaves, or that numbers fit.
+# The lemmas among them would have the name of a definition of a module block.
 CHOSEN = {
+    "below_in": "below_in_lem",
+    "best-chain": "best_chain_lem",
+    "inOrder": "is_in_order",
+    "map_first": "map_first_lem",
+    "publish-at": "publish_at_lem",
+    "put_last": "put_last_lem",
+    "refresh-at": "refresh_at_lem",
+    "view_in": "view_in_lem",
     "rows_left": "rows_after",
     "counts-left": "counts_after",
     "list_left": "list_after",
@@ -116,7 +125,8 @@ def table(top):
                 s = "_".join(bits)
         if s != n:
             new[n] = s
-    new.update({n: s for n, s in CHOSEN.items() if n in every})
+    new.update({n: snake(n) for n in inner(top)})
+    new.update({n: s for n, s in CHOSEN.items()})
     by = collections.defaultdict(set)
     for n in every:
         by[new.get(n, n)].add(n)
@@ -144,6 +154,17 @@ def table(top):
             new[n] = final + "_fact"
             report.append(f"together: the field {n} of {p} hides the word {words[0]}: it is {new[n]}; look for steps of this name in proofs")
     return new, fields, defs, lemmas, report
+
+
+def inner(top):
+    """Names with a capital that are declared within a module block or a 'data', at any depth."""
+    names = set()
+    for p in glob.glob(os.path.join(top, "crates/*/specs/**/*.antt"), recursive=True) + glob.glob(os.path.join(top, "crates/*/proofs/**/*.antt"), recursive=True):
+        for l in read(p).split("\n") if "/out/" not in p else []:
+            m = re.match(r"^\s+(?:abbrev |unfoldable |opaque |pub )*([a-z][a-z0-9]*[A-Z][A-Za-z0-9]*) :(?:\s|$)", l)
+            if m:
+                names.add(m.group(1))
+    return names
 
 
 class Turn:

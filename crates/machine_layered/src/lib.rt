@@ -1,4 +1,6 @@
 // The layered file: its state, making, stepping and replaying it, and what a row does to it.
+#![tactic(auto)]
+
 ghost use Rattle.std.specs.Prelude.{ℕ, suc, ◌+◌, ◌*◌, ◌≤◌, ◌<◌, ◌≡◌, true, List, length, take, drop};
 ghost use Rattle.rows.specs.Counting.{all_below};
 ghost use Rattle.rows.specs.Questions.{first_no};

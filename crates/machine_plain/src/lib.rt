@@ -1,4 +1,6 @@
 // The plain file: its state, making, stepping and replaying it, and what a row does to it.
+#![tactic(auto)]
+
 ghost use Rattle.std.specs.Prelude.{◌*◌, ◌≡◌, true, length};
 ghost use Rattle.rows.specs.Questions.{first_no};
 ghost use Rattle.machine_meaning.specs.States.{lawful_plain};

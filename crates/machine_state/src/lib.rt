@@ -1,4 +1,6 @@
 // What the layered file and the plain file share: the header, the questions, answers by their numbers, and what making and a replay answer.
+#![tactic(auto)]
+
 ghost use Rattle.std.specs.Prelude.{◌+◌, ◌*◌, ◌≤◌, ◌≡◌, ◌&&◌, ◌++◌, length, drop, replicate, leb};
 ghost use Rattle.rows.specs.Questions.{first_no};
 ghost use Rattle.rows.specs.Rows.{row_in};

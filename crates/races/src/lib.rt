@@ -1,4 +1,6 @@
 // Finds the races of rows under a model: the verdict, which is free or the first race, and the list of every race.
+#![tactic(auto)]
+
 ghost use Rattle.std.specs.Prelude.{◌≡◌, ◌+◌, ◌*◌, ◌-◌, ◌<◌, ◌≤◌, length, get_or, leb, eqb, false, not, ◌&&◌};
 ghost use Rattle.models.specs.Table.{publishes, refreshes};
 ghost use Rattle.rows.specs.Kinds.{WRITE};

@@ -1,0 +1,6 @@
+-- `races::counts_before` meets its contract.
+use mathlib.Core.Path.{refl}
+use Rattle.races.proofs.counts_before.Goals as goal
+
+pub returns : goal.returns
+returns c = refl

@@ -1,0 +1,31 @@
+-- `races::put_all` meets its contract.
+use Prim.Native.Nat.{◌*◌, ◌≤◌}
+use native.Mathlib.Omega.{arith}
+use lib.ListN.{length}
+use Rattle.rows.specs.Rows.{rows_in}
+use Rattle.races_meaning.specs.Lists.{race_pairs}
+use Rattle.races.proofs.Whole.{square_most, pairs-in, room_in, room_out}
+use Rattle.races.proofs.put_all.Goals as goal
+use Rattle.races.proofs.put_all.Goals.{else-list-n, then-list-n+else-list-needed}
+
+pub overflow_mul-n : goal.overflow_mul-n
+overflow_mul-n c = omega (arith, square_most c.requires.few-rows)
+
+pub overflow_mul-needed : goal.overflow_mul-needed
+overflow_mul-needed c = omega (arith, c.put_races-needed.ensures.answer, pairs-in c.args.n c.args.model c.args.rows.now, square_most c.requires.few-rows)
+
+pub returns-then-list-needed : goal.returns-then-list-needed
+returns-then-list-needed c = let both = room_out (race_pairs (rows_in c.args.n c.args.rows.now) c.args.model) c.args.list.now (omega (arith, c.put_races-needed.ensures.answer, c.if-list-needed.true)) in record { answer = both.0; listed = both.1 }
+
+pub overflow_cast-result : goal.overflow_cast-result
+overflow_cast-result c = omega (arith, c.put_races-found.ensures.answer, pairs-in c.args.n c.args.model c.args.rows.now, square_most c.requires.few-rows)
+
+pub returns : goal.returns
+returns c =
+    let pairs = race_pairs (rows_in c.args.n c.args.rows.now) c.args.model in
+    let room : 2 * length pairs ≤ length c.args.list.now =
+      elim c.if-list-n.branch [
+          then-list-n+else-list-needed w ↦ omega (arith, w.put_races-needed.ensures.answer, w.if-list-needed.false)
+        | else-list-n w ↦ omega (arith, w.if-list-n.false, pairs-in c.args.n c.args.model c.args.rows.now) ] in
+    let both = room_in pairs c.args.list.now room c.put_races-found.ensures.answer c.put_races-found.ensures.listed in
+    record { answer = both.0; listed = both.1 }
