@@ -1,17 +1,11 @@
 -- The content of a field and its comparison.
-use Prim.Native.Nat.{ℕ, zero, suc, ◌+◌, ◌-◌, ◌≤◌, ◌<◌}
+use Rattle.std.proofs.Common.{ℕ, zero, suc, ◌+◌, ◌-◌, ◌≤◌, ◌<◌, add-one, arith, ◌≡◌, refl, sym, ap, ap₂, ◌∙◌, ◌↔◌, Bool, true, false, cond, ◌&&◌, List, [], ◌∷◌, length, take, drop, drop_of_length-le, length-drop, drop-cons, take_all, take-take, eq-eqb, ne_eqb, eqb-true}
 use native.Mathlib.Nat.{add-sub_cancel_left}
-use native.Mathlib.Numerals.{add-one}
-use native.Mathlib.Omega.{arith}
 use native.Mathlib.Decide.{dec_lt}
-use mathlib.Core.Path.{◌≡◌, refl, sym, ap, ap₂, ◌∙◌}
-use mathlib.Core.Logic.{◌↔◌}
-use mathlib.Core.Bool.{Bool, true, false, cond, ◌&&◌, false≢true}
-use mathlib.Core.List.{List, [], ◌∷◌}
-use lib.ListN.{length, get_or, take, drop, drop_of_length-le, length-drop}
-use lib.Seq.{drop-cons, take-nil, take_all, take-take}
+use mathlib.Core.Bool.{false≢true}
+use lib.ListN.{get_or}
+use lib.Seq.{take-nil}
 use lib.Dec.{eqb, eqb-suc-zero}
-use borrow.Author.Tests.{eq-eqb, ne_eqb, eqb-true}
 use Rattle.csv_field.specs.FieldGrammar.{DQUOTE}
 use Rattle.csv_content.specs.Content.{raw_of, content_of, undouble, same_bytes, is_nil}
 use Rattle.csv_field.specs.declared.Span.{Span}

@@ -1,15 +1,8 @@
 -- The reader finds a field exactly where the grammar derives one before a comma, a CR or the end of the text, and with the same content.
-use Prim.Native.Nat.{ℕ, suc, zero, ◌+◌}
-use native.Mathlib.Nat.{add-zero}
-use native.Mathlib.Numerals.{add-one}
-use native.Mathlib.Omega.{arith}
-use mathlib.Core.Path.{◌≡◌, refl, sym, ap, ◌∙◌}
-use mathlib.Core.Bool.{Bool, true, false, cond}
-use mathlib.Core.List.{List, [], ◌∷◌, ◌++◌, append_assoc}
-use lib.ListN.{length, get_or, take, drop, length-append, take-append-drop}
-use lib.Seq.{take-append_seam, drop-append_seam, drop-drop, get_or-drop, append_snoc}
+use Rattle.std.proofs.Common.{ℕ, suc, zero, ◌+◌, add-zero, add-one, arith, ◌≡◌, refl, sym, ap, ◌∙◌, Bool, true, false, cond, List, [], ◌∷◌, ◌++◌, append_assoc, length, take, drop, length-append, take-append-drop, drop-drop, get_or-drop, eqb-true}
+use lib.ListN.{get_or}
+use lib.Seq.{take-append_seam, drop-append_seam, append_snoc}
 use lib.Dec.{eqb}
-use borrow.Author.Tests.{eqb-true}
 use Rattle.csv_field.specs.FieldGrammar.{COMMA, DQUOTE, CRLF, NonEscaped, Field, escaped, non_escaped}
 use Rattle.csv_field.specs.FieldReading.{text_length, quotes, stop_of, scanned_field, bare_at, quoted_to, quoted_at, field_at}
 use Rattle.csv_content.specs.Content.{content_of}

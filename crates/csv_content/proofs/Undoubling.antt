@@ -1,9 +1,5 @@
 -- The content of what stands between quotes.
-use Prim.Native.Nat.{ℕ}
-use native.Mathlib.Omega.{arith}
-use mathlib.Core.Path.{◌≡◌, refl, ap}
-use mathlib.Core.Bool.{Bool, true, false, cond}
-use mathlib.Core.List.{List, ◌∷◌}
+use Rattle.std.proofs.Common.{ℕ, arith, ◌≡◌, refl, ap, Bool, true, false, cond, List, ◌∷◌}
 use Rattle.csv_field.specs.FieldGrammar.{COMMA, DQUOTE, CR, LF, Quoted}
 use Rattle.csv_content.specs.Content.{undouble}
 use Rattle.csv_field.proofs.Bytes.{text-unquote}

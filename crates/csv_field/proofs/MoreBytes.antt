@@ -1,11 +1,6 @@
 -- What more bytes behind a text change in a field.
-use Prim.Native.Nat.{ℕ, ◌+◌, ◌-◌, ◌≤◌}
-use native.Mathlib.Omega.{arith}
+use Rattle.std.proofs.Common.{ℕ, ◌+◌, ◌-◌, ◌≤◌, arith, ◌≡◌, refl, sym, ◌∙◌, Bool, true, false, List, [], ◌∷◌, ◌++◌, append-nil, length, drop, drop_of_length-le}
 use native.Mathlib.Decide.{dec_le}
-use mathlib.Core.Path.{◌≡◌, refl, sym, ◌∙◌}
-use mathlib.Core.Bool.{Bool, true, false}
-use mathlib.Core.List.{List, [], ◌∷◌, ◌++◌, append-nil}
-use lib.ListN.{length, drop, drop_of_length-le}
 use lib.Seq.{drop-append-le, drop-append-add}
 use Rattle.csv_field.specs.FieldGrammar.{DQUOTE, CR, LF}
 use Rattle.csv_field.specs.FieldReading.{is_text, is_quoted, text_length, quotes, after_cr, stop_of, scanned_field, quoted_to, field_at}

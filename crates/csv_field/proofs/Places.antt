@@ -1,15 +1,9 @@
 -- Where a field ends: within the text, and after its start.
-use Prim.Native.Nat.{ℕ, suc, zero, ◌+◌, ◌-◌, ◌≤◌, ◌<◌}
-use native.Mathlib.Omega.{arith}
+use Rattle.std.proofs.Common.{ℕ, suc, zero, ◌+◌, ◌-◌, ◌≤◌, ◌<◌, arith, ◌≡◌, refl, ap, subst, ◌∙◌, Bool, true, false, cond, List, [], ◌∷◌, ◌++◌, append-nil, ◌⊎◌, inl, inr, length, drop, length-drop, eqb-true}
 use native.Mathlib.Decide.{dec_le}
-use mathlib.Core.Path.{◌≡◌, refl, ap, subst, ◌∙◌}
-use mathlib.Core.Bool.{Bool, true, false, cond}
-use mathlib.Core.List.{List, [], ◌∷◌, ◌++◌, append-nil}
-use mathlib.Core.Logic.{◌⊎◌, inl, inr}
-use lib.ListN.{length, get_or, drop, length-drop, get_or-eq_default}
+use lib.ListN.{get_or, get_or-eq_default}
 use lib.Seq.{drop-append-le}
 use lib.Dec.{eqb}
-use borrow.Author.Tests.{eqb-true}
 use Rattle.csv_field.specs.FieldGrammar.{COMMA, DQUOTE, CR, LF}
 use Rattle.csv_field.specs.FieldReading.{is_text, is_quoted, text_length, quotes, afterQuote, after_cr, stop_of, scanned_field, no_span, bare_at, quoted_to, field_at}
 use Rattle.csv_field.specs.declared.Span.{Span}

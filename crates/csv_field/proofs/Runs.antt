@@ -1,13 +1,6 @@
 -- TEXTDATA at the front of a text, and what stands between quotes: the reader finds what the grammar derives.
-use Prim.Native.Nat.{ℕ, suc, ◌+◌, ◌<◌}
-use native.Mathlib.Omega.{arith}
-use mathlib.Core.Path.{◌≡◌, refl, ap, ◌∙◌}
-use mathlib.Core.Logic.{◌⊎◌, inl, inr}
-use mathlib.Core.Bool.{Bool, true, false, cond, ◌||◌}
-use mathlib.Core.List.{List, [], ◌∷◌, ◌++◌}
-use lib.ListN.{length, take, length-append}
+use Rattle.std.proofs.Common.{ℕ, suc, ◌+◌, ◌<◌, arith, ◌≡◌, refl, ap, ◌∙◌, ◌⊎◌, inl, inr, Bool, true, false, cond, ◌||◌, List, [], ◌∷◌, ◌++◌, length, take, length-append, eqb-true}
 use lib.Dec.{eqb}
-use borrow.Author.Tests.{eqb-true}
 use Rattle.csv_field.specs.FieldGrammar.{COMMA, DQUOTE, CR, LF, TextData, NonEscaped, Quoted}
 use Rattle.csv_field.specs.FieldReading.{is_text, is_quoted, text_length, quotes, afterQuote}
 use Rattle.csv_field.specs.declared.Quotes.TheVariants.{Broken, Closed}

@@ -1,10 +1,7 @@
 -- What a field is, by what the code found of it.
-use Prim.Native.Nat.{ℕ, ◌+◌, ◌-◌}
+use Rattle.std.proofs.Common.{ℕ, ◌+◌, ◌-◌, ◌≡◌, sym, ap, ◌∙◌, Bool, true, false, cond, List, drop}
 use native.Mathlib.Nat.{add-sub_cancel_left}
-use mathlib.Core.Path.{◌≡◌, sym, ap, ◌∙◌}
-use mathlib.Core.Bool.{Bool, true, false, cond}
-use mathlib.Core.List.{List}
-use lib.ListN.{get_or, drop}
+use lib.ListN.{get_or}
 use lib.Dec.{eqb}
 use Rattle.csv_field.specs.FieldGrammar.{DQUOTE}
 use Rattle.csv_field.specs.FieldReading.{text_length, quotes, stop_of, quoted_to, quoted_at, no_span, field_at}

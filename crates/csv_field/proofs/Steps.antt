@@ -1,15 +1,9 @@
 -- One step of each function of the reader, at a place of a list: what the functions' loops and branches cite.
-use Prim.Native.Nat.{ℕ, suc, ◌+◌, ◌≤◌, ◌<◌}
-use native.Mathlib.Omega.{arith}
-use mathlib.Core.Path.{◌≡◌}
-use mathlib.Core.Bool.{Bool, true, false, cond}
-use mathlib.Core.List.{List}
-use lib.ListN.{length, get_or, drop, drop_of_length-le}
-use lib.Seq.{drop-cons}
+use Rattle.std.proofs.Common.{ℕ, suc, ◌+◌, ◌≤◌, ◌<◌, arith, ◌≡◌, Bool, true, false, cond, List, length, drop, drop_of_length-le, drop-cons, add-one, eq-eqb, ne_eqb}
+use lib.ListN.{get_or}
 use native.Mathlib.Decide.{dec_lt}
-use native.Mathlib.Numerals.{add-one, add-two}
+use native.Mathlib.Numerals.{add-two}
 use lib.Dec.{eqb}
-use borrow.Author.Tests.{eq-eqb, ne_eqb}
 use Rattle.csv_field.specs.FieldGrammar.{COMMA, DQUOTE, CR, LF}
 use Rattle.csv_field.specs.FieldReading.{is_text, is_quoted, text_length, quotes, afterQuote, after_cr, stop_of}
 use Rattle.csv_field.specs.declared.Quotes.TheVariants.{Unclosed, Broken, Closed}

@@ -1,7 +1,6 @@
 -- Tests that pass, both or one of them.
-use mathlib.Core.Path.{◌≡◌, refl, sym, ◌∙◌}
-use mathlib.Core.Logic.{◌⊎◌, inl, inr}
-use mathlib.Core.Bool.{Bool, true, false, not, ◌&&◌, ◌||◌, false≢true, or-true}
+use Rattle.std.proofs.Common.{◌≡◌, refl, sym, ◌∙◌, ◌⊎◌, inl, inr, Bool, true, false, not, ◌&&◌, ◌||◌}
+use mathlib.Core.Bool.{false≢true, or-true}
 use borrow.Author.Tests.{not-true, not-false}
 
 -- Both of two tests passed.

@@ -1,9 +1,7 @@
 -- The process limit, by what the code tests and by what a caller may rely on.
-use Prim.Native.Nat.{ℕ, ◌≤◌, ◌<◌}
-use mathlib.Core.Path.{◌≡◌, sym, ◌∙◌}
-use mathlib.Core.Bool.{true, false, ◌&&◌}
+use Rattle.std.proofs.Common.{ℕ, ◌≤◌, ◌<◌, ◌≡◌, sym, ◌∙◌, true, false, ◌&&◌, le-leb, leb-true}
 use lib.Dec.{leb}
-use borrow.Author.Tests.{le-leb, lt-leb, leb-true}
+use borrow.Author.Tests.{lt-leb}
 use Rattle.rows.specs.Limits.{PROCESSES}
 use Rattle.rows.specs.Questions.{is_process_limit}
 use Rattle.rows.proofs.Bools.{and_out}

@@ -1,12 +1,9 @@
 -- Rows in a slice of six numbers each.
-use Prim.Native.Nat.{ℕ, zero, suc, ◌+◌, ◌*◌, ◌/◌, ◌≤◌, ◌<◌}
-use native.Mathlib.Numerals.{add-one, add-two, add-three, add-four, add_five}
-use native.Mathlib.Omega.{arith}
-use mathlib.Core.Path.{◌≡◌, refl, sym, ap, ◌∙◌}
-use mathlib.Core.List.{List, [], ◌∷◌, ◌++◌, append_assoc, append-nil}
-use lib.ListN.{length, get_or, take, drop, set, length-drop, drop_of_length-le}
-use lib.Seq.{take-add, take_at, drop-drop, drop-append-add, sets-eq, get_or-drop}
-use borrow.Author.Tests.{le-leb, lt-leb}
+use Rattle.std.proofs.Common.{ℕ, zero, suc, ◌+◌, ◌*◌, ◌/◌, ◌≤◌, ◌<◌, add-one, arith, ◌≡◌, refl, sym, ap, ◌∙◌, List, [], ◌∷◌, ◌++◌, append_assoc, append-nil, length, take, drop, length-drop, drop_of_length-le, take-add, take_at, drop-drop, get_or-drop, le-leb}
+use native.Mathlib.Numerals.{add-two, add-three, add-four, add_five}
+use lib.ListN.{get_or, set}
+use lib.Seq.{drop-append-add, sets-eq}
+use borrow.Author.Tests.{lt-leb}
 use Rattle.rows.specs.declared.Row.{Row}
 use Rattle.rows.specs.Limits.{FIELDS}
 use Rattle.rows.specs.Rows.{no_row, row_at, six, numbers, row_here, rows_in, row_in, with_row}

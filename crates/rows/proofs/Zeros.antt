@@ -1,10 +1,6 @@
 -- Slices of zeros.
-use Prim.Native.Nat.{ℕ, zero, suc, ◌-◌, ◌≤◌}
-use native.Mathlib.Omega.{arith}
-use mathlib.Core.Path.{◌≡◌, refl, ap, ◌∙◌}
-use mathlib.Core.List.{List, [], ◌++◌, append-nil}
-use lib.ListN.{length, get_or, take, drop, replicate, length-append, length-drop, length-replicate, drop_of_length-le}
-use lib.Seq.{length-take-le, take_at, drop_at, take_all}
+use Rattle.std.proofs.Common.{ℕ, zero, suc, ◌-◌, ◌≤◌, arith, ◌≡◌, refl, ap, ◌∙◌, List, [], ◌++◌, append-nil, length, take, drop, replicate, length-append, length-drop, drop_of_length-le, length-take-le, take_at, drop_at, take_all}
+use lib.ListN.{get_or, length-replicate}
 use borrow.Rule.Slice.PartMut.{put_mid}
 
 -- A list of zeros has 0 at every index, and past its end.

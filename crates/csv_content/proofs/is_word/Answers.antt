@@ -1,9 +1,7 @@
 -- `csv_content::is_word` meets its contract.
 use Rattle.csv_content.proofs.Contents.{content-doubled, content-plain}
 use Rattle.csv_content.specs.Content.{same_bytes}
-use Prim.Native.Nat.{ℕ}
-use mathlib.Core.List.{List}
-use mathlib.Core.Path.{ap, ◌∙◌}
+use Rattle.std.proofs.Common.{ℕ, List, ap, ◌∙◌}
 use Rattle.csv_content.proofs.is_word.Goals as goal
 
 pub returns-then-doubled : goal.returns-then-doubled

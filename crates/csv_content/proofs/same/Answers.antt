@@ -1,17 +1,10 @@
 -- `csv_content::same` meets its contract.
 use Rattle.csv_content.proofs.Contents.{other_length, same-on, same-off, same_ended}
-use mathlib.Core.Path.{refl, sym, ◌∙◌}
-use native.Mathlib.Omega.{arith}
+use Rattle.std.proofs.Common.{sym, ◌∙◌, arith}
 use Rattle.csv_content.proofs.same.Goals as goal
 
 pub returns-then-a-b : goal.returns-then-a-b
 returns-then-a-b c = other_length _ _ (λ e. omega (arith, e, c.if-a-b.true))
-
-pub loop-i-init : goal.loop-i-init
-loop-i-init c = (c.if-a-b.false, refl)
-
-pub bounds-b-i : goal.bounds-b-i
-bounds-b-i c = omega (arith, c.loop-i.invariant.0, c.loop-i-test.true)
 
 pub returns-then-a-i : goal.returns-then-a-i
 returns-then-a-i c =

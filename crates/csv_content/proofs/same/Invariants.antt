@@ -1,8 +1,6 @@
 -- `csv_content::same` meets its contract.
 use Rattle.csv_content.specs.Content.{same_bytes}
-use lib.ListN.{length, drop}
-use Prim.Native.Nat.{◌-◌}
-use mathlib.Core.Path.{◌≡◌}
+use Rattle.std.proofs.Common.{length, drop, ◌-◌, ◌≡◌}
 use Rattle.csv_content.proofs.same.Given as goal
 
 -- The strings have one length, and are the same exactly where they are the same from i on.

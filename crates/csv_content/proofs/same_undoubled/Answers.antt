@@ -1,16 +1,8 @@
 -- `csv_content::same_undoubled` meets its contract.
 use Rattle.csv_content.proofs.Contents.{same-short, same-cons, same-differ, same-nothing, undouble-skip, undouble-keep, undouble-end}
 use Rattle.csv_content.specs.Content.{same_bytes}
-use lib.ListN.{drop}
-use mathlib.Core.List.{List}
-use mathlib.Core.Bool.{false}
-use Prim.Native.Nat.{ℕ}
-use mathlib.Core.Path.{refl, sym, ap, ◌∙◌}
-use native.Mathlib.Omega.{arith}
+use Rattle.std.proofs.Common.{drop, List, ℕ, sym, ap, ◌∙◌, arith}
 use Rattle.csv_content.proofs.same_undoubled.Goals as goal
-
-pub loop-i-init : goal.loop-i-init
-loop-i-init c = (omega arith, refl)
 
 pub loop-i-preserved-then-is_second : goal.loop-i-preserved-then-is_second
 loop-i-preserved-then-is_second c =

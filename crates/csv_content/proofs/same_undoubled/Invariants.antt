@@ -1,9 +1,6 @@
 -- `csv_content::same_undoubled` meets its contract.
 use Rattle.csv_content.specs.Content.{same_bytes, undouble}
-use lib.ListN.{length, drop}
-use mathlib.Core.Bool.{false}
-use Prim.Native.Nat.{◌-◌, ◌≤◌}
-use mathlib.Core.Path.{◌≡◌}
+use Rattle.std.proofs.Common.{length, drop, false, ◌-◌, ◌≤◌, ◌≡◌}
 use Rattle.csv_content.proofs.same_undoubled.Given as goal
 
 -- The content of a is b exactly where the content of a from i on is b from j on.

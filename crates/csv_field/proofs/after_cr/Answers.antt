@@ -1,8 +1,7 @@
 -- `csv_field::after_cr` meets its contract.
 use Rattle.csv_field.specs.declared.Stop.TheVariants.{Bad, Cut}
 use Rattle.csv_field.proofs.Steps.{cr-lf, cr-bad, cr-end}
-use mathlib.Core.Bool.{Bool, cond}
-use mathlib.Core.Path.{sym, ap, ◌∙◌}
+use Rattle.std.proofs.Common.{Bool, cond, sym, ap, ◌∙◌}
 use Rattle.csv_field.proofs.after_cr.Goals as goal
 
 pub returns-then-s-at-eq10 : goal.returns-then-s-at-eq10

@@ -1,14 +1,7 @@
 -- `csv_field::field_at` meets its contract.
 use Rattle.csv_field.proofs.ScannedFields.{field-quoted, field-bare}
-use Rattle.csv_field.proofs.Places.{quote_in}
-use native.Mathlib.Omega.{arith}
-use mathlib.Core.Path.{sym, ◌∙◌}
+use Rattle.std.proofs.Common.{sym, ◌∙◌}
 use Rattle.csv_field.proofs.field_at.Goals as goal
-
-pub overflow_add-at : goal.overflow_add-at
-overflow_add-at c =
-    let a = c.args in
-    omega (arith, quote_in a.s.now a.at (sym c.quote_at.ensures ∙ c.if-quote_at.true))
 
 pub returns-then-quote_at : goal.returns-then-quote_at
 returns-then-quote_at c =

@@ -1,19 +1,8 @@
 -- `csv_field::find_quote` meets its contract.
 use Rattle.csv_field.specs.FieldReading.{quotes}
-use native.Mathlib.Nat.{sub_self}
-use mathlib.Core.Bool.{true, false}
-use lib.ListN.{drop}
-use Prim.Native.Nat.{ℕ, ◌+◌, ◌-◌}
-use borrow.Author.Tests.{eq-eqb, ne_eqb}
+use Rattle.std.proofs.Common.{true, drop, ℕ, ◌+◌, ◌-◌, eq-eqb, ne_eqb, arith, ◌≡◌, sym, ap, ◌∙◌}
 use Rattle.csv_field.proofs.Steps.{quotes_byte, quotes_bad, quotes_two, quotes_close, quotes_end}
-use native.Mathlib.Omega.{arith}
-use mathlib.Core.Path.{◌≡◌, sym, ap, ◌∙◌}
 use Rattle.csv_field.proofs.find_quote.Goals as goal
-
-pub loop-i-init : goal.loop-i-init
-loop-i-init c =
-    let a = c.args in
-    (omega arith, ap (λ (n : ℕ). quotes n false (drop a.at a.s.now)) (sym (sub_self a.at)))
 
 pub returns-then-not-quote_at : goal.returns-then-not-quote_at
 returns-then-not-quote_at c =

@@ -1,9 +1,6 @@
 -- `csv_field::find_quote` meets its contract.
 use Rattle.csv_field.specs.FieldReading.{quotes}
-use mathlib.Core.Bool.{false}
-use lib.ListN.{length, drop}
-use Prim.Native.Nat.{◌-◌, ◌≤◌}
-use mathlib.Core.Path.{◌≡◌}
+use Rattle.std.proofs.Common.{false, length, drop, ◌-◌, ◌≤◌, ◌≡◌}
 use Rattle.csv_field.proofs.find_quote.Given as goal
 
 -- What the bytes from the start on hold is what the bytes from i on hold, with those before i counted.

@@ -1,6 +1,5 @@
 -- `csv_field::is_low_text` meets its contract.
-use mathlib.Core.Path.{sym}
-use native.Mathlib.Omega.{arith}
+use Rattle.std.proofs.Common.{sym, arith}
 use Rattle.csv_field.proofs.Bytes.{not_text, text-bounds, low-text}
 use Rattle.csv_field.proofs.is_low_text.Goals as goal
 

@@ -1,6 +1,6 @@
 -- `csv_field::is_quoted` meets its contract.
 use Rattle.csv_field.proofs.Bytes.{quoted-any, quoted-also, quoted-text}
-use mathlib.Core.Path.{sym, ◌∙◌}
+use Rattle.std.proofs.Common.{sym, ◌∙◌}
 use Rattle.csv_field.proofs.is_quoted.Goals as goal
 
 pub returns-then-is_text : goal.returns-then-is_text

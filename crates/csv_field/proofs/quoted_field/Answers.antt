@@ -1,10 +1,7 @@
 -- `csv_field::quoted_field` meets its contract.
 use Rattle.csv_field.proofs.ScannedFields.{quoted-broken, quoted-open, quoted-closed}
 use Rattle.csv_field.proofs.Runs.{closed_in}
-use lib.ListN.{drop, length-drop}
-use mathlib.Core.Bool.{false}
-use native.Mathlib.Omega.{arith}
-use mathlib.Core.Path.{sym, ◌∙◌}
+use Rattle.std.proofs.Common.{drop, length-drop, false, arith, sym, ◌∙◌}
 use Rattle.csv_field.proofs.quoted_field.Goals as goal
 
 pub overflow_add-end : goal.overflow_add-end

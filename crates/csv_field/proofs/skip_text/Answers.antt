@@ -1,11 +1,7 @@
 -- `csv_field::skip_text` meets its contract.
 use Rattle.csv_field.proofs.Steps.{run_on, run_off, run_end}
-use native.Mathlib.Omega.{arith}
-use mathlib.Core.Path.{refl, sym, ◌∙◌}
+use Rattle.std.proofs.Common.{arith, sym, ◌∙◌}
 use Rattle.csv_field.proofs.skip_text.Goals as goal
-
-pub loop-i-init : goal.loop-i-init
-loop-i-init c = refl
 
 pub returns-then-not-is_text : goal.returns-then-not-is_text
 returns-then-not-is_text c =

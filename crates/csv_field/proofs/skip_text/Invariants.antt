@@ -1,8 +1,6 @@
 -- `csv_field::skip_text` meets its contract.
 use Rattle.csv_field.specs.FieldReading.{text_length}
-use lib.ListN.{length, drop}
-use Prim.Native.Nat.{◌+◌, ◌-◌}
-use mathlib.Core.Path.{◌≡◌}
+use Rattle.std.proofs.Common.{length, drop, ◌+◌, ◌-◌, ◌≡◌}
 use Rattle.csv_field.proofs.skip_text.Given as goal
 
 -- The TEXTDATA from the start on ends where the TEXTDATA from i on ends.

@@ -1,8 +1,7 @@
 -- `csv_field::stop_at` meets its contract.
 use Rattle.csv_field.specs.declared.Stop.TheVariants.{TextEnd, Cut}
 use Rattle.csv_field.proofs.Steps.{stop-comma, stop-cr, stop-bad, stop-end}
-use mathlib.Core.Bool.{Bool, cond}
-use mathlib.Core.Path.{sym, ap, ◌∙◌}
+use Rattle.std.proofs.Common.{Bool, cond, sym, ap, ◌∙◌}
 use Rattle.csv_field.proofs.stop_at.Goals as goal
 
 pub returns-in-44 : goal.returns-in-44

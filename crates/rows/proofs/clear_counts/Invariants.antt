@@ -1,8 +1,5 @@
 -- `rows::clear_counts` meets its contract.
-use lib.ListN.{length, drop, replicate}
-use mathlib.Core.List.{◌++◌}
-use mathlib.Core.Path.{◌≡◌}
-use Prim.Native.Nat.{◌-◌}
+use Rattle.std.proofs.Common.{length, drop, replicate, ◌++◌, ◌≡◌, ◌-◌}
 use Rattle.rows.proofs.clear_counts.Given as goal
 
 -- The counts before index i are 0, and those from i on are as they were lent.

@@ -1,5 +1,5 @@
 -- `rows::row_at` meets its contract.
-use mathlib.Core.Path.{◌∙◌}
+use Rattle.std.proofs.Common.{◌∙◌}
 use Rattle.rows.proofs.Slices.{row-past, row_read}
 use Rattle.rows.proofs.row_at.Goals as goal
 
