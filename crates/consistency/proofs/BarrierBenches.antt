@@ -12,7 +12,7 @@ use Rattle.rows.specs.Questions.{first_no}
 use Rattle.rows.specs.Counting.{any_below, least_from, last_below}
 use Rattle.barriers.specs.Barriers.{all_arrived, goes_on, repeats, out_of_turn, first_out, unfinished, barrier_place}
 use Rattle.happens_before.specs.Order.{last_of, passes, crosses, edge, hb_within}
-use Rattle.races_meaning.specs.Races.{share_byte, conflict, chainPosix, chainCommit, chainSession, chainMpiIo, chain, synchronized, race, Verdict, free, racing, verdict_of}
+use Rattle.races_meaning.specs.Races.{share_byte, conflict, chain_posix, chain_commit, chain_session, chain_mpi_io, chain, synchronized, race, Verdict, free, racing, verdict_of}
 use Rattle.consistency.proofs.BenchVerdicts.{l-head, l-write_ten, l-commit, l-read_ten, in_text, Bench, verdicts, judged}
 
 -- 0,barrier,,,,7
@@ -47,5 +47,5 @@ barrier_verdicts =
     ∷ []
 
 pub barrier_bench : map judged barrier_traces ≡ barrier_verdicts
-unfolding records records_from on_found read_at fields_from on_stop prepend field_at after_cr stop_of text_length is_text content_of same_bytes word_of same_fields used_by all_digits starts_plain value_from row_of first_no call_questions filled_as_used numbers_in_range any message_in_order wait_in_order field_questions record_questions row_questions message_questions judge_rows judge_header read_records all_arrived goes_on repeats out_of_turn first_out unfinished barrier_place ask_barriers read_trace check_trace any_below last_below last_of passes crosses edge hb_within share_byte conflict chainPosix chainCommit chainSession chainMpiIo chain synchronized race least_from verdict_of verdicts judged barrier_traces in_text l-head l-write_ten l-commit l-read_ten l-arrive l-other_arrive commit-before commit-between commit-behind
+unfolding records records_from on_found read_at fields_from on_stop prepend field_at after_cr stop_of text_length is_text content_of same_bytes word_of same_fields used_by all_digits starts_plain value_from row_of first_no call_questions filled_as_used numbers_in_range any message_in_order wait_in_order field_questions record_questions row_questions message_questions judge_rows judge_header read_records all_arrived goes_on repeats out_of_turn first_out unfinished barrier_place ask_barriers read_trace check_trace any_below last_below last_of passes crosses edge hb_within share_byte conflict chain_posix chain_commit chain_session chain_mpi_io chain synchronized race least_from verdict_of verdicts judged barrier_traces in_text l-head l-write_ten l-commit l-read_ten l-arrive l-other_arrive commit-before commit-between commit-behind
 barrier_bench = refl

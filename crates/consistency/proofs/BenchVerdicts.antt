@@ -2,7 +2,7 @@
 use Prim.Native.Nat.{ℕ}
 use mathlib.Core.Path.{◌≡◌, refl}
 use mathlib.Core.List.{List, [], ◌∷◌, ◌++◌, map}
-use Rattle.csv_field.specs.FieldReading.{field_at, quoted_to, quotes, afterQuote, after_cr, stop_of, text_length, is_text, is_quoted}
+use Rattle.csv_field.specs.FieldReading.{field_at, quoted_to, quotes, after_quote, after_cr, stop_of, text_length, is_text, is_quoted}
 use Rattle.csv_content.specs.Content.{content_of, undouble, same_bytes}
 use Rattle.csv_records.specs.Reading.{records, records_from, on_found, read_at, fields_from, on_stop, prepend}
 use Rattle.trace.specs.Rows.{word_of, same_fields, used_by, all_digits, starts_plain, value_from, row_of}
@@ -11,7 +11,7 @@ use Rattle.rows.specs.Questions.{first_no}
 use Rattle.rows.specs.Counting.{any_below, least_from, last_below}
 use Rattle.barriers.specs.Barriers.{goes_on, repeats, out_of_turn, first_out, unfinished, barrier_place}
 use Rattle.happens_before.specs.Order.{last_of, passes, crosses, edge, hb_within}
-use Rattle.races_meaning.specs.Races.{share_byte, conflict, chainPosix, chainCommit, chainSession, chainMpiIo, chain, synchronized, race, Verdict, free, racing, verdict_of}
+use Rattle.races_meaning.specs.Races.{share_byte, conflict, chain_posix, chain_commit, chain_session, chain_mpi_io, chain, synchronized, race, Verdict, free, racing, verdict_of}
 
 -- ---- Lines, without their line ends
 
@@ -171,5 +171,5 @@ expected =
     ∷ []
 
 pub bench-verdicts : map judged traces ≡ expected
-unfolding records records_from on_found read_at fields_from on_stop prepend field_at quoted_to quotes afterQuote after_cr stop_of text_length is_text is_quoted content_of undouble same_bytes word_of same_fields used_by all_digits starts_plain value_from row_of first_no call_questions filled_as_used numbers_in_range any message_in_order wait_in_order field_questions record_questions row_questions message_questions judge_rows judge_header read_records goes_on repeats out_of_turn first_out unfinished barrier_place ask_barriers read_trace check_trace any_below last_below last_of passes crosses edge hb_within share_byte conflict chainPosix chainCommit chainSession chainMpiIo chain synchronized race least_from verdict_of verdicts judged traces in_text l-head l-write_ten l-commit l-send l-recv l-wait l-read_ten l-read_behind l-close l-open l-read_first l-write_there l-own_read l-write_one l-other_write l-write_none a b b-wait c d e f g h i j l
+unfolding records records_from on_found read_at fields_from on_stop prepend field_at quoted_to quotes after_quote after_cr stop_of text_length is_text is_quoted content_of undouble same_bytes word_of same_fields used_by all_digits starts_plain value_from row_of first_no call_questions filled_as_used numbers_in_range any message_in_order wait_in_order field_questions record_questions row_questions message_questions judge_rows judge_header read_records goes_on repeats out_of_turn first_out unfinished barrier_place ask_barriers read_trace check_trace any_below last_below last_of passes crosses edge hb_within share_byte conflict chain_posix chain_commit chain_session chain_mpi_io chain synchronized race least_from verdict_of verdicts judged traces in_text l-head l-write_ten l-commit l-send l-recv l-wait l-read_ten l-read_behind l-close l-open l-read_first l-write_there l-own_read l-write_one l-other_write l-write_none a b b-wait c d e f g h i j l
 bench-verdicts = refl

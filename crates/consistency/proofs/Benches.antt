@@ -18,7 +18,7 @@ use Rattle.rows.specs.Counting.{any_below, least_from, last_below}
 use Rattle.barriers.specs.Barriers.{goes_on, repeats, out_of_turn, first_out, unfinished, barrier_place}
 use Rattle.happens_before.specs.Order.{last_of, passes, crosses, edge, hb_within}
 use Rattle.consistency.proofs.BenchVerdicts.{judged, traces, expected, bench-verdicts}
-use Rattle.races_meaning.specs.Races.{share_byte, conflict, chainCommit, chain, synchronized, race, racing, verdict_of}
+use Rattle.races_meaning.specs.Races.{share_byte, conflict, chain_commit, chain, synchronized, race, racing, verdict_of}
 use Rattle.extents_meaning.specs.Cells.{Bytes, cell_of}
 use Rattle.extents_meaning.specs.Runs.{Run, run_of, cell_at, Lawful}
 use Rattle.extents_meaning.specs.Maps.{map_of, map_for, map_at}
@@ -28,7 +28,7 @@ use Rattle.machine_meaning.specs.States.{Header}
 use Rattle.machine_meaning.proofs.Points.{fresh-pointed, plain-pointed}
 use Rattle.machine_meaning.proofs.Slices.{to-shared, plain-first, layers_held, plain-held}
 use Rattle.consistency.specs.Orders.{places_below, trace_order}
-use Rattle.consistency.specs.Files.{NumberedRow, rows_for, run_from, plainRunFrom, writes_in, header_for, Lent, fresh_machine, fresh_plain}
+use Rattle.consistency.specs.Files.{NumberedRow, rows_for, run_from, plain_run_from, writes_in, header_for, Lent, fresh_machine, fresh_plain}
 use Rattle.consistency.proofs.Meaning.{layers_run, plain_run}
 use Rattle.consistency.proofs.Orderings.{trace_order_lem}
 use Rattle.consistency.proofs.Encoding.{Made, AllFit, Enough, made-fresh, plain-made_fresh, run_pointed, plain_run-pointed, run_to, plain_run-to}
@@ -62,7 +62,7 @@ pub record K : Type 0 where
       map_at k_header.space 0 (run_from k_header out (rows_for k_rows 1 (trace_order k_rows)) (fresh_machine k_header xs))
       ≡ map_of k_header.space (run_of 0 10 (cell_of 1 0) ∷ [])
   pub plain : (xs ys out : List ℕ) → Lent k_header k_rows xs ys out →
-      map_at k_header.space 0 (plainRunFrom k_header out (rows_for k_rows 1 (trace_order k_rows)) (fresh_plain k_header ys))
+      map_at k_header.space 0 (plain_run_from k_header out (rows_for k_rows 1 (trace_order k_rows)) (fresh_plain k_header ys))
       ≡ map_of k_header.space (run_of 0 5 (cell_of 1 0) ∷ (run_of 5 5 (cell_of 2 0) ∷ []))
 
 -- ---- From the text to the verdict
@@ -76,7 +76,7 @@ k_taken = refl
 
 -- Rows 1 and 2 race.
 k_judged : verdict_of k_rows COMMIT_MODEL ≡ racing 1 2
-unfolding any_below last_below last_of passes crosses edge hb_within share_byte conflict chainCommit chain synchronized race least_from verdict_of
+unfolding any_below last_below last_of passes crosses edge hb_within share_byte conflict chain_commit chain synchronized race least_from verdict_of
 k_judged = refl
 
 -- ---- No row is refused
@@ -112,9 +112,9 @@ module _ (xs ys out : List ℕ) (lent : Lent k_header k_rows xs ys out) where
       ∙ to-shared k_header (layers_held k_header (points_length k_rows) (run_pointed k_header k_run k_fits fresh-pointed)) xs
 
   -- The plain map is that of the plain bytes.
-  k_plain-map : map_at k_header.space 0 (plainRunFrom k_header out k_run (fresh_plain k_header ys)) ≡ map_for k_header.space (plain_run k_run nothing)
+  k_plain-map : map_at k_header.space 0 (plain_run_from k_header out k_run (fresh_plain k_header ys)) ≡ map_for k_header.space (plain_run k_run nothing)
   k_plain-map =
-      ap (λ (zs : List ℕ). map_at k_header.space 0 (plainRunFrom k_header out k_run zs)) (plain-made_fresh k_made lent)
+      ap (λ (zs : List ℕ). map_at k_header.space 0 (plain_run_from k_header out k_run zs)) (plain-made_fresh k_made lent)
       ∙ ap (map_at k_header.space 0) (plain_run-to k_made k_enough lent k_run k_fits plain-pointed)
       ∙ plain-first k_header (plain-held k_header (points_length k_rows) (plain_run-pointed k_header k_run k_fits plain-pointed)) ys
 

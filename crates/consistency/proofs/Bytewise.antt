@@ -59,9 +59,9 @@ module _ {s : Layers} {b : ℕ} {c : Byte} (a : At s b c) where
           }
 
   -- Publishing publishes each byte.
-  publish_at : (p : ℕ) → At (publishing p s) b (publish_byte p c)
+  publish_at_lem : (p : ℕ) → At (publishing p s) b (publish_byte p c)
   unfolding publish_byte
-  publish_at p =
+  publish_at_lem p =
       record {
         shared = rw (a.marks p) (cond_shows number_in (c.unpublished p) (cleared v) (s.shared b) number a.shared);
         view = view-same number_in b p (as_published (s.view p)) s.view a.view number;
@@ -80,9 +80,9 @@ module _ {s : Layers} {b : ℕ} {c : Byte} (a : At s b c) where
       no_mark false = a.no_mark
 
   -- Refreshing refreshes each byte.
-  refresh_at : (p : ℕ) → At (refreshing p s) b (refresh_byte p c)
+  refresh_at_lem : (p : ℕ) → At (refreshing p s) b (refresh_byte p c)
   unfolding refresh_byte
-  refresh_at p =
+  refresh_at_lem p =
       record {
         shared = a.shared;
         view = view-put number_in b p own s.view a.view (rw (a.marks p) (cond_shows number_in (c.unpublished p) v _ (a.view p) a.shared));
@@ -108,24 +108,24 @@ module _ {s : Layers} {b : ℕ} {c : Byte} (a : At s b c) where
 
   -- Publishing that a test decides publishes each byte.
   may_publish-at : (p : ℕ) (x : Bool) → At (cond x (publishing p s) s) b (cond x (publish_byte p c) c)
-  may_publish-at p true = publish_at p
+  may_publish-at p true = publish_at_lem p
   may_publish-at p false = a
 
   -- Refreshing that a test decides refreshes each byte.
   may_refresh-at : (p : ℕ) (x : Bool) → At (cond x (refreshing p s) s) b (cond x (refresh_byte p c) c)
-  may_refresh-at p true = refresh_at p
+  may_refresh-at p true = refresh_at_lem p
   may_refresh-at p false = a
 
 -- ---- A row that the files get if a test passes
 
 module _ (model : ℕ) (r : Row) (number : ℕ) where
   -- The layered file then.
-  abbrev layersNext : Bool → Layers → Layers
-  layersNext x s = cond x (after_row model r number s) s
+  abbrev layers_next : Bool → Layers → Layers
+  layers_next x s = cond x (after_row model r number s) s
 
   -- The plain file then.
-  abbrev plainNext : Bool → Bytes → Bytes
-  plainNext x f = cond x (after_plain r number f) f
+  abbrev plain_next : Bool → Bytes → Bytes
+  plain_next x f = cond x (after_plain r number f) f
 
   -- The list of rows with this row before the others.
   abbrev kept : Bool → List NumberedRow → List NumberedRow
@@ -133,7 +133,7 @@ module _ (model : ℕ) (r : Row) (number : ℕ) where
 
   -- Each byte gets what the row does to it.
   step-at : (x : Bool) {s : Layers} {b : ℕ} {c : Byte} → At s b c →
-      At (layersNext x s) b
+      At (layers_next x s) b
       (step_byte (eqb r.kind WRITE && (x && in_range r.offset r.length b)) (x && publishes model r.kind) (x && refreshes model r.kind)
       r.process number c)
   unfolding after_row
@@ -145,7 +145,7 @@ module _ (model : ℕ) (r : Row) (number : ℕ) where
 
   -- Each plain byte gets the row's number if the row writes the byte.
   plain-step_at : (x : Bool) (b n : ℕ) (f : Bytes) → number_in (f b) ≡ n →
-      number_in (plainNext x f b) ≡ cond (eqb r.kind WRITE && (x && in_range r.offset r.length b)) number n
+      number_in (plain_next x f b) ≡ cond (eqb r.kind WRITE && (x && in_range r.offset r.length b)) number n
   unfolding after_plain
   plain-step_at false b n f e = rw and-false e
   plain-step_at true b n f e = go (eqb r.kind WRITE)
@@ -157,13 +157,13 @@ module _ (model : ℕ) (r : Row) (number : ℕ) where
       go false = e
 
   -- A layered run with this row first is the run of the others after it.
-  layers_kept : (x : Bool) (l : List NumberedRow) (s : Layers) → layers_run model (kept x l) s ≡ layers_run model l (layersNext x s)
+  layers_kept : (x : Bool) (l : List NumberedRow) (s : Layers) → layers_run model (kept x l) s ≡ layers_run model l (layers_next x s)
   unfolding layers_run
   layers_kept true l s = refl
   layers_kept false l s = refl
 
   -- A plain run with this row first is the run of the others after it.
-  plain-kept : (x : Bool) (l : List NumberedRow) (f : Bytes) → plain_run (kept x l) f ≡ plain_run l (plainNext x f)
+  plain-kept : (x : Bool) (l : List NumberedRow) (f : Bytes) → plain_run (kept x l) f ≡ plain_run l (plain_next x f)
   unfolding plain_run
   plain-kept true l f = refl
   plain-kept false l f = refl
@@ -171,7 +171,7 @@ module _ (model : ℕ) (r : Row) (number : ℕ) where
   -- Reads of a run with this row first find the same just where this row does, if it reads, and the others do after it.
   reads_kept : (x : Bool) (l : List NumberedRow) (s : Layers) (f : Bytes) →
       ReadsSame model (kept x l) s f
-      ↔ ((x ≡ true → ReadSame r (layersNext x s) (plainNext x f)) × ReadsSame model l (layersNext x s) (plainNext x f))
+      ↔ ((x ≡ true → ReadSame r (layers_next x s) (plain_next x f)) × ReadsSame model l (layers_next x s) (plain_next x f))
   reads_kept true l s f = (λ w. (λ e. w.0, w.1), λ w. (w.0 refl, w.1))
   reads_kept false l s f = (λ w. (λ e. absurd (false≢true e), w), λ w. w.1)
 
@@ -183,12 +183,12 @@ module _ (rows : List Row) (model file : ℕ) where
   rows_at b = byte_trace rows model file b
 
   -- The layered file after one more row.
-  abbrev layersThen : ℕ → Layers → Layers
-  layersThen k s = layersNext model (row_at rows k) (suc k) (of_file file (row_at rows k)) s
+  abbrev layers_then : ℕ → Layers → Layers
+  layers_then k s = layers_next model (row_at rows k) (suc k) (of_file file (row_at rows k)) s
 
   -- The plain file after one more row.
-  abbrev plainThen : ℕ → Bytes → Bytes
-  plainThen k f = plainNext model (row_at rows k) (suc k) (of_file file (row_at rows k)) f
+  abbrev plain_then : ℕ → Bytes → Bytes
+  plain_then k f = plain_next model (row_at rows k) (suc k) (of_file file (row_at rows k)) f
 
   -- Both files are at each byte as its run of these rows leaves it, the latest row first.
   abbrev Reached : List ℕ → Layers → Bytes → Type 0
@@ -200,7 +200,7 @@ module _ (rows : List Row) (model file : ℕ) where
   reached-fresh b = (record { shared = refl; view = λ p. refl; marks = λ p. refl; no_mark = refl }, refl)
 
   -- Files that are reached are reached after one more row.
-  reached-next : (h : List ℕ) (s : Layers) (f : Bytes) → Reached h s f → (k : ℕ) → Reached (k ∷ h) (layersThen k s) (plainThen k f)
+  reached-next : (h : List ℕ) (s : Layers) (f : Bytes) → Reached h s f → (k : ℕ) → Reached (k ∷ h) (layers_then k s) (plain_then k f)
   unfolding run plain
   reached-next h s f at k b =
       let r = row_at rows k in
@@ -213,7 +213,7 @@ module _ (rows : List Row) (model file : ℕ) where
   reached-all [] h s f at b = at b
   reached-all (k ∷ order) h s f at b =
       let r = row_at rows k in
-      let w = reached-all order (k ∷ h) (layersThen k s) (plainThen k f) (reached-next h s f at k) b in (
+      let w = reached-all order (k ∷ h) (layers_then k s) (plain_then k f) (reached-next h s f at k) b in (
         rw (layers_kept model r (suc k) (of_file file r) (rows_for rows file order) s) w.0,
         rw (plain-kept model r (suc k) (of_file file r) (rows_for rows file order) f) w.1,
       )
@@ -231,17 +231,17 @@ module _ (rows : List Row) (model file : ℕ) where
 
   module _ (h : List ℕ) (s : Layers) (f : Bytes) (at : Reached h s f) (k : ℕ) where
     -- What the next row sees in its view.
-    next-view : (b : ℕ) → number_in ((layersThen k s).view (row_at rows k).process b) ≡ (run (rows_at b) (k ∷ h)).view (row_at rows k).process
+    next-view : (b : ℕ) → number_in ((layers_then k s).view (row_at rows k).process b) ≡ (run (rows_at b) (k ∷ h)).view (row_at rows k).process
     next-view b = (reached-next h s f at k b).0.view (row_at rows k).process
 
     -- A read leaves the plain byte.
-    next-plain : (b : ℕ) → (rows_at b).reads k ≡ true → number_in (plainThen k f b) ≡ plain (rows_at b) h
+    next-plain : (b : ℕ) → (rows_at b).reads k ≡ true → number_in (plain_then k f b) ≡ plain (rows_at b) h
     unfolding plain
     next-plain b c = (reached-next h s f at k b).1 ∙ rw ((rows_at b).one-kind k c)
 
     -- Reads find the same just where the next row finds the plain byte at each byte and the others find the same after it.
     reads-next : (order : List ℕ) →
-        ReadsSame model (rows_for rows file (k ∷ order)) s f ↔ (Found h k × ReadsSame model (rows_for rows file order) (layersThen k s) (plainThen k f))
+        ReadsSame model (rows_for rows file (k ∷ order)) s f ↔ (Found h k × ReadsSame model (rows_for rows file order) (layers_then k s) (plain_then k f))
     unfolding rows_for
     reads-next order = (λ w. let e = all.0 w in (out e.0, e.1), λ w. all.1 (back w.0, w.1))
       where
@@ -249,17 +249,17 @@ module _ (rows : List Row) (model file : ℕ) where
         r = row_at rows k
 
         all : ReadsSame model (rows_for rows file (k ∷ order)) s f
-            ↔ ((of_file file r ≡ true → ReadSame r (layersThen k s) (plainThen k f))
-            × ReadsSame model (rows_for rows file order) (layersThen k s) (plainThen k f))
+            ↔ ((of_file file r ≡ true → ReadSame r (layers_then k s) (plain_then k f))
+            × ReadsSame model (rows_for rows file order) (layers_then k s) (plain_then k f))
         all = reads_kept model r (suc k) (of_file file r) (rows_for rows file order) s f
 
-        out : (of_file file r ≡ true → ReadSame r (layersThen k s) (plainThen k f)) → Found h k
+        out : (of_file file r ≡ true → ReadSame r (layers_then k s) (plain_then k f)) → Found h k
         out same b c =
             let x = and_out (eqb r.kind READ) _ c in
             let y = and_out (of_file file r) _ x.1 in
             sym (next-view b) ∙ same y.0 x.0 b y.1 ∙ next-plain b c
 
-        back : Found h k → of_file file r ≡ true → ReadSame r (layersThen k s) (plainThen k f)
+        back : Found h k → of_file file r ≡ true → ReadSame r (layers_then k s) (plain_then k f)
         back found o q b i = let c : covers READ file b r ≡ true = rw (q, o) i in next-view b ∙ found b c ∙ sym (next-plain b c)
 
   -- From any files that are reached, reads find the same where each byte's reads find the plain byte.
@@ -311,7 +311,7 @@ ends_read kind model file (e ∷ ends) n s f = (λ q. absurd (n (eqb-true kind R
 row-at : (model : ℕ) (r : Row) (number : ℕ) → (r.kind ≡ WRITE → ⊥) → publishes model r.kind ≡ true → refreshes model r.kind ≡ false →
     {s : Layers} {b : ℕ} {c : Byte} → At s b c → At (after_row model r number s) b (publish_byte r.process c)
 unfolding after_row
-row-at model r number n u f a = rw (ne_eqb r.kind WRITE n, u, f) (publish_at a r.process)
+row-at model r number n u f a = rw (ne_eqb r.kind WRITE n, u, f) (publish_at_lem a r.process)
 
 -- Rows of such a kind publish, one process after the other.
 pub ends_at : (kind model file : ℕ) → (kind ≡ WRITE → ⊥) → publishes model kind ≡ true → refreshes model kind ≡ false →

@@ -19,7 +19,7 @@ use Rattle.rows.proofs.Bools.{and_out}
 use Rattle.extents_meaning.specs.Cells.{in_range}
 use Rattle.machine_meaning.specs.Layers.{of_file}
 use Rattle.races_meaning.specs.Races.{same_file, chain}
-use Rattle.races_meaning.specs.TableChain.{publishedBy, refreshedBy, tableChain}
+use Rattle.races_meaning.specs.TableChain.{published_by, refreshed_by, table_chain}
 use Rattle.races_meaning.proofs.Chains.{HB-in, two-iff, table-chain}
 use Rattle.consistency.proofs.Core.{Published, Refreshed, Chain}
 use Rattle.consistency.proofs.Meaning.{covers, covers-kind, byte_trace}
@@ -120,32 +120,32 @@ module _ (mark : ℕ → Bool) (file : ℕ) (r s : Row) where
 
 module _ (rows : List Row) (model file b x y : ℕ) (in-x : (row_at rows x).file ≡ file) (in-y : (row_at rows y).file ≡ file) where
   -- A row publishes the write x.
-  published-iff : (c : ℕ) → (publishedBy rows model x c ≡ true) ↔ Published (byte_trace rows model file b) x c
-  unfolding publishedBy
+  published-iff : (c : ℕ) → (published_by rows model x c ≡ true) ↔ Published (byte_trace rows model file b) x c
+  unfolding published_by
   published-iff c =
       done-iff (publishes model) file (row_at rows x) (row_at rows c) (send_unpublished model) in-x (publishes model WRITE) c x x c
 
   -- A row refreshes for y.
-  refreshed-iff : (o : ℕ) → (refreshedBy rows model y o ≡ true) ↔ Refreshed (byte_trace rows model file b) y o
-  unfolding refreshedBy
+  refreshed-iff : (o : ℕ) → (refreshed_by rows model y o ≡ true) ↔ Refreshed (byte_trace rows model file b) y o
+  unfolding refreshed_by
   refreshed-iff o =
       done-iff (refreshes model) file (row_at rows y) (row_at rows o) (send_unrefreshed model) in-y (refreshes model READ) o y o y
 
   -- The model's chain is the one that a byte of the rows' file sees.
   pub chain_iff : model < MODELS → x < length rows → y < length rows → (chain rows model x y ≡ true) ↔ Chain (byte_trace rows model file b) x y
-  unfolding tableChain
+  unfolding table_chain
   chain_iff h k l = (there, back)
     where
-      same : tableChain rows model x y ≡ chain rows model x y
+      same : table_chain rows model x y ≡ chain rows model x y
       same = table-chain rows x y model h k l
 
       there : chain rows model x y ≡ true → Chain (byte_trace rows model file b) x y
       there e =
-          let r = (two-iff rows (length rows) (publishedBy rows model x) (refreshedBy rows model y)).0 (same ∙ e) in
+          let r = (two-iff rows (length rows) (published_by rows model x) (refreshed_by rows model y)).0 (same ∙ e) in
           (r.0, r.1, (published-iff r.0).0 r.2, (refreshed-iff r.1).0 r.4, r.5)
 
       back : Chain (byte_trace rows model file b) x y → chain rows model x y ≡ true
       back (c, o, p, r, before) =
           sym same
-          ∙ (two-iff rows (length rows) (publishedBy rows model x) (refreshedBy rows model y)).1
+          ∙ (two-iff rows (length rows) (published_by rows model x) (refreshed_by rows model y)).1
           (c, o, (published-iff c).1 p, HB-in rows before, (refreshed-iff o).1 r, before)

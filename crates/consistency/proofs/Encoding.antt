@@ -25,7 +25,7 @@ use Rattle.rows.proofs.Asking.{AllYes}
 use Rattle.machine_meaning.proofs.Stepping.{step-held, plain-step-held}
 use Rattle.machine_meaning.proofs.Making.{making-yes, making_fresh, plain-making-yes, plain-making_fresh}
 use Rattle.rows.specs.Lists.{In}
-use Rattle.consistency.specs.Files.{NumberedRow, Agree, run_from, plainRunFrom, Level, writes_in, SpaceFor, Lent, fresh_machine, fresh_plain}
+use Rattle.consistency.specs.Files.{NumberedRow, Agree, run_from, plain_run_from, Level, writes_in, SpaceFor, Lent, fresh_machine, fresh_plain}
 use Rattle.consistency.proofs.Meaning.{layers_run, plain_run, ReadsSame}
 use Rattle.consistency.proofs.Answers.{same-iff}
 
@@ -170,11 +170,11 @@ module _ {h : Header} (made : Made h) {rows : List Row} {points : List ℕ} (eno
       ap (λ (s : Step). run_from h out l s.maps) (machine-step fit k) ∙ run_to l fits (row-pointed (row-writing fit) h.model k)
 
   pub plain_run-to : (l : List NumberedRow) → AllFit h points l → {f : Bytes} → PlainPointed points f →
-      plainRunFrom h out l (plain_to h f ys) ≡ plain_to h (plain_run l f) ys
-  unfolding plainRunFrom plain_run
+      plain_run_from h out l (plain_to h f ys) ≡ plain_to h (plain_run l f) ys
+  unfolding plain_run_from plain_run
   plain_run-to [] fits k = refl
   plain_run-to (x ∷ l) (fit, fits) k =
-      ap (λ (s : Step). plainRunFrom h out l s.maps) (plain_step fit k) ∙ plain_run-to l fits (plain-row-pointed (row-writing fit) k)
+      ap (λ (s : Step). plain_run_from h out l s.maps) (plain_step fit k) ∙ plain_run-to l fits (plain-row-pointed (row-writing fit) k)
 
   module _ (l : List NumberedRow) (fit : AllFit h points l) where
     -- Every row gets the same from both exactly when every read finds the same numbers.
@@ -188,13 +188,13 @@ module _ {h : Header} (made : Made h) {rows : List Row} {points : List ℕ} (eno
         ∙ ap (λ (zs : List ℕ). (layers_in h zs).shared) (run_to l fit fresh-pointed)
         ∙ (to_in h (layers_held h (in_space enough) (run_pointed h l fit fresh-pointed)) xs).shared
 
-    plain-run-bytes : plain_in h (plainRunFrom h out l (fresh_plain h ys)) ≡ plain_run l nothing
+    plain-run-bytes : plain_in h (plain_run_from h out l (fresh_plain h ys)) ≡ plain_run l nothing
     plain-run-bytes =
-        ap (λ (zs : List ℕ). plain_in h (plainRunFrom h out l zs)) (plain-made_fresh made lent)
+        ap (λ (zs : List ℕ). plain_in h (plain_run_from h out l zs)) (plain-made_fresh made lent)
         ∙ ap (plain_in h) (plain_run-to l fit plain-pointed)
         ∙ plain_in_lem h (plain-held h (in_space enough) (plain_run-pointed h l fit plain-pointed)) ys
 
     -- The published file is the plain one exactly when the bytes are.
-    pub level-iff : Level h (run_from h out l (fresh_machine h xs)) (plainRunFrom h out l (fresh_plain h ys))
+    pub level-iff : Level h (run_from h out l (fresh_machine h xs)) (plain_run_from h out l (fresh_plain h ys))
         ↔ ((b : ℕ) → b < OFFSET_MAX → number_in ((layers_run h.model l fresh).shared b) ≡ number_in (plain_run l nothing b))
     level-iff = rw (run-bytes, plain-run-bytes) Iff.rfl

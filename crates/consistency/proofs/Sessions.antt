@@ -23,7 +23,7 @@ use Rattle.barriers.specs.Barriers.{goes_on, repeats, out_of_turn, first_out, un
 use Rattle.happens_before.specs.Order.{delivers, last_of, last_before, passes, crosses, edge, hb_within}
 use Rattle.rows.specs.Rows.{row_at}
 use Rattle.happens_before.proofs.Clocks.{edge-forward, edge_by, program-order, message-order, passes-kind}
-use Rattle.races_meaning.specs.Races.{share_byte, conflict, chainCommit, chainSession, chain, synchronized, race, free, racing, verdict_of}
+use Rattle.races_meaning.specs.Races.{share_byte, conflict, chain_commit, chain_session, chain, synchronized, race, free, racing, verdict_of}
 use Rattle.extents_meaning.specs.Cells.{number_in}
 use Rattle.machine_meaning.specs.Layers.{Layers, fresh, nothing, of_file}
 use Rattle.machine_meaning.specs.States.{Header}
@@ -76,7 +76,7 @@ s_taken = refl
 
 -- Rows 1 and 6 race.
 s_judged : verdict_of s_rows SESSION ≡ racing 1 6
-unfolding any_below edge share_byte conflict chainSession chain synchronized race least_from verdict_of
+unfolding any_below edge share_byte conflict chain_session chain synchronized race least_from verdict_of
 s_judged = refl
 
 -- ---- The trace with commits for its closes is free under commit
@@ -90,7 +90,7 @@ c_rows =
 
 -- The rows with commits for closes are free under commit.
 c-judged : verdict_of c_rows COMMIT_MODEL ≡ free
-unfolding any_below last_below last_of passes crosses edge hb_within share_byte conflict chainCommit chain synchronized race least_from verdict_of
+unfolding any_below last_below last_of passes crosses edge hb_within share_byte conflict chain_commit chain synchronized race least_from verdict_of
 c-judged = refl
 
 -- ---- Every byte sees both traces alike

@@ -19,29 +19,29 @@ use Rattle.consistency.proofs.Selections.{select, select_in, select-out, select-
 
 module _ (t : Trace) where
   -- A row is x or y or happens before one of them.
-  abbrev pub eitherUpTo : ℕ → ℕ → ℕ → Bool
-  eitherUpTo x y k = up_to t.edge k x || up_to t.edge k y
+  abbrev pub either_up_to : ℕ → ℕ → ℕ → Bool
+  either_up_to x y k = up_to t.edge k x || up_to t.edge k y
 
   -- A row happens before x, or is y or happens before y. Row x is none of these where x does not happen before y.
-  abbrev pub otherUpTo : ℕ → ℕ → ℕ → Bool
-  otherUpTo x y k = hb t.edge k x || up_to t.edge k y
+  abbrev pub other_up_to : ℕ → ℕ → ℕ → Bool
+  other_up_to x y k = hb t.edge k x || up_to t.edge k y
 
   -- The rows up to x or y, in trace order.
   abbrev pub in_turn : ℕ → ℕ → List ℕ
-  in_turn x y = select (eitherUpTo x y) t.rows
+  in_turn x y = select (either_up_to x y) t.rows
 
   -- The rows up to x or y, with x put last.
-  abbrev pub putLast : ℕ → ℕ → List ℕ
-  putLast x y = x ∷ select (otherUpTo x y) t.rows
+  abbrev pub put_last : ℕ → ℕ → List ℕ
+  put_last x y = x ∷ select (other_up_to x y) t.rows
 
   -- For a write x and a read y, by the number of the last write in turn: where it is of another process than x, the order for x and that write.
-  abbrev pub inTurnFor : ℕ → ℕ → ℕ → List ℕ
-  inTurnFor x y zero = in_turn x y
-  inTurnFor x y (suc w) = cond (eqb (t.process w) (t.process x)) (in_turn x y) (in_turn x w)
+  abbrev pub in_turn_for : ℕ → ℕ → ℕ → List ℕ
+  in_turn_for x y zero = in_turn x y
+  in_turn_for x y (suc w) = cond (eqb (t.process w) (t.process x)) (in_turn x y) (in_turn x w)
 
   -- The order that shows a race of x and y.
   unfoldable pub witness : ℕ → ℕ → List ℕ
-  witness x y = cond (t.writes x) (cond (t.writes y) (in_turn x y) (inTurnFor x y (plain t (in_turn x y)))) (putLast x y)
+  witness x y = cond (t.writes x) (cond (t.writes y) (in_turn x y) (in_turn_for x y (plain t (in_turn x y)))) (put_last x y)
 
   -- ---- The order is allowed
 
@@ -82,20 +82,20 @@ module _ (t : Trace) where
       go (inr b) = HB-trans (one a) b
 
   -- The first of the rows in turn are an allowed order.
-  first-ok : (x y n : ℕ) → n ≤ t.rows → Ok t (select (eitherUpTo x y) n)
-  first-ok x y = select-ok t (eitherUpTo x y) (closed-or t _ _ (closed-up_to x) (closed-up_to y))
+  first-ok : (x y n : ℕ) → n ≤ t.rows → Ok t (select (either_up_to x y) n)
+  first-ok x y = select-ok t (either_up_to x y) (closed-or t _ _ (closed-up_to x) (closed-up_to y))
 
   -- All rows in turn are an allowed order.
   in_turn_ok : (x y : ℕ) → Ok t (in_turn x y)
   in_turn_ok x y = first-ok x y t.rows (omega arith)
 
   -- The rows in turn without x are an allowed order.
-  others-ok : (x y : ℕ) → Ok t (select (otherUpTo x y) t.rows)
-  others-ok x y = select-ok t (otherUpTo x y) (closed-or t _ _ (closed-hb x) (closed-up_to y)) t.rows (omega arith)
+  others-ok : (x y : ℕ) → Ok t (select (other_up_to x y) t.rows)
+  others-ok x y = select-ok t (other_up_to x y) (closed-or t _ _ (closed-hb x) (closed-up_to y)) t.rows (omega arith)
 
   -- Row x is not among the rows in turn without x.
-  others-new : (x y : ℕ) → x < y → (HB t.edge x y → ⊥) → In x (select (otherUpTo x y) t.rows) → ⊥
-  others-new x y l n m = go (or_out (hb t.edge x x) _ (select-out (otherUpTo x y) t.rows x m).1)
+  others-new : (x y : ℕ) → x < y → (HB t.edge x y → ⊥) → In x (select (other_up_to x y) t.rows) → ⊥
+  others-new x y l n m = go (or_out (hb t.edge x x) _ (select-out (other_up_to x y) t.rows x m).1)
     where
       same : (x ≡ y) ⊎ HB t.edge x y → ⊥
       same (inl e) = omega arith
@@ -106,13 +106,13 @@ module _ (t : Trace) where
       go (inr e) = same ((up_to-iff x y).0 e)
 
   -- The direct predecessors of x are among the rows in turn without x.
-  others-before : (x y : ℕ) → x < t.rows → (k : ℕ) → t.edge k x ≡ true → In k (select (otherUpTo x y) t.rows)
+  others-before : (x y : ℕ) → x < t.rows → (k : ℕ) → t.edge k x ≡ true → In k (select (other_up_to x y) t.rows)
   others-before x y b k a =
       let l : k < t.rows = omega (arith, t.forward k x a) in
-      select_in (otherUpTo x y) t.rows k l (rw ((hb-iff t.forward k x).1 (one a)))
+      select_in (other_up_to x y) t.rows k l (rw ((hb-iff t.forward k x).1 (one a)))
 
   -- The rows with x last are an allowed order.
-  put_last-ok : (x y : ℕ) → x < y → y < t.rows → (HB t.edge x y → ⊥) → Ok t (putLast x y)
+  put_last-ok : (x y : ℕ) → x < y → y < t.rows → (HB t.edge x y → ⊥) → Ok t (put_last x y)
   put_last-ok x y l b n =
       let c : x < t.rows = omega arith in
       next c (others-new x y l n) (others-before x y c) (others-ok x y)
@@ -120,7 +120,7 @@ module _ (t : Trace) where
   -- ---- Its rows
 
   -- In turn, no row is later than y.
-  either-most : (x y : ℕ) → x < y → (k : ℕ) → eitherUpTo x y k ≡ true → k ≤ y
+  either-most : (x y : ℕ) → x < y → (k : ℕ) → either_up_to x y k ≡ true → k ≤ y
   either-most x y l k e = go (or_out (up_to t.edge k x) (up_to t.edge k y) e)
     where
       go : (up_to t.edge k x ≡ true) ⊎ (up_to t.edge k y ≡ true) → k ≤ y
@@ -128,7 +128,7 @@ module _ (t : Trace) where
       go (inr u) = up_to-most k y u
 
   -- Without x, none is either.
-  other-most : (x y : ℕ) → x < y → (k : ℕ) → otherUpTo x y k ≡ true → k ≤ y
+  other-most : (x y : ℕ) → x < y → (k : ℕ) → other_up_to x y k ≡ true → k ≤ y
   other-most x y l k e = go (or_out (hb t.edge k x) (up_to t.edge k y) e)
     where
       go : (hb t.edge k x ≡ true) ⊎ (up_to t.edge k y ≡ true) → k ≤ y
@@ -136,7 +136,7 @@ module _ (t : Trace) where
       go (inr u) = up_to-most k y u
 
   -- In turn, a row after x is y or happens before it.
-  after-x : (x y k : ℕ) → eitherUpTo x y k ≡ true → x < k → (k ≡ y) ⊎ HB t.edge k y
+  after-x : (x y k : ℕ) → either_up_to x y k ≡ true → x < k → (k ≡ y) ⊎ HB t.edge k y
   after-x x y k e l = go (or_out (up_to t.edge k x) (up_to t.edge k y) e)
     where
       go : (up_to t.edge k x ≡ true) ⊎ (up_to t.edge k y ≡ true) → (k ≡ y) ⊎ HB t.edge k y
@@ -144,13 +144,13 @@ module _ (t : Trace) where
       go (inr u) = (up_to-iff k y).0 u
 
   -- In turn, y is the last row.
-  in_turn_top : (x y : ℕ) → x < y → y < t.rows → in_turn x y ≡ y ∷ select (eitherUpTo x y) y
+  in_turn_top : (x y : ℕ) → x < y → y < t.rows → in_turn x y ≡ y ∷ select (either_up_to x y) y
   in_turn_top x y l b =
-      select-top (eitherUpTo x y) y t.rows b (or_right (up_to t.edge y x) _ (up_to-self y)) (either-most x y l)
+      select-top (either_up_to x y) y t.rows b (or_right (up_to t.edge y x) _ (up_to-self y)) (either-most x y l)
 
   -- Without x, it is too.
-  others-top : (x y : ℕ) → x < y → y < t.rows → select (otherUpTo x y) t.rows ≡ y ∷ select (otherUpTo x y) y
-  others-top x y l b = select-top (otherUpTo x y) y t.rows b (or_right (hb t.edge y x) _ (up_to-self y)) (other-most x y l)
+  others-top : (x y : ℕ) → x < y → y < t.rows → select (other_up_to x y) t.rows ≡ y ∷ select (other_up_to x y) y
+  others-top x y l b = select-top (other_up_to x y) y t.rows b (or_right (hb t.edge y x) _ (up_to-self y)) (other-most x y l)
 
   -- The plain byte after a write.
   plain-write : (y : ℕ) (l : List ℕ) → t.writes y ≡ true → plain t (y ∷ l) ≡ suc y
@@ -167,8 +167,8 @@ module _ (t : Trace) where
   module _ (commits : Commits t) (x y : ℕ) (l : x < y) (b : y < t.rows) (d : t.process x ≡ t.process y → ⊥) where
     -- In turn, where the write x is not synchronized with y, no row of its process from x on is released.
     unreleased : t.writes x ≡ true → (Synchronized t x y → ⊥) → (n w : ℕ) → x ≤ w → t.process w ≡ t.process x →
-        Released t (select (eitherUpTo x y) n) w → ⊥
-    unreleased a s n w m q (c, i, f, p, e) = go (after-x x y c (select-out (eitherUpTo x y) n c i).1 g)
+        Released t (select (either_up_to x y) n) w → ⊥
+    unreleased a s n w m q (c, i, f, p, e) = go (after-x x y c (select-out (either_up_to x y) n c i).1 g)
       where
         g : x < c
         g = omega arith
@@ -179,7 +179,7 @@ module _ (t : Trace) where
 
     -- x is one of the rows in turn
     x-in-turn : In x (in_turn x y)
-    x-in-turn = let c : x < t.rows = omega arith in select_in (eitherUpTo x y) t.rows x c (rw (up_to-self x))
+    x-in-turn = let c : x < t.rows = omega arith in select_in (either_up_to x y) t.rows x c (rw (up_to-self x))
 
     -- Two writes: x's process, publishing last, puts its own write over y.
     shown-two-writes : t.writes x ≡ true → t.writes y ≡ true → (Synchronized t x y → ⊥) → Shown t (in_turn x y)
@@ -208,27 +208,27 @@ module _ (t : Trace) where
         (ap (λ (k : List ℕ). (run t k).view (t.process y)) (sym (in_turn_top x y l b)) ∙ (e ∙ (sym same ∙ v))))
       where
         rest : List ℕ
-        rest = select (eitherUpTo x y) y
+        rest = select (either_up_to x y) y
 
         same : plain t (in_turn x y) ≡ plain t rest
         same = ap (plain t) (in_turn_top x y l b) ∙ plain_other y rest (t.one-kind y r)
 
     -- A read x put last does not see the write y.
-    shown-last : t.reads x ≡ true → t.writes y ≡ true → Shown t (putLast x y)
+    shown-last : t.reads x ≡ true → t.writes y ≡ true → Shown t (put_last x y)
     shown-last r g =
         by_read x rest refl r
         (λ e. unseen t commits (others-ok x y) x y r (λ z. d (sym z)) early
         (e ∙ (ap (plain t) (others-top x y l b) ∙ plain-write y _ g)))
       where
         rest : List ℕ
-        rest = select (otherUpTo x y) t.rows
+        rest = select (other_up_to x y) t.rows
 
         early : Released t rest y → ⊥
-        early (c, i, f, p, e) = omega (arith, other-most x y l c (select-out (otherUpTo x y) t.rows c i).1)
+        early (c, i, f, p, e) = omega (arith, other-most x y l c (select-out (other_up_to x y) t.rows c i).1)
 
   -- A write after x in turn is not synchronized with the write x where the read y is not.
   unsynchronized : (commits : Commits t) (x y w : ℕ) → t.writes x ≡ true → t.reads y ≡ true → (Synchronized t x y → ⊥) → x < w →
-      t.writes w ≡ true → eitherUpTo x y w ≡ true → Synchronized t x w → ⊥
+      t.writes w ≡ true → either_up_to x y w ≡ true → Synchronized t x w → ⊥
   unsynchronized commits x y w a r s l g e z = by_chain (before (after-x x y w e l)) z
     where
       before : (w ≡ y) ⊎ HB t.edge w y → HB t.edge w y
@@ -242,8 +242,8 @@ module _ (t : Trace) where
 
   -- A write x and a read y, by the last write up to them.
   shown_for : (commits : Commits t) (x y : ℕ) → x < y → y < t.rows → (t.process x ≡ t.process y → ⊥) → t.writes x ≡ true →
-      t.reads y ≡ true → (Synchronized t x y → ⊥) → (v : ℕ) → plain t (in_turn x y) ≡ v → Latest t (eitherUpTo x y) t.rows v →
-      Ok t (inTurnFor x y v) × Shown t (inTurnFor x y v)
+      t.reads y ≡ true → (Synchronized t x y → ⊥) → (v : ℕ) → plain t (in_turn x y) ≡ v → Latest t (either_up_to x y) t.rows v →
+      Ok t (in_turn_for x y v) × Shown t (in_turn_for x y v)
   shown_for commits x y l b d a r s zero e latest = absurd (latest x (omega arith) (rw (up_to-self x)) a)
   shown_for commits x y l b d a r s (suc w) e (f, u, g, most) = go (eqb (t.process w) (t.process x)) refl
     where
@@ -266,7 +266,7 @@ module _ (t : Trace) (commits : Commits t) where
   unfolding witness
   witness_shown x y (l, b, d, inl (a, inl g)) s = rw (a, g) (in_turn_ok t x y, shown-two-writes t commits x y l b d a g s)
   witness_shown x y (l, b, d, inl (a, inr r)) s =
-      rw (a, t.one-kind y r) (shown_for t commits x y l b d a r s _ refl (plain-latest t (eitherUpTo t x y) t.rows))
+      rw (a, t.one-kind y r) (shown_for t commits x y l b d a r s _ refl (plain-latest t (either_up_to t x y) t.rows))
   witness_shown x y (l, b, d, inr (r, g)) s =
       rw (t.one-kind x r) (put_last-ok t x y l b (λ h. s (inr (r, h))), shown-last t commits x y l b d r g)
 

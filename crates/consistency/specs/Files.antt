@@ -73,9 +73,9 @@ module _ (h : Header) (out : List ℕ) where
   run_from [] xs = xs
   run_from (x ∷ l) xs = run_from l (step_of h xs x.row x.number out).maps
 
-  unfoldable pub plainRunFrom : List NumberedRow → List ℕ → List ℕ
-  plainRunFrom [] ys = ys
-  plainRunFrom (x ∷ l) ys = plainRunFrom l (plain_step_of h ys x.row x.number out).maps
+  unfoldable pub plain_run_from : List NumberedRow → List ℕ → List ℕ
+  plain_run_from [] ys = ys
+  plain_run_from (x ∷ l) ys = plain_run_from l (plain_step_of h ys x.row x.number out).maps
 
 -- The published file has the plain file's row number at every byte.
 abbrev pub Level : Header → List ℕ → List ℕ → Type 0
@@ -126,7 +126,7 @@ EqualWith kind model processes space rows =
     (xs ys out : List ℕ) → Lent (header_for model processes space file) rows xs ys out →
     let h = header_for model processes space file in
     let l = rows_for rows file order ++ end_rows kind file ends in
-    Agree h out l (fresh_machine h xs) (fresh_plain h ys) × Level h (run_from h out l (fresh_machine h xs)) (plainRunFrom h out l (fresh_plain h ys))
+    Agree h out l (fresh_machine h xs) (fresh_plain h ys) × Level h (run_from h out l (fresh_machine h xs)) (plain_run_from h out l (fresh_plain h ys))
 
 -- Demand 3: with one commit by each process.
 abbrev pub Equal : ℕ → ℕ → List Row → Type 0

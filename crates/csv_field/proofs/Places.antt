@@ -5,7 +5,7 @@ use lib.ListN.{get_or, get_or-eq_default}
 use lib.Seq.{drop-append-le}
 use lib.Dec.{eqb}
 use Rattle.csv_field.specs.FieldGrammar.{COMMA, DQUOTE, CR, LF}
-use Rattle.csv_field.specs.FieldReading.{is_text, is_quoted, text_length, quotes, afterQuote, after_cr, stop_of, scanned_field, no_span, bare_at, quoted_to, field_at}
+use Rattle.csv_field.specs.FieldReading.{is_text, is_quoted, text_length, quotes, after_quote, after_cr, stop_of, scanned_field, no_span, bare_at, quoted_to, field_at}
 use Rattle.csv_field.specs.declared.Span.{Span}
 use Rattle.csv_field.specs.declared.ScannedField.{ScannedField}
 use Rattle.csv_field.specs.declared.Quotes.{Quotes}
@@ -76,7 +76,7 @@ run_in (b ∷ t) = go (is_text b) (run_in t)
 abbrev Goes : List ℕ → ℕ → Quotes → Quotes → Type 0
 Goes u k Unclosed q = (d : Bool) × (q ≡ quotes k d u)
 Goes u k Broken q = q ≡ Broken
-Goes u k (Closed m e) q = (m < k) × ((q ≡ Closed m e) ⊎ ((k ≡ suc m) × (q ≡ afterQuote m e u)))
+Goes u k (Closed m e) q = (m < k) × ((q ≡ Closed m e) ⊎ ((k ≡ suc m) × (q ≡ after_quote m e u)))
 
 -- where more bytes change both of two so, more bytes change the one that a test picks so
 goes_cond : (u : List ℕ) (k : ℕ) (x : Bool) (r q r' q' : Quotes) → Goes u k r q → Goes u k r' q' → Goes u k (cond x r r') (cond x q q')
@@ -85,15 +85,15 @@ goes_cond u k false r q r' q' g h = h
 
 -- more bytes change what stands after an opening quote, and after a quote within, as Goes says
 mutual
-  unfolding quotes afterQuote
+  unfolding quotes after_quote
 
   quotes-more : (w u : List ℕ) (n : ℕ) (d : Bool) (k : ℕ) → k ≡ n + length w → Goes u k (quotes n d w) (quotes n d (w ++ u))
   quotes-more [] u n d k h = let e : n ≡ k = omega arith in (d, rw e)
   quotes-more (b ∷ t) u n d k h =
-      goes_cond u k (eqb b DQUOTE) (afterQuote n d t) (afterQuote n d (t ++ u)) _ _ (after_more t u n d k (omega arith))
+      goes_cond u k (eqb b DQUOTE) (after_quote n d t) (after_quote n d (t ++ u)) _ _ (after_more t u n d k (omega arith))
       (goes_cond u k (is_quoted b) (quotes (suc n) d t) (quotes (suc n) d (t ++ u)) Broken Broken (quotes-more t u (suc n) d k (omega arith)) refl)
 
-  after_more : (w u : List ℕ) (n : ℕ) (d : Bool) (k : ℕ) → k ≡ suc n + length w → Goes u k (afterQuote n d w) (afterQuote n d (w ++ u))
+  after_more : (w u : List ℕ) (n : ℕ) (d : Bool) (k : ℕ) → k ≡ suc n + length w → Goes u k (after_quote n d w) (after_quote n d (w ++ u))
   after_more [] u n d k h = (omega arith, inr (omega arith, refl))
   after_more (b ∷ t) u n d k h =
       goes_cond u k (eqb b DQUOTE) (quotes (suc (suc n)) true t) (quotes (suc (suc n)) true (t ++ u)) (Closed n d) (Closed n d)
@@ -118,8 +118,8 @@ quote_in (b ∷ p) zero e = omega arith
 quote_in (b ∷ p) (suc at) e = let h : at < length p = quote_in p at e in omega arith
 
 -- a closing quote before a byte that is no quote stays the closing quote
-plain-after : (m : ℕ) (d : Bool) (u : List ℕ) → Plain u → afterQuote m d u ≡ Closed m d
-unfolding quotes afterQuote
+plain-after : (m : ℕ) (d : Bool) (u : List ℕ) → Plain u → after_quote m d u ≡ Closed m d
+unfolding quotes after_quote
 plain-after m d [] h = refl
 plain-after m d (b ∷ t) h = rw h.1
 
@@ -163,7 +163,7 @@ view-quoted p at h e = go (quotes 0 false w) (λ u. quotes-more w u 0 false (len
         (λ u c f. is u c ∙ ap (quoted_to (p ++ u) c (at + 1)) (shut u f (g u).1))
       where
         shut : (u : List ℕ) → (length p ≤ at + 1 + m + 1 → Plain u) →
-            (quotes 0 false (w ++ u) ≡ Closed m d) ⊎ ((length p - (at + 1) ≡ suc m) × (quotes 0 false (w ++ u) ≡ afterQuote m d u)) →
+            (quotes 0 false (w ++ u) ≡ Closed m d) ⊎ ((length p - (at + 1) ≡ suc m) × (quotes 0 false (w ++ u) ≡ after_quote m d u)) →
             quotes 0 false (w ++ u) ≡ Closed m d
         shut u f (inl q) = q
         shut u f (inr q) = q.1 ∙ plain-after m d u (f (let l = q.0 in omega arith))

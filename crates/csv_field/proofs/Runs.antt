@@ -2,7 +2,7 @@
 use Rattle.std.proofs.Common.{ℕ, suc, ◌+◌, ◌<◌, arith, ◌≡◌, refl, ap, ◌∙◌, ◌⊎◌, inl, inr, Bool, true, false, cond, ◌||◌, List, [], ◌∷◌, ◌++◌, length, take, length-append, eqb-true}
 use lib.Dec.{eqb}
 use Rattle.csv_field.specs.FieldGrammar.{COMMA, DQUOTE, CR, LF, TextData, NonEscaped, Quoted}
-use Rattle.csv_field.specs.FieldReading.{is_text, is_quoted, text_length, quotes, afterQuote}
+use Rattle.csv_field.specs.FieldReading.{is_text, is_quoted, text_length, quotes, after_quote}
 use Rattle.csv_field.specs.declared.Quotes.TheVariants.{Broken, Closed}
 use Rattle.csv_field.proofs.Bytes.{or_cases, text-iff, text-unquote}
 
@@ -93,20 +93,20 @@ two-more n m t u =
 
 -- Where the reader finds a closing quote, the grammar derives the bytes before it: after an opening quote, and after a quote within.
 mutual
-  unfolding quotes afterQuote
+  unfolding quotes after_quote
 
   pub closed-quoted : (t : List ℕ) (n : ℕ) (d : Bool) (m : ℕ) (e : Bool) → quotes n d t ≡ Closed m e → Unquoted n m t
   closed-quoted [] n d m e q = let z : ◌≡◌ {A = ℕ} 0 1 = cc in absurd (omega arith)
   closed-quoted (b ∷ t) n d m e q = go (eqb b DQUOTE) refl (is_quoted b) refl q (λ r. after-quoted t n d m e r) (λ r. closed-quoted t (suc n) d m e r)
     where
       go : (x : Bool) → eqb b DQUOTE ≡ x → (y : Bool) → is_quoted b ≡ y →
-          cond x (afterQuote n d t) (cond y (quotes (suc n) d t) Broken) ≡ Closed m e →
-          (afterQuote n d t ≡ Closed m e → Unquoted n m (DQUOTE ∷ t)) → (quotes (suc n) d t ≡ Closed m e → Unquoted (suc n) m t) → Unquoted n m (b ∷ t)
+          cond x (after_quote n d t) (cond y (quotes (suc n) d t) Broken) ≡ Closed m e →
+          (after_quote n d t ≡ Closed m e → Unquoted n m (DQUOTE ∷ t)) → (quotes (suc n) d t ≡ Closed m e → Unquoted (suc n) m t) → Unquoted n m (b ∷ t)
       go true p y h q a f = rw (eqb-true b DQUOTE p) (a q)
       go false p true h q a f = one_more_lem n m b t h (f q)
       go false p false h q a f = let z : ◌≡◌ {A = ℕ} 0 1 = cc in absurd (omega arith)
 
-  after-quoted : (t : List ℕ) (n : ℕ) (d : Bool) (m : ℕ) (e : Bool) → afterQuote n d t ≡ Closed m e → Unquoted n m (DQUOTE ∷ t)
+  after-quoted : (t : List ℕ) (n : ℕ) (d : Bool) (m : ℕ) (e : Bool) → after_quote n d t ≡ Closed m e → Unquoted n m (DQUOTE ∷ t)
   after-quoted [] n d m e q = now n m d e [] q
   after-quoted (b ∷ t) n d m e q = go (eqb b DQUOTE) refl q (λ r. closed-quoted t (suc (suc n)) true m e r)
     where
@@ -125,8 +125,8 @@ twice (Quoted.lf q) d = twice q d
 twice (Quoted.two_dquotes q) d = twice q true
 
 -- the quote before what may follow a field is the closing one
-closes : {u : List ℕ} (n : ℕ) (d : Bool) → Ends u → afterQuote n d u ≡ Closed n d
-unfolding afterQuote
+closes : {u : List ℕ} (n : ℕ) (d : Bool) → Ends u → after_quote n d u ≡ Closed n d
+unfolding after_quote
 closes n d nil = refl
 closes n d comma = refl
 closes n d cr = refl
@@ -134,7 +134,7 @@ closes n d cr = refl
 -- the reader finds the closing quote behind what the grammar puts between quotes
 pub quoted-closed : {w c u : List ℕ} (q : Quoted w c) (n : ℕ) (d : Bool) (m : ℕ) → m ≡ n + length w → Ends u →
     quotes n d (w ++ (DQUOTE ∷ u)) ≡ Closed m (twice q d)
-unfolding quotes afterQuote is_quoted is_text twice
+unfolding quotes after_quote is_quoted is_text twice
 quoted-closed Quoted.none n d m h e = let z : n ≡ m = omega arith in closes n d e ∙ ap (λ (k : ℕ). Closed k d) z
 quoted-closed (Quoted.text t q) n d m h e = rw (text-unquote t, text-quoted t) (quoted-closed q (suc n) d m (omega arith) e)
 quoted-closed (Quoted.comma q) n d m h e = quoted-closed q (suc n) d m (omega arith) e

@@ -5,7 +5,7 @@ use native.Mathlib.Decide.{dec_lt}
 use native.Mathlib.Numerals.{add-two}
 use lib.Dec.{eqb}
 use Rattle.csv_field.specs.FieldGrammar.{COMMA, DQUOTE, CR, LF}
-use Rattle.csv_field.specs.FieldReading.{is_text, is_quoted, text_length, quotes, afterQuote, after_cr, stop_of}
+use Rattle.csv_field.specs.FieldReading.{is_text, is_quoted, text_length, quotes, after_quote, after_cr, stop_of}
 use Rattle.csv_field.specs.declared.Quotes.TheVariants.{Unclosed, Broken, Closed}
 use Rattle.csv_field.specs.declared.Stop.TheVariants.{Comma, LineEnd, TextEnd, Bad, Cut}
 use Rattle.csv_field.proofs.Places.{quote_in}
@@ -53,7 +53,7 @@ module _ (s : List ℕ) (i n : ℕ) (d : Bool) where
       r : eqb (get_or s (suc i) 0) DQUOTE ≡ false
       r = rw add-one at q
 
-      go : Dec (suc i < length s) → afterQuote n d (drop (suc i) s) ≡ Closed n d
+      go : Dec (suc i < length s) → after_quote n d (drop (suc i) s) ≡ Closed n d
       go (yes l) = rw (drop-cons s (suc i) 0 l, r)
       go (no l) = let m : length s ≤ suc i = omega arith in rw (drop_of_length-le s m)
 

@@ -31,11 +31,11 @@ text_length (b ∷ t) = cond (is_text b) (suc (text_length t)) 0
 unfoldable mutual
   pub quotes : ℕ → Bool → List ℕ → Quotes
   quotes n d [] = Unclosed
-  quotes n d (b ∷ t) = cond (eqb b DQUOTE) (afterQuote n d t) (cond (is_quoted b) (quotes (suc n) d t) Broken)
+  quotes n d (b ∷ t) = cond (eqb b DQUOTE) (after_quote n d t) (cond (is_quoted b) (quotes (suc n) d t) Broken)
 
-  pub afterQuote : ℕ → Bool → List ℕ → Quotes
-  afterQuote n d [] = Closed n d
-  afterQuote n d (b ∷ t) = cond (eqb b DQUOTE) (quotes (suc (suc n)) true t) (Closed n d)
+  pub after_quote : ℕ → Bool → List ℕ → Quotes
+  after_quote n d [] = Closed n d
+  after_quote n d (b ∷ t) = cond (eqb b DQUOTE) (quotes (suc (suc n)) true t) (Closed n d)
 
 -- What follows a CR outside quotes: an LF ends the record; a lone CR is malformed. A text that is cut has more bytes past the limit; a
 -- reader that would have to look at one of them stops with Cut.

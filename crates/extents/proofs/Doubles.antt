@@ -23,7 +23,7 @@ use Rattle.extents.specs.declared.Answer.TheVariants.{Done, Listed, Refused}
 use Rattle.extents_map.specs.Mixes.{mixed, mix}
 use Rattle.extents_map.specs.declared.scan.Mode.TheVariants.{Publish, MarkPublished, Refresh}
 use Rattle.extents_meaning.specs.Pairs.{two_maps, view_of, below_of}
-use Rattle.extents.specs.Entries.{or_refused, or_kept, listed_count, bothMaps, publishRefusal, publishedMaps, PublishEntry, refreshRefusal, refreshedMaps, RefreshEntry, syncRefusal, syncedMaps, SyncEntry, writeThroughRefusal, writtenThroughMaps, WriteThroughEntry, readRefusal, ReadEntry}
+use Rattle.extents.specs.Entries.{or_refused, or_kept, listed_count, both_maps, publish_refusal, published_maps, PublishEntry, refresh_refusal, refreshed_maps, RefreshEntry, sync_refusal, synced_maps, SyncEntry, write_through_refusal, written_through_maps, WriteThroughEntry, read_refusal, ReadEntry}
 use Rattle.extents_pair.specs.Marks.{marked}
 use Rattle.extents.proofs.Entering.{accepted}
 use Rattle.extents_pair.proofs.Pairing.{Told, two-told, two-apart, map_space, map_whole}
@@ -102,15 +102,15 @@ module _ (space view below : ℕ) (xs : List ℕ) where
 
     -- maps put at both places, the view's last
     pub both-last : (v w : Bytes) → length (runs_of v) ≤ space → length (runs_of w) ≤ space →
-        with_map space view (map_for space v) (with_map space below (map_for space w) xs) ≡ bothMaps space view below xs v w
-    unfolding bothMaps
+        with_map space view (map_for space v) (with_map space below (map_for space w) xs) ≡ both_maps space view below xs v w
+    unfolding both_maps
     both-last v w a b =
         with_comm space view below (map_for space v) (map_for space w) xs apart (length-map space (runs_of v) a) (length-map space (runs_of w) b) told.view_in
         told.below_in
 
     -- maps put at the view's place alone
-    pub view-alone : (v : Bytes) → length (runs_of v) ≤ space → with_map space view (map_for space v) xs ≡ bothMaps space view below xs v base
-    unfolding bothMaps
+    pub view-alone : (v : Bytes) → length (runs_of v) ≤ space → with_map space view (map_for space v) xs ≡ both_maps space view below xs v base
+    unfolding both_maps
     view-alone v a =
         let ys = with_map space view (map_for space v) xs in
         let size = length-map space (runs_of v) a in
@@ -134,13 +134,13 @@ module _ (space view below : ℕ) (xs : List ℕ) where
 
   -- ---- Publishing
 
-  publish_asks : publishRefusal space view below xs ≡
+  publish_asks : publish_refusal space view below xs ≡
       cond (two_maps space view below xs) (cond (leb (length (runs_of (as_published own))) space && leb (length (runs_of (published own base))) space) 0 16) 13
-  unfolding publishRefusal first_no
+  unfolding publish_refusal first_no
   publish_asks = refl
 
   -- Publishing refuses unlawful maps with 13.
-  pub publish_unlawful : two_maps space view below xs ≡ false → publishRefusal space view below xs ≡ 13
+  pub publish_unlawful : two_maps space view below xs ≡ false → publish_refusal space view below xs ≡ 13
   publish_unlawful e = publish_asks ∙ rw e
 
   -- whether the published map fits
@@ -153,28 +153,28 @@ module _ (space view below : ℕ) (xs : List ℕ) where
     pub publish-short : not r ≡ true → space < length (runs_of (published own base))
     publish-short = short (mix Publish 0 0 0 own base) (published own base) (mix-publish own base) space e
 
-  sync_asks : syncRefusal space view below xs ≡
+  sync_asks : sync_refusal space view below xs ≡
       cond (two_maps space view below xs)
       (cond (leb (length (runs_of (refreshed (as_published own) (published own base)))) space && leb (length (runs_of (published own base))) space) 0 16) 13
-  unfolding syncRefusal first_no
+  unfolding sync_refusal first_no
   sync_asks = refl
 
   -- A sync refuses unlawful maps with 13.
-  pub sync_unlawful : two_maps space view below xs ≡ false → syncRefusal space view below xs ≡ 13
+  pub sync_unlawful : two_maps space view below xs ≡ false → sync_refusal space view below xs ≡ 13
   sync_unlawful e = sync_asks ∙ rw e
 
   module _ (two : two_maps space view below xs ≡ true) where
     -- A sync refuses with 16 where the published map does not fit.
-    pub sync-full : space < length (runs_of (published own base)) → syncRefusal space view below xs ≡ 16
+    pub sync-full : space < length (runs_of (published own base)) → sync_refusal space view below xs ≡ 16
     sync-full h = sync_asks ∙ rw (two, lt-leb (length (runs_of (published own base))) space h, and-false)
 
     -- Publishing refuses with 16 where the published map does not fit.
-    pub publish-full : space < length (runs_of (published own base)) → publishRefusal space view below xs ≡ 16
+    pub publish-full : space < length (runs_of (published own base)) → publish_refusal space view below xs ≡ 16
     publish-full h = publish_asks ∙ rw (two, lt-leb (length (runs_of (published own base))) space h, and-false)
 
     module _ (fit : length (runs_of (published own base)) ≤ space) where
       -- Publishing is accepted where the published map fits.
-      pub publish-fits : publishRefusal space view below xs ≡ 0
+      pub publish-fits : publish_refusal space view below xs ≡ 0
       publish-fits = publish_asks ∙ rw (two, le-leb (length (runs_of (as_published own))) space (as-published-fits two), le-leb (length (runs_of (published own base))) space fit)
 
       -- what sharing leaves, said by publishing
@@ -197,9 +197,9 @@ module _ (space view below : ℕ) (xs : List ℕ) where
         -- The steps of publishing meet the entry.
         pub publish-done : {zs : List ℕ} → zs ≡ with_map space view (map_for space (as_published (bytes_of (map_at space view ys)))) ys →
             PublishEntry space view below xs Done zs
-        unfolding publishedMaps
+        unfolding published_maps
         publish-done z =
-            accepted Done (bothMaps space view below xs (as_published own) (published own base)) xs publish-fits
+            accepted Done (both_maps space view below xs (as_published own) (published own base)) xs publish-fits
             (z ∙ (λ i. with_map space view (map_for space (as_published (bytes_of (view-after i)))) (after-share i))
             ∙ both-last two (as_published own) (published own base) (as-published-fits two) fit)
 
@@ -209,16 +209,16 @@ module _ (space view below : ℕ) (xs : List ℕ) where
           runs_same (refreshed (as_published own) (published own base)) (published own base)
           (λ b l. rw (ne_eqb (mark_in (as_published own b)) 1 (omega arith)))
 
-      sync-fits : syncRefusal space view below xs ≡ 0
+      sync-fits : sync_refusal space view below xs ≡ 0
       sync-fits = sync_asks ∙ rw (two, ap (λ (l : List Run). length l) synced-runs, le-leb (length (runs_of (published own base))) space fit)
 
       module _ {ys : List ℕ} (y : ys ≡ with_map space below (map_for space (mix Publish 0 (0 - 0) (cell_of 0 0) own base)) xs) where
         -- publishing, then refreshing: the view is the published map then
         pub sync-done : {zs : List ℕ} → zs ≡ with_map space view (map_at space below ys) ys →
             SyncEntry space view below xs Done zs
-        unfolding syncedMaps
+        unfolding synced_maps
         sync-done z =
-            accepted Done (bothMaps space view below xs (refreshed (as_published own) (published own base)) (published own base)) xs sync-fits
+            accepted Done (both_maps space view below xs (refreshed (as_published own) (published own base)) (published own base)) xs sync-fits
             (z ∙ (λ i. with_map space view (map_at space below (after-share y i)) (after-share y i))
             ∙ ap (λ (m : List ℕ). with_map space view m (shared two (published own base) fit)) (shared-below two (published own base) fit)
             ∙ ap (λ (l : List Run). with_map space view (map_of space l) (shared two (published own base) fit)) (sym synced-runs)
@@ -226,13 +226,13 @@ module _ (space view below : ℕ) (xs : List ℕ) where
 
   -- ---- Refreshing
 
-  refresh_asks : refreshRefusal space view below xs ≡
+  refresh_asks : refresh_refusal space view below xs ≡
       cond (two_maps space view below xs) (cond (leb (length (runs_of (refreshed own base))) space && leb (length (runs_of base)) space) 0 16) 13
-  unfolding refreshRefusal first_no
+  unfolding refresh_refusal first_no
   refresh_asks = refl
 
   -- A refresh refuses unlawful maps with 13.
-  pub refresh_unlawful : two_maps space view below xs ≡ false → refreshRefusal space view below xs ≡ 13
+  pub refresh_unlawful : two_maps space view below xs ≡ false → refresh_refusal space view below xs ≡ 13
   refresh_unlawful e = refresh_asks ∙ rw e
 
   -- whether the refreshed view fits
@@ -247,18 +247,18 @@ module _ (space view below : ℕ) (xs : List ℕ) where
 
   module _ (two : two_maps space view below xs ≡ true) where
     -- A refresh refuses with 16 where the refreshed view does not fit.
-    pub refresh-full : space < length (runs_of (refreshed own base)) → refreshRefusal space view below xs ≡ 16
+    pub refresh-full : space < length (runs_of (refreshed own base)) → refresh_refusal space view below xs ≡ 16
     refresh-full h = refresh_asks ∙ rw (two, lt-leb (length (runs_of (refreshed own base))) space h)
 
     module _ (fit : length (runs_of (refreshed own base)) ≤ space) where
-      refresh-fits : refreshRefusal space view below xs ≡ 0
+      refresh-fits : refresh_refusal space view below xs ≡ 0
       refresh-fits = refresh_asks ∙ rw (two, le-leb (length (runs_of (refreshed own base))) space fit, le-leb (length (runs_of base)) space (below-fits two))
 
       -- The steps of a refresh meet the entry.
       pub refresh-done : {zs : List ℕ} → zs ≡ with_map space view (map_for space (refreshed own base)) xs →
           RefreshEntry space view below xs Done zs
-      unfolding refreshedMaps
-      refresh-done z = accepted Done (bothMaps space view below xs (refreshed own base) base) xs refresh-fits (z ∙ view-alone two (refreshed own base) fit)
+      unfolding refreshed_maps
+      refresh-done z = accepted Done (both_maps space view below xs (refreshed own base) base) xs refresh-fits (z ∙ view-alone two (refreshed own base) fit)
 
       -- what a refresh leaves of the view
       module _ {ys : List ℕ} (y : ys ≡ with_map space view (map_for space (refreshed own base)) xs) where
@@ -304,46 +304,46 @@ module _ (space view below : ℕ) (xs : List ℕ) where
     abbrev listed : List Run
     listed = pieces_of (refreshed own base) start n
 
-    read-asks : start ≤ OFFSET_MAX → n ≤ OFFSET_MAX → readRefusal space view below xs start n room ≡
+    read-asks : start ≤ OFFSET_MAX → n ≤ OFFSET_MAX → read_refusal space view below xs start n room ≡
         cond (two_maps space view below xs)
         (cond (leb (start + n) OFFSET_MAX)
         (cond (leb (length (runs_of (refreshed own base))) space && leb (length (runs_of base)) space) (cond (leb (3 * length listed) room) 0 17) 16) 11) 13
-    unfolding readRefusal first_no
+    unfolding read_refusal first_no
     read-asks s l = rw (le-leb start OFFSET_MAX s, le-leb n OFFSET_MAX l)
 
     module _ (s : start ≤ OFFSET_MAX) (l : n ≤ OFFSET_MAX) where
       -- A read refuses unlawful maps with 13.
-      pub read-unlawful : two_maps space view below xs ≡ false → readRefusal space view below xs start n room ≡ 13
+      pub read-unlawful : two_maps space view below xs ≡ false → read_refusal space view below xs start n room ≡ 13
       read-unlawful e = read-asks s l ∙ rw e
 
       module _ (two : two_maps space view below xs ≡ true) where
         -- A read refuses with 11 where the range ends past the offset range.
-        pub read_past : OFFSET_MAX < start + n → readRefusal space view below xs start n room ≡ 11
+        pub read_past : OFFSET_MAX < start + n → read_refusal space view below xs start n room ≡ 11
         read_past h = read-asks s l ∙ rw (two, lt-leb (start + n) OFFSET_MAX h)
 
         module _ (end : start + n ≤ OFFSET_MAX) where
           -- A read refuses with 16 where the refreshed view does not fit.
-          pub read-full : space < length (runs_of (refreshed own base)) → readRefusal space view below xs start n room ≡ 16
+          pub read-full : space < length (runs_of (refreshed own base)) → read_refusal space view below xs start n room ≡ 16
           read-full h = read-asks s l ∙ rw (two, le-leb (start + n) OFFSET_MAX end, lt-leb (length (runs_of (refreshed own base))) space h)
 
           module _ (fit : length (runs_of (refreshed own base)) ≤ space) where
             -- A read refuses with 17 where the pieces do not fit the answer slice.
-            pub read-long : room < 3 * length listed → readRefusal space view below xs start n room ≡ 17
+            pub read-long : room < 3 * length listed → read_refusal space view below xs start n room ≡ 17
             read-long h =
                 read-asks s l ∙ rw (two, le-leb (start + n) OFFSET_MAX end, le-leb (length (runs_of (refreshed own base))) space fit, le-leb (length (runs_of base)) space (below-fits two), lt-leb (3 * length listed) room h)
 
             -- A read is accepted where the refreshed view and the pieces fit.
-            pub read_fits : 3 * length listed ≤ room → readRefusal space view below xs start n room ≡ 0
+            pub read_fits : 3 * length listed ≤ room → read_refusal space view below xs start n room ≡ 0
             read_fits h =
                 read-asks s l ∙ rw (two, le-leb (start + n) OFFSET_MAX end, le-leb (length (runs_of (refreshed own base))) space fit, le-leb (length (runs_of base)) space (below-fits two), le-leb (3 * length listed) room h)
 
             -- the maps, the count and the pieces
             pub read_done : (out : List ℕ) → 3 * length listed ≤ room → {k : ℕ} {zs us : List ℕ} → k ≡ length listed → zs ≡ with_map space view (map_for space (refreshed own base)) xs →
                 us ≡ listed_in listed out →
-                (Listed k ≡ or_refused (readRefusal space view below xs start n room) (listed_count listed))
-                × ((zs ≡ or_kept (readRefusal space view below xs start n room) (refreshedMaps space view below xs) xs)
-                × (us ≡ or_kept (readRefusal space view below xs start n room) (listed_in listed out) out))
-            unfolding refreshedMaps
+                (Listed k ≡ or_refused (read_refusal space view below xs start n room) (listed_count listed))
+                × ((zs ≡ or_kept (read_refusal space view below xs start n room) (refreshed_maps space view below xs) xs)
+                × (us ≡ or_kept (read_refusal space view below xs start n room) (listed_in listed out) out))
+            unfolding refreshed_maps
             read_done out h q z u = rw (read_fits h) (ap Listed q, (z ∙ view-alone two (refreshed own base) fit, u))
 
   -- ---- Writing a range, then publishing
@@ -410,47 +410,47 @@ module _ (space view below : ℕ) (xs : List ℕ) where
         pub mark-published-short : not r ≡ true → space < length (runs_of (as_published wrote))
         mark-published-short = short (mix MarkPublished start n (cell_of number 0) own base) (as_published wrote) mix-mark-published space mark-published-told
 
-    write-through-asks : start ≤ OFFSET_MAX → n ≤ OFFSET_MAX → writeThroughRefusal space view below xs start n number ≡
+    write-through-asks : start ≤ OFFSET_MAX → n ≤ OFFSET_MAX → write_through_refusal space view below xs start n number ≡
         cond (two_maps space view below xs)
         (cond (leb 1 number && leb number ROWS)
         (cond (leb (start + n) OFFSET_MAX) (cond (leb (length (runs_of (as_published wrote))) space && leb (length (runs_of (published wrote base))) space) 0 16) 11) 14) 13
-    unfolding writeThroughRefusal first_no
+    unfolding write_through_refusal first_no
     write-through-asks s l = rw (le-leb start OFFSET_MAX s, le-leb n OFFSET_MAX l)
 
     module _ (s : start ≤ OFFSET_MAX) (l : n ≤ OFFSET_MAX) where
       -- A write through refuses unlawful maps with 13.
-      pub write-through-unlawful : two_maps space view below xs ≡ false → writeThroughRefusal space view below xs start n number ≡ 13
+      pub write-through-unlawful : two_maps space view below xs ≡ false → write_through_refusal space view below xs start n number ≡ 13
       write-through-unlawful e = write-through-asks s l ∙ rw e
 
       module _ (two : two_maps space view below xs ≡ true) where
         -- A write through refuses row number 0 with 14.
-        pub write-through-low : number < 1 → writeThroughRefusal space view below xs start n number ≡ 14
+        pub write-through-low : number < 1 → write_through_refusal space view below xs start n number ≡ 14
         write-through-low h = write-through-asks s l ∙ rw (two, lt-leb 1 number h)
 
         -- A write through refuses row numbers over the limit with 14.
-        pub write-through-high : ROWS < number → writeThroughRefusal space view below xs start n number ≡ 14
+        pub write-through-high : ROWS < number → write_through_refusal space view below xs start n number ≡ 14
         write-through-high h = write-through-asks s l ∙ rw (two, lt-leb number ROWS h, and-false)
 
         module _ (low : 1 ≤ number) (high : number ≤ ROWS) where
           -- A write through refuses with 11 where the range ends past the offset range.
-          pub write-through-past : OFFSET_MAX < start + n → writeThroughRefusal space view below xs start n number ≡ 11
+          pub write-through-past : OFFSET_MAX < start + n → write_through_refusal space view below xs start n number ≡ 11
           write-through-past h = write-through-asks s l ∙ rw (two, le-leb 1 number low, le-leb number ROWS high, lt-leb (start + n) OFFSET_MAX h)
 
           module _ (end : start + n ≤ OFFSET_MAX) where
             -- A write through refuses with 16 where the published map does not fit.
-            pub write-through-full : space < length (runs_of (published wrote base)) → writeThroughRefusal space view below xs start n number ≡ 16
+            pub write-through-full : space < length (runs_of (published wrote base)) → write_through_refusal space view below xs start n number ≡ 16
             write-through-full h =
                 write-through-asks s l
                 ∙ rw (two, le-leb 1 number low, le-leb number ROWS high, le-leb (start + n) OFFSET_MAX end, lt-leb (length (runs_of (published wrote base))) space h, and-false)
 
             -- A write through refuses with 16 where the view does not fit.
-            pub write-through-view-full : space < length (runs_of (as_published wrote)) → writeThroughRefusal space view below xs start n number ≡ 16
+            pub write-through-view-full : space < length (runs_of (as_published wrote)) → write_through_refusal space view below xs start n number ≡ 16
             write-through-view-full h =
                 write-through-asks s l
                 ∙ rw (two, le-leb 1 number low, le-leb number ROWS high, le-leb (start + n) OFFSET_MAX end, lt-leb (length (runs_of (as_published wrote))) space h)
 
             module _ (fit : length (runs_of (published wrote base)) ≤ space) (view-fit : length (runs_of (as_published wrote)) ≤ space) where
-              write-through-fits : writeThroughRefusal space view below xs start n number ≡ 0
+              write-through-fits : write_through_refusal space view below xs start n number ≡ 0
               write-through-fits =
                   write-through-asks s l
                   ∙ rw (
@@ -491,11 +491,11 @@ module _ (space view below : ℕ) (xs : List ℕ) where
 
                   -- nothing to lay: the range is empty
                   pub write-through-empty : start + n ≤ start → WriteThroughEntry space view below xs start n number Done zs
-                  unfolding writtenThroughMaps
+                  unfolding written_through_maps
                   write-through-empty h =
                       let same : runs_of (as_published own) ≡ runs_of (as_published wrote) = runs_same (as_published own) (as_published wrote)
                       (λ b l. ap cleared (sym (untouched b))) in
-                      accepted Done (bothMaps space view below xs (as_published wrote) (published wrote base)) xs write-through-fits
+                      accepted Done (both_maps space view below xs (as_published wrote) (published wrote base)) xs write-through-fits
                       (as-published-there ∙ ap (λ (l : List Run). with_map space view (map_of space l) (shared two (published wrote base) fit)) same
                       ∙ both-last two (as_published wrote) (published wrote base) view-fit fit)
                     where
@@ -549,9 +549,9 @@ module _ (space view below : ℕ) (xs : List ℕ) where
                   pub write-through-done : {cell : ℕ} {us : List ℕ} → cell ≡ cell_of number 0 →
                       us ≡ with_map space view (map_for space (overwrite start (start + n - start) cell (bytes_of (map_at space view zs)))) zs →
                       WriteThroughEntry space view below xs start n number Done us
-                  unfolding writtenThroughMaps
+                  unfolding written_through_maps
                   write-through-done q u =
-                      accepted Done (bothMaps space view below xs (as_published wrote) (published wrote base)) xs write-through-fits
+                      accepted Done (both_maps space view below xs (as_published wrote) (published wrote base)) xs write-through-fits
                       (u ∙ (λ i. with_map space view (map_for space (overwrite start (start + n - start) (q i) (bytes_of (map_at space view zs)))) zs)
                       ∙ (λ i. with_map space view (map_of space (laid_runs i)) (as-published-there i))
                       ∙ with_over space view (map_for space (as_published wrote)) (map_for space (as_published own)) (shared two (published wrote base) fit)
@@ -560,7 +560,7 @@ module _ (space view below : ℕ) (xs : List ℕ) where
 
 -- A refused read leaves both slices.
 pub refused-read : (k space view below : ℕ) (xs : List ℕ) (start n : ℕ) (out : List ℕ) →
-    readRefusal space view below xs start n (length out) ≡ k → 0 < k → ReadEntry space view below xs start n out (Refused k) xs out
+    read_refusal space view below xs start n (length out) ≡ k → 0 < k → ReadEntry space view below xs start n out (Refused k) xs out
 refused-read k space view below xs start n out e h =
     let z = ne_eqb k 0 (omega arith) in
     record { answer = rw (e, z) refl; left = rw (e, z) refl; listed = rw (e, z) refl }

@@ -117,51 +117,51 @@ module _ (space view below : ℕ) (xs : List ℕ) where
   base = below_of space view below xs
 
   -- the slice with both maps anew
-  unfoldable pub bothMaps : Bytes → Bytes → List ℕ
-  bothMaps v w = with_map space below (map_for space w) (with_map space view (map_for space v) xs)
+  unfoldable pub both_maps : Bytes → Bytes → List ℕ
+  both_maps v w = with_map space below (map_for space w) (with_map space view (map_for space v) xs)
 
   -- both maps at the end of an entry fit; nothing is asked of what lies between
-  abbrev pub asksBoth : Bytes → Bytes → List Question
-  asksBoth v w = record { number = 16; yes = leb (length (runs_of v)) space && leb (length (runs_of w)) space } ∷ []
+  abbrev pub asks_both : Bytes → Bytes → List Question
+  asks_both v w = record { number = 16; yes = leb (length (runs_of v)) space && leb (length (runs_of w)) space } ∷ []
 
   -- The refusal of publishing the view, 0 where the entry accepts.
-  unfoldable pub publishRefusal : ℕ
-  publishRefusal = first_no (asks_law (two_maps space view below xs) ∷ asksBoth (as_published own) (published own base))
+  unfoldable pub publish_refusal : ℕ
+  publish_refusal = first_no (asks_law (two_maps space view below xs) ∷ asks_both (as_published own) (published own base))
 
   -- The maps that publishing leaves.
-  unfoldable pub publishedMaps : List ℕ
-  publishedMaps = bothMaps (as_published own) (published own base)
+  unfoldable pub published_maps : List ℕ
+  published_maps = both_maps (as_published own) (published own base)
 
   -- Publishing answers r and leaves the maps xs'.
   abbrev pub PublishEntry : Answer → List ℕ → Type 0
-  PublishEntry = Entry publishRefusal Done publishedMaps xs
+  PublishEntry = Entry publish_refusal Done published_maps xs
 
   -- The refusal of a refresh of the view, 0 where the entry accepts.
-  unfoldable pub refreshRefusal : ℕ
-  refreshRefusal = first_no (asks_law (two_maps space view below xs) ∷ asksBoth (refreshed own base) base)
+  unfoldable pub refresh_refusal : ℕ
+  refresh_refusal = first_no (asks_law (two_maps space view below xs) ∷ asks_both (refreshed own base) base)
 
   -- The maps that a refresh leaves.
-  unfoldable pub refreshedMaps : List ℕ
-  refreshedMaps = bothMaps (refreshed own base) base
+  unfoldable pub refreshed_maps : List ℕ
+  refreshed_maps = both_maps (refreshed own base) base
 
   -- A refresh answers r and leaves the maps xs'.
   abbrev pub RefreshEntry : Answer → List ℕ → Type 0
-  RefreshEntry = Entry refreshRefusal Done refreshedMaps xs
+  RefreshEntry = Entry refresh_refusal Done refreshed_maps xs
 
   -- The refusal of a sync, which publishes and then refreshes, 0 where the entry accepts.
-  unfoldable pub syncRefusal : ℕ
-  syncRefusal =
+  unfoldable pub sync_refusal : ℕ
+  sync_refusal =
       first_no
       (asks_law (two_maps space view below xs)
-      ∷ asksBoth (refreshed (as_published own) (published own base)) (published own base))
+      ∷ asks_both (refreshed (as_published own) (published own base)) (published own base))
 
   -- The maps that a sync leaves.
-  unfoldable pub syncedMaps : List ℕ
-  syncedMaps = bothMaps (refreshed (as_published own) (published own base)) (published own base)
+  unfoldable pub synced_maps : List ℕ
+  synced_maps = both_maps (refreshed (as_published own) (published own base)) (published own base)
 
   -- A sync answers r and leaves the maps xs'.
   abbrev pub SyncEntry : Answer → List ℕ → Type 0
-  SyncEntry = Entry syncRefusal Done syncedMaps xs
+  SyncEntry = Entry sync_refusal Done synced_maps xs
 
   module _ (start length : ℕ) where
     -- The view after writing a range.
@@ -169,34 +169,34 @@ module _ (space view below : ℕ) (xs : List ℕ) where
     writing number = overwrite start length (cell_of number 1) own
 
     -- The number of a refused write through, 0 where the entry accepts.
-    unfoldable pub writeThroughRefusal : ℕ → ℕ
-    writeThroughRefusal number =
+    unfoldable pub write_through_refusal : ℕ → ℕ
+    write_through_refusal number =
         first_no
         (asks_law (two_maps space view below xs)
-        ∷ (asks_number number ∷ (asks_range start length ++ asksBoth (as_published (writing number)) (published (writing number) base))))
+        ∷ (asks_number number ∷ (asks_range start length ++ asks_both (as_published (writing number)) (published (writing number) base))))
 
     -- The maps that a write through leaves.
-    unfoldable pub writtenThroughMaps : ℕ → List ℕ
-    writtenThroughMaps number = bothMaps (as_published (writing number)) (published (writing number) base)
+    unfoldable pub written_through_maps : ℕ → List ℕ
+    written_through_maps number = both_maps (as_published (writing number)) (published (writing number) base)
 
     -- A write through answers r and leaves the maps xs'.
     abbrev pub WriteThroughEntry : ℕ → Answer → List ℕ → Type 0
-    WriteThroughEntry number = Entry (writeThroughRefusal number) Done (writtenThroughMaps number) xs
+    WriteThroughEntry number = Entry (write_through_refusal number) Done (written_through_maps number) xs
 
     -- The refusal of a read, which refreshes and then lists the pieces of a range, 0 where the entry accepts.
-    unfoldable pub readRefusal : ℕ → ℕ
-    readRefusal room =
+    unfoldable pub read_refusal : ℕ → ℕ
+    read_refusal room =
         first_no
         (asks_law (two_maps space view below xs)
         ∷ (asks_range start length
-        ++ (asksBoth (refreshed own base) base ++ (asks_room (pieces_of (refreshed own base) start length) room ∷ []))))
+        ++ (asks_both (refreshed own base) base ++ (asks_room (pieces_of (refreshed own base) start length) room ∷ []))))
 
     -- The slice `out` gets the pieces.
-    abbrev pub readPieces : List Run
-    readPieces = pieces_of (refreshed own base) start length
+    abbrev pub read_pieces : List Run
+    read_pieces = pieces_of (refreshed own base) start length
 
   -- A read changes two slices: the maps, and the answer slice `out`.
   pub record ReadEntry (start n : ℕ) (out : List ℕ) (r : Answer) (xs' out' : List ℕ) : Type 0 where
-    pub answer : r ≡ or_refused (readRefusal start n (length out)) (listed_count (readPieces start n))
-    pub left : xs' ≡ or_kept (readRefusal start n (length out)) refreshedMaps xs
-    pub listed : out' ≡ or_kept (readRefusal start n (length out)) (listed_in (readPieces start n) out) out
+    pub answer : r ≡ or_refused (read_refusal start n (length out)) (listed_count (read_pieces start n))
+    pub left : xs' ≡ or_kept (read_refusal start n (length out)) refreshed_maps xs
+    pub listed : out' ≡ or_kept (read_refusal start n (length out)) (listed_in (read_pieces start n) out) out

@@ -57,16 +57,16 @@ pub record Counted (map below : List ℕ) (mix : Mix) (from to x n last i j : �
 
 module _ {map below : List ℕ} {mix : Mix} {from to x n last i j : ℕ} (k : Counted map below mix from to x n last i j) where
   -- what is counted
-  abbrev mixOf : Bytes
-  mixOf = mix_in mix (bytes_of map) (bytes_of below)
+  abbrev mix_of : Bytes
+  mix_of = mix_in mix (bytes_of map) (bytes_of below)
 
   -- no more runs than bytes: the count fits
   pub count_most : n ≤ to
-  count_most = omega (arith, k.sum, starts-most (to - from) from 0 mixOf)
+  count_most = omega (arith, k.sum, starts-most (to - from) from 0 mix_of)
 
   -- at the end all are counted
-  pub count-end : to ≤ x → n ≡ length (runs_from (to - from) from mixOf)
-  count-end h = omega (arith, k.sum, starts-most (to - x) x last mixOf, count-starts (to - from) from mixOf)
+  pub count-end : to ≤ x → n ≡ length (runs_from (to - from) from mix_of)
+  count-end h = omega (arith, k.sum, starts-most (to - x) x last mix_of, count-starts (to - from) from mix_of)
 
   -- a turn goes to the nearest byte y at which a map or the range changes
   module _ {s : Both} {y : ℕ} (h : x < to) (top : to ≤ OFFSET_MAX) (o : mix.start ≤ mix.end)
@@ -77,7 +77,7 @@ module _ {map below : List ℕ} {mix : Mix} {from to x n last i j : ℕ} (k : Co
 
     module _ {here new : ℕ} (m : here ≡ mixed mix.mode s.inside mix.cell s.cell s.other) (r : new ≡ begins here last) where
       -- up to there the mix has one cell
-      same-there : (z : ℕ) → x ≤ z → z < y → mixOf z ≡ here
+      same-there : (z : ℕ) → x ≤ z → z < y → mix_of z ≡ here
       same-there z a u =
           let below : x < OFFSET_MAX = omega arith in
           let f = sym (k.view.same z a) ∙ both-cell p below o z a (omega arith) in
@@ -89,7 +89,7 @@ module _ {map below : List ℕ} {mix : Mix} {from to x n last i j : ℕ} (k : Co
       count_next =
           let f : x ≤ y = omega (arith, further) in
           record {
-            sum = omega (arith, k.sum, starts-on x y to last here mixOf further (omega arith) same-there, r);
+            sum = omega (arith, k.sum, starts-on x y to last here mix_of further (omega arith) same-there, r);
             view = passing-on (passing-then k.view p.mine) y f;
             under = passing-on (passing-then k.under p.theirs) y f;
           }

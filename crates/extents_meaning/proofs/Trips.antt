@@ -59,9 +59,9 @@ unfolding map_of fours
 map_none space = ap (λ (n : ℕ). replicate (4 * n) 0) (sub-zero space)
 
 -- a map with a first run: its four numbers, then the map of the others
-pub map_first : (space : ℕ) (r : Run) (rs : List Run) → map_of (suc space) (r ∷ rs) ≡ ahead r (map_of space rs)
+pub map_first_lem : (space : ℕ) (r : Run) (rs : List Run) → map_of (suc space) (r ∷ rs) ≡ ahead r (map_of space rs)
 unfolding map_of fours
-map_first space r rs = ap (λ (n : ℕ). fours (r ∷ rs) ++ replicate (4 * n) 0) (suc-sub-suc space (length rs))
+map_first_lem space r rs = ap (λ (n : ℕ). fours (r ∷ rs) ++ replicate (4 * n) 0) (suc-sub-suc space (length rs))
 
 -- a map with runs in front: their numbers, then the map of the others
 pub map_append : (space : ℕ) (ps qs : List Run) → map_of space (ps ++ qs) ≡ fours ps ++ map_of (space - length ps) qs
@@ -191,7 +191,7 @@ read_back space [] top end c t h = runs-stop space (map_of space []) (ap (λ (l 
 read_back zero (r ∷ rs) top end c t h = absurd (omega arith)
 read_back (suc n) (r ∷ rs) top end c t h =
     let f : r.length ≢ 0 = omega (arith, t.0.filled) in
-    ap (runs_in (suc n)) (map_first n r rs)
+    ap (runs_in (suc n)) (map_first_lem n r rs)
     ∙ runs-step n (ahead r (map_of n rs)) f
     ∙ (λ i. here_back r (map_of n rs) i ∷ read_back n rs top (r.start + r.length) r.cell t.1 (omega arith) i)
 
@@ -214,7 +214,7 @@ written-lawful (suc n) (r ∷ rs) end c t w h =
     let xs = ahead r (map_of n rs) in
     let first : may_follow end c xs ≡ true = follow-here end c xs ∙ may_in end c _ _ _ _ (may_next end c r t.0 w.0 w.1) in
     let back = here_back r (map_of n rs) in
-    ap (lawful_from (suc n) end c) (map_first n r rs)
+    ap (lawful_from (suc n) end c) (map_first_lem n r rs)
     ∙ law-step n end c xs f
     ∙ (λ i. first i && lawful_from n ((back i).start + (back i).length) (back i).cell (map_of n rs))
     ∙ written-lawful n rs (r.start + r.length) r.cell t.1 w.2 (omega arith)
@@ -260,7 +260,7 @@ read_more n end c xs rs l f e rest =
           (record { rising = m.rising; filled = omega arith; inside = m.inside; written = omega arith; longest = m.longest }, rest.in_order);
       numbered = (omega arith, omega arith, rest.numbered);
       fit = let h = rest.fit in omega arith;
-      whole = four_back xs (omega arith) mark ∙ ap (ahead (run_here xs)) rest.whole ∙ sym (map_first n (run_here xs) rs);
+      whole = four_back xs (omega arith) mark ∙ ap (ahead (run_here xs)) rest.whole ∙ sym (map_first_lem n (run_here xs) rs);
     }
 
 -- a slice that is lawful behind a run was written there

@@ -41,8 +41,8 @@ room-count space k n h =
 
 -- Two maps stand inside a slice, and both are lawful.
 pub record Told (space view below : ℕ) (xs : List ℕ) : Type 0 where
-  pub view_in : (view + 1) * (4 * space) ≤ length xs
-  pub below_in : (below + 1) * (4 * space) ≤ length xs
+  pub view_in_lem : (view + 1) * (4 * space) ≤ length xs
+  pub below_in_lem : (below + 1) * (4 * space) ≤ length xs
   pub view-law : lawful (map_at space view xs) ≡ true
   pub below-law : lawful (map_at space below xs) ≡ true
 
@@ -55,8 +55,8 @@ module _ (space view below : ℕ) (xs : List ℕ) where
       let e3 = and_out (leb ((below + 1) * (4 * space)) (length xs)) _ e2.1 in
       let e4 = and_out (lawful (map_at space view xs)) _ e3.1 in
       record {
-        view_in = leb-true ((view + 1) * (4 * space)) (length xs) e2.0;
-        below_in = leb-true ((below + 1) * (4 * space)) (length xs) e3.0;
+        view_in_lem = leb-true ((view + 1) * (4 * space)) (length xs) e2.0;
+        below_in_lem = leb-true ((below + 1) * (4 * space)) (length xs) e3.0;
         view-law = e4.0;
         below-law = (and_out (lawful (map_at space below xs)) _ e4.1).0;
       }
@@ -74,11 +74,11 @@ module _ (space view below : ℕ) (xs : List ℕ) where
 
 module _ (space k : ℕ) (xs : List ℕ) where
   -- the part that is lent
-  abbrev pub lentMap : List ℕ
-  lentMap = take (k * (4 * space) + 4 * space - k * (4 * space)) (drop (k * (4 * space)) xs)
+  abbrev pub lent_map : List ℕ
+  lent_map = take (k * (4 * space) + 4 * space - k * (4 * space)) (drop (k * (4 * space)) xs)
 
   -- The lent map is map k.
-  pub map_lent : lentMap ≡ map_at space k xs
+  pub map_lent : lent_map ≡ map_at space k xs
   map_lent = lent (k * (4 * space)) (4 * space) xs
 
   module _ (fit : (k + 1) * (4 * space) ≤ length xs) where
@@ -99,7 +99,7 @@ module _ (space k : ℕ) (xs : List ℕ) where
     map-few law = omega (arith, (lawful-map (map_at space k xs) law).fit, map_space)
 
     -- A lent map that comes back as the map of other bytes is put in the place of map k.
-    pub made-home : (f : Bytes → Bytes) → {last : List ℕ} → last ≡ map_for (space_in lentMap) (f (bytes_of lentMap)) →
+    pub made-home : (f : Bytes → Bytes) → {last : List ℕ} → last ≡ map_for (space_in lent_map) (f (bytes_of lent_map)) →
         put_mid (k * (4 * space)) (k * (4 * space) + 4 * space - k * (4 * space)) xs last ≡
         with_map space k (map_for space (f (bytes_of (map_at space k xs)))) xs
     made-home f {last} b = rw (home (k * (4 * space)) (4 * space) xs last, b, map_lent, map_space)

@@ -8,16 +8,16 @@ use Rattle.extents_pair.specs.declared.Pair.{Pair}
 
 module _ (p : Pair) (xs : List ℕ) where
   -- Both maps are lawful, the second without marks.
-  abbrev pub twoMapsIn : Bool
-  twoMapsIn = two_maps p.space p.view p.below xs
+  abbrev pub two_maps_in : Bool
+  two_maps_in = two_maps p.space p.view p.below xs
 
   -- The cells of the view.
-  abbrev pub viewIn : Bytes
-  viewIn = view_of p.space p.view p.below xs
+  abbrev pub view_in : Bytes
+  view_in = view_of p.space p.view p.below xs
 
   -- The cells of the published map.
-  abbrev pub belowIn : Bytes
-  belowIn = below_of p.space p.view p.below xs
+  abbrev pub below_in : Bytes
+  below_in = below_of p.space p.view p.below xs
 
   -- The field `own` counts the unpublished runs of the view.
   abbrev pub OwnCounted : Type 0

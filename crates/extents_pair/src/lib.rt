@@ -7,7 +7,7 @@ ghost use Rattle.extents_meaning.specs.Runs.{runs_from, runs_of, pieces_of};
 ghost use Rattle.extents_meaning.specs.Maps.{map_for, runs, bytes_of, lawful, map_at, with_map, listed_in};
 ghost use Rattle.extents_map.specs.Mixes.{mix, mix_in, makes_map, is_mark_published};
 ghost use Rattle.extents_meaning.specs.Pairs.{two_maps};
-ghost use Rattle.extents_pair.specs.InPairs.{twoMapsIn, viewIn, belowIn, OwnCounted};
+ghost use Rattle.extents_pair.specs.InPairs.{two_maps_in, view_in, below_in, OwnCounted};
 ghost use Rattle.extents_pair.specs.Marks.{marked};
 ghost use Rattle.rows.specs.Limits.{OFFSET_MAX, ROWS};
 
@@ -66,9 +66,9 @@ fn map_at(maps: &[u32], space: usize, k: usize) -> &[u32]
 
 // How many runs a mix of a view, the published map and a range has from one byte to another.
 fn count(maps: &[u32], pair: Pair, mix: Mix, from: u32, to: u32) -> usize
-    requires maps_value { twoMapsIn pair maps.now ≡ true }
+    requires maps_value { two_maps_in pair maps.now ≡ true }
     requires from_le_to { (from ≤ to) × (mix.start ≤ mix.end) }
-    ensures { result ≡ length (runs_from (to - from) from (mix_in mix (viewIn pair maps.now) (belowIn pair maps.now))) }
+    ensures { result ≡ length (runs_from (to - from) from (mix_in mix (view_in pair maps.now) (below_in pair maps.now))) }
 {
     let view = map_at(maps, pair.space, pair.view);
     let below = map_at(maps, pair.space, pair.below);
@@ -87,10 +87,10 @@ pub fn own_runs(maps: &[u32], space: usize, k: usize) -> usize
 // Does a mix of a view, the published map and a range fit a map's space? The walk counts its runs only where the most that there can be are too
 // many.
 pub fn fits(maps: &[u32], pair: Pair, mode: Mode, start: u32, end: u32, cell: u32) -> bool
-    requires maps_value { twoMapsIn pair maps.now ≡ true }
+    requires maps_value { two_maps_in pair maps.now ≡ true }
     requires mode_value { (makes_map mode ≡ true) × (start ≤ end) × OwnCounted pair maps.now }
     ensures { result ≡ leb (length (runs_from (OFFSET_MAX - 0) 0 (mix mode start (end - start) cell
-        (viewIn pair maps.now) (belowIn pair maps.now)))) pair.space }
+        (view_in pair maps.now) (below_in pair maps.now)))) pair.space }
 {
     let space = pair.space;
     if most_runs(maps, pair, mode) <= space {
@@ -107,10 +107,10 @@ pub fn fits(maps: &[u32], pair: Pair, mode: Mode, start: u32, end: u32, cell: u3
 
 // Room for the runs of a mix of a view, the published map and any range that fits a map's space: no more than the most that there can be.
 pub fn room(maps: &[u32], pair: Pair, mode: Mode) -> usize
-    requires { (twoMapsIn pair maps.now ≡ true) × (makes_map mode ≡ true) × OwnCounted pair maps.now }
+    requires { (two_maps_in pair maps.now ≡ true) × (makes_map mode ≡ true) × OwnCounted pair maps.now }
     ensures upper_bound { result ≤ pair.space }
     ensures by_index { (start n cell : ℕ) → (let runs = length (runs_of (mix mode start n cell
-        (viewIn pair maps.now) (belowIn pair maps.now))) in runs ≤ pair.space → runs ≤ result) }
+        (view_in pair maps.now) (below_in pair maps.now))) in runs ≤ pair.space → runs ≤ result) }
 {
     let space = pair.space;
     let most = most_runs(maps, pair, mode);
@@ -122,9 +122,9 @@ pub fn room(maps: &[u32], pair: Pair, mode: Mode) -> usize
 
 // The most runs that a mix of a view, the published map and any range can have.
 fn most_runs(maps: &[u32], pair: Pair, mode: Mode) -> usize
-    requires { (twoMapsIn pair maps.now ≡ true) × (makes_map mode ≡ true) × OwnCounted pair maps.now }
+    requires { (two_maps_in pair maps.now ≡ true) × (makes_map mode ≡ true) × OwnCounted pair maps.now }
     ensures { (start n cell : ℕ) → length (runs_of (mix mode start n cell
-        (viewIn pair maps.now) (belowIn pair maps.now))) ≤ result }
+        (view_in pair maps.now) (below_in pair maps.now))) ≤ result }
 {
     if is_mark_published(mode) {
         return extents_map::locate::runs_in(map_at(maps, pair.space, pair.view)) + 2;
@@ -148,10 +148,10 @@ fn is_mark_published(mode: Mode) -> bool
 // Has a range of a view more pieces after a refresh than there is room for? A range has at most two for each run, and one more: the walk counts
 // them only where the room may lack.
 pub fn lacks(maps: &[u32], pair: Pair, from: u32, to: u32, room: usize) -> bool
-    requires maps_value { twoMapsIn pair maps.now ≡ true }
+    requires maps_value { two_maps_in pair maps.now ≡ true }
     requires from_le_to { (from ≤ to) × OwnCounted pair maps.now }
     ensures { result ≡ ltb room (length (pieces_of (refreshed
-        (viewIn pair maps.now) (belowIn pair maps.now)) from (to - from))) }
+        (view_in pair maps.now) (below_in pair maps.now)) from (to - from))) }
 {
     if most_runs(maps, pair, Mode::Refresh) < room / 2 {
         return false;

@@ -19,7 +19,7 @@ use Rattle.extents_map.specs.Mixes.{mixed, mix, mix_in}
 use Rattle.extents_map.specs.declared.scan.Mix.{Mix}
 use Rattle.extents_map.specs.declared.scan.Mode.TheVariants.{Publish}
 use Rattle.extents_pair.specs.declared.Pair.{Pair}
-use Rattle.extents_pair.specs.InPairs.{twoMapsIn, viewIn, belowIn, OwnCounted}
+use Rattle.extents_pair.specs.InPairs.{two_maps_in, view_in, below_in, OwnCounted}
 use Rattle.extents_pair.specs.Marks.{marked}
 use Rattle.extents_pair.proofs.Pairing.{two-told, two-apart, last-law}
 use Rattle.extents_pair.proofs.Parts.{bytes_fit, bytes-map}
@@ -45,12 +45,12 @@ plain_cell n = ne_eqb (mark_in (cell_of n 0)) 1 (omega arith)
 
 -- What a call of `share` relies on.
 pub record Shared (pair : Pair) (start end number : ℕ) (xs : List ℕ) : Type 0 where
-  pub two : twoMapsIn pair xs ≡ true
+  pub two : two_maps_in pair xs ≡ true
   pub order : start ≤ end
   pub inside : end ≤ OFFSET_MAX
   pub low : number ≤ ROWS
   pub own : OwnCounted pair xs
-  pub few : length (runs_of (mix Publish start (end - start) (cell_of number 0) (viewIn pair xs) (belowIn pair xs))) ≤ pair.space
+  pub few : length (runs_of (mix Publish start (end - start) (cell_of number 0) (view_in pair xs) (below_in pair xs))) ≤ pair.space
 
 module _ {pair : Pair} {start end number : ℕ} {xs : List ℕ} (s : Shared pair start end number xs) where
   -- the numbers of a map, and where both maps start
@@ -65,10 +65,10 @@ module _ {pair : Pair} {start end number : ℕ} {xs : List ℕ} (s : Shared pair
 
   -- the cells of both maps
   abbrev view : Bytes
-  view = viewIn pair xs
+  view = view_in pair xs
 
   abbrev old : Bytes
-  old = belowIn pair xs
+  old = below_in pair xs
 
   -- the cells of the published map at the end
   abbrev new : Bytes
@@ -106,7 +106,7 @@ module _ {pair : Pair} {start end number : ℕ} {xs : List ℕ} (s : Shared pair
 
   -- Where the view is as it was, the published map decides.
   decides : (ys : List ℕ) → length ys ≡ length xs → map_at pair.space pair.view ys ≡ map_at pair.space pair.view xs →
-      lawful_published (map_at pair.space pair.below ys) ≡ twoMapsIn pair ys
+      lawful_published (map_at pair.space pair.below ys) ≡ two_maps_in pair ys
   decides ys n e =
       let t = two-told pair.space pair.view pair.below xs s.two in
       last-law pair.space pair.view pair.below ys (two-apart pair.space pair.view pair.below xs s.two)
@@ -119,7 +119,7 @@ module _ {pair : Pair} {start end number : ℕ} {xs : List ℕ} (s : Shared pair
 
   -- A lawful map without unpublished bytes in the place of the published one leaves both maps lawful, and the count of unpublished runs.
   after : {P : ℕ → ℕ → Type 0} {ys : List ℕ} → Below size w P xs ys → ((b c : ℕ) → P b c → unpublished c ≡ false) →
-      (twoMapsIn pair ys ≡ true) × OwnCounted pair ys
+      (two_maps_in pair ys ≡ true) × OwnCounted pair ys
   after {P} {ys} d u =
       let m = map_at pair.space pair.below ys in
       let none = no_marks-in (runs m) (lawful-map m d.law).lawful-runs (λ b. u b (bytes_of m b) (d.bytes b)) in (
@@ -158,7 +158,7 @@ module _ {pair : Pair} {start end number : ℕ} {xs : List ℕ} (s : Shared pair
 
   -- A slice whose published map has the cells at the end is the slice of the contract.
   shared : {ys : List ℕ} → Below size w (λ b c. c ≡ new b) xs ys →
-      (ys ≡ with_map pair.space pair.below (map_for pair.space new) xs) × ((twoMapsIn pair ys ≡ true) × OwnCounted pair ys)
+      (ys ≡ with_map pair.space pair.below (map_for pair.space new) xs) × ((two_maps_in pair ys ≡ true) × OwnCounted pair ys)
   shared {ys} d =
       let m = map_at pair.space pair.below ys in
       let n : space_in m ≡ pair.space = omega (arith, d.only.filled) in (
@@ -168,14 +168,14 @@ module _ {pair : Pair} {start end number : ℕ} {xs : List ℕ} (s : Shared pair
 
   -- All runs and the range laid one by one leave the slice of the contract.
   pub laid_end : {ys : List ℕ} → Below size w (λ b c. c ≡ overwrite start (end - start) (number * 2) (published view old) b) xs ys →
-      (ys ≡ with_map pair.space pair.below (map_for pair.space new) xs) × ((twoMapsIn pair ys ≡ true) × OwnCounted pair ys)
+      (ys ≡ with_map pair.space pair.below (map_for pair.space new) xs) × ((two_maps_in pair ys ≡ true) × OwnCounted pair ys)
   unfolding mixed
   laid_end {ys} d = shared (subst (λ (f : Bytes). Below size w (λ b c. c ≡ f b) xs ys) all_new d)
 
   -- A published map of which each byte is published or as it was.
   module _ {ys : List ℕ} (d : Below size w (λ b c. (c ≡ published view old b) ⊎ (c ≡ old b)) xs ys) where
     -- Both maps are lawful.
-    pub kept-two : (twoMapsIn pair ys ≡ true) × OwnCounted pair ys
+    pub kept-two : (two_maps_in pair ys ≡ true) × OwnCounted pair ys
     kept-two = after d go
       where
         go : (b c : ℕ) → (c ≡ published view old b) ⊎ (c ≡ old b) → unpublished c ≡ false
@@ -183,7 +183,7 @@ module _ {pair : Pair} {start end number : ℕ} {xs : List ℕ} (s : Shared pair
         go b c (inr e) = ap unpublished e ∙ old_plain b
 
     -- The mix gives the cells at the end.
-    kept_new : mix_in all (viewIn pair ys) (belowIn pair ys) ≡ new
+    kept_new : mix_in all (view_in pair ys) (below_in pair ys) ≡ new
     unfolding mixed
     kept_new = (λ i b. cond (in_range start (end - start) b) (number * 2) (same b (d.bytes b) i)) ∙ all_new
       where
@@ -191,18 +191,18 @@ module _ {pair : Pair} {start end number : ℕ} {xs : List ℕ} (s : Shared pair
         twice true a o = refl
         twice false a o = refl
 
-        same : (b : ℕ) {c : ℕ} → (c ≡ published view old b) ⊎ (c ≡ old b) → published (viewIn pair ys) (λ _. c) b ≡ published view old b
+        same : (b : ℕ) {c : ℕ} → (c ≡ published view old b) ⊎ (c ≡ old b) → published (view_in pair ys) (λ _. c) b ≡ published view old b
         same b (inl q) =
             (λ i. published (bytes_of (view-kept d i)) (λ _. q i) b) ∙ twice (unpublished (view b)) (cleared (view b)) (old b)
         same b (inr q) = λ i. published (bytes_of (view-kept d i)) (λ _. q i) b
 
     -- A rewrite by the mix finds room.
-    pub kept-few : length (runs_of (mix_in all (viewIn pair ys) (belowIn pair ys))) ≤ pair.space
+    pub kept-few : length (runs_of (mix_in all (view_in pair ys) (below_in pair ys))) ≤ pair.space
     kept-few = omega (arith, s.few, ap (λ (f : Bytes). length (runs_of f)) kept_new)
 
     -- A rewrite by the mix leaves the slice of the contract.
-    pub woven-end : {zs : List ℕ} → zs ≡ with_map pair.space pair.below (map_for pair.space (mix_in all (viewIn pair ys) (belowIn pair ys))) ys →
-        (zs ≡ with_map pair.space pair.below (map_for pair.space new) xs) × ((twoMapsIn pair zs ≡ true) × OwnCounted pair zs)
+    pub woven-end : {zs : List ℕ} → zs ≡ with_map pair.space pair.below (map_for pair.space (mix_in all (view_in pair ys) (below_in pair ys))) ys →
+        (zs ≡ with_map pair.space pair.below (map_for pair.space new) xs) × ((two_maps_in pair zs ≡ true) × OwnCounted pair zs)
     woven-end q =
         let h : w + size ≤ length ys = omega (arith, inner, only-length inner d.only) in
         let k = below-made h pair.space refl new new_fits (q ∙ (λ i. with_map pair.space pair.below (map_for pair.space (kept_new i)) ys)) in

@@ -10,7 +10,7 @@ ghost use Rattle.extents_meaning.specs.Maps.{map_for, runs, bytes_of, lawful, wi
 ghost use Rattle.extents_map.specs.Beside.{run_no};
 ghost use Rattle.extents_map.specs.Mixes.{mix};
 ghost use Rattle.extents_map.specs.declared.scan.Mode.TheVariants.{Publish};
-ghost use Rattle.extents_pair.specs.InPairs.{twoMapsIn, viewIn, belowIn, OwnCounted};
+ghost use Rattle.extents_pair.specs.InPairs.{two_maps_in, view_in, below_in, OwnCounted};
 ghost use Rattle.extents_publish.specs.Publishing.{Below, published_in, Taken, Layable};
 
 use extents_map::locate;
@@ -29,12 +29,12 @@ struct Own {
 // Publishes a view and a range of a row number, 0 where the range is empty, on a published map that fits then. Where a run does not fit between the
 // others that are laid, the map is rewritten from what it is by then.
 pub fn share(maps: &mut [u32], pair: Pair, start: u32, end: u32, number: u32)
-    requires maps_value { twoMapsIn pair maps.old ≡ true }
+    requires maps_value { two_maps_in pair maps.old ≡ true }
     requires start_le_end { (start ≤ end) × (start < end → 1 ≤ number) × (number ≤ ROWS) × OwnCounted pair maps.old }
-    requires maps_len_bound { length (runs_of (mix Publish start (end - start) (cell_of number 0) (viewIn pair maps.old) (belowIn pair maps.old))) ≤ pair.space }
+    requires maps_len_bound { length (runs_of (mix Publish start (end - start) (cell_of number 0) (view_in pair maps.old) (below_in pair maps.old))) ≤ pair.space }
     ensures maps_after { maps.new ≡ with_map pair.space pair.below
-        (map_for pair.space (mix Publish start (end - start) (cell_of number 0) (viewIn pair maps.old) (belowIn pair maps.old))) maps.old }
-    ensures maps_after_2 { (twoMapsIn pair maps.new ≡ true) × OwnCounted pair maps.new }
+        (map_for pair.space (mix Publish start (end - start) (cell_of number 0) (view_in pair maps.old) (below_in pair maps.old))) maps.old }
+    ensures maps_after_2 { (two_maps_in pair maps.new ≡ true) × OwnCounted pair maps.new }
 {
     let space = pair.space;
     let view = pair.view;

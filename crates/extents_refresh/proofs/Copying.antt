@@ -11,7 +11,7 @@ use Rattle.extents_meaning.specs.Maps.{runs, lawful, map_at, with_map}
 use Rattle.extents_meaning.proofs.Trips.{lawful-map}
 use Rattle.extents_meaning.proofs.Sides.{with_length, with_same, at_other}
 use Rattle.extents_pair.proofs.Spots.{zero_behind}
-use Rattle.extents_pair.proofs.Pairing.{lentMap, map_lent, map_length, map_space}
+use Rattle.extents_pair.proofs.Pairing.{lent_map, map_lent, map_length, map_space}
 
 -- Both maps have room in the slice, at two places, and are lawful.
 abbrev pub CopyReady : (space j k : ℕ) (xs : List ℕ) → Type 0
@@ -29,7 +29,7 @@ pub record Copying (space j k : ℕ) (xs : List ℕ) (end : ℕ) (ys : List ℕ)
 
 -- A lawful map's runs, counted while it is lent, fit the space, and behind n runs, which are no fewer, the map has only 0.
 runs-end : (space k : ℕ) (xs : List ℕ) → (k + 1) * (4 * space) ≤ length xs → lawful (map_at space k xs) ≡ true → (n : ℕ) →
-    {a : ℕ} → a ≡ length (runs (lentMap space k xs)) → a ≤ n → (a ≤ space) × (drop (n * 4) (map_at space k xs) ≡ replicate (4 * space - n * 4) 0)
+    {a : ℕ} → a ≡ length (runs (lent_map space k xs)) → a ≤ n → (a ≤ space) × (drop (n * 4) (map_at space k xs) ≡ replicate (4 * space - n * 4) 0)
 runs-end space k xs fit law n {a} e h =
     let m = map_at space k xs in
     let z : a ≡ length (runs m) = e ∙ ap (λ (l : List ℕ). length (runs l)) (map_lent space k xs) in (
@@ -40,8 +40,8 @@ runs-end space k xs fit law n {a} e h =
     )
 
 -- At first no number is copied; behind the larger number of runs the maps agree.
-pub copy_start : (space j k : ℕ) (xs : List ℕ) {a b n : ℕ} → CopyReady space j k xs → a ≡ length (runs (lentMap space j xs)) →
-    b ≡ length (runs (lentMap space k xs)) → n ≡ max a b → Copying space j k xs (n * 4) xs 0
+pub copy_start : (space j k : ℕ) (xs : List ℕ) {a b n : ℕ} → CopyReady space j k xs → a ≡ length (runs (lent_map space j xs)) →
+    b ≡ length (runs (lent_map space k xs)) → n ≡ max a b → Copying space j k xs (n * 4) xs 0
 copy_start space j k xs {a} {b} {n} ready ea eb en =
     let u = runs-end space j xs ready.0.0 ready.1.0 n ea (omega arith) in
     let v = runs-end space k xs ready.0.1 ready.1.1 n eb (omega arith) in

@@ -20,7 +20,7 @@ use Rattle.extents_map.specs.Mixes.{mixed, mix}
 use Rattle.extents_map.specs.declared.scan.Mode.TheVariants.{MarkPublished}
 use Rattle.extents_pair.specs.Marks.{marked}
 use Rattle.extents_pair.proofs.Parts.{home, bytes_fit}
-use Rattle.extents_pair.proofs.Pairing.{Told, two-told, two-apart, last-law, lentMap, map_lent, map_length, map_space, map_whole, made-home}
+use Rattle.extents_pair.proofs.Pairing.{Told, two-told, two-apart, last-law, lent_map, map_lent, map_length, map_space, map_whole, made-home}
 use Rattle.extents_pair.proofs.Gathering.{refreshed-none}
 use Rattle.extents_refresh.specs.Clearing.{Cleared}
 use Rattle.extents_refresh.proofs.Clearing.{cleared-all}
@@ -56,7 +56,7 @@ marks-are v w = runs_same (mix MarkPublished 0 0 0 v w) (as_published v) (λ b _
 -- Of two maps in a slice the view was lent, and some of its marks are cleared.
 pub record ViewCleared (space view below : ℕ) (xs : List ℕ) (left : ℕ) (end : List ℕ) : Type 0 where
   pub two : two_maps space view below xs ≡ true
-  pub marks : Cleared (lentMap space view xs) left end
+  pub marks : Cleared (lent_map space view xs) left end
 
 module _ {space view below : ℕ} {xs : List ℕ} {left : ℕ} {end : List ℕ} (k : ViewCleared space view below xs left end) where
   told : Told space view below xs

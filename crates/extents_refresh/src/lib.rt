@@ -6,7 +6,7 @@ ghost use Rattle.extents_meaning.specs.Cells.{as_published, refreshed};
 ghost use Rattle.extents_meaning.specs.Runs.{run_of, runs_of};
 ghost use Rattle.extents_meaning.specs.Maps.{map_for, runs, lawful, map_at, with_map};
 ghost use Rattle.extents_pair.specs.Marks.{marked};
-ghost use Rattle.extents_pair.specs.InPairs.{twoMapsIn, viewIn, belowIn, OwnCounted};
+ghost use Rattle.extents_pair.specs.InPairs.{two_maps_in, view_in, below_in, OwnCounted};
 ghost use Rattle.extents_refresh.specs.Clearing.{Apart, Cleared};
 
 use extents_map::locate;
@@ -15,10 +15,10 @@ use extents_pair::Pair;
 
 // Refreshes a view that fits then. Without an unpublished run the published map is copied.
 pub fn refresh(maps: &mut [u32], pair: Pair)
-    requires maps_value { (twoMapsIn pair maps.old ≡ true) × OwnCounted pair maps.old }
-    requires maps_len_bound { length (runs_of (refreshed (viewIn pair maps.old) (belowIn pair maps.old))) ≤ pair.space }
+    requires maps_value { (two_maps_in pair maps.old ≡ true) × OwnCounted pair maps.old }
+    requires maps_len_bound { length (runs_of (refreshed (view_in pair maps.old) (below_in pair maps.old))) ≤ pair.space }
     ensures { maps.new ≡ with_map pair.space pair.view
-        (map_for pair.space (refreshed (viewIn pair maps.old) (belowIn pair maps.old))) maps.old }
+        (map_for pair.space (refreshed (view_in pair maps.old) (below_in pair maps.old))) maps.old }
 {
     let space = pair.space;
     let view = pair.view;
@@ -39,9 +39,9 @@ pub fn refresh(maps: &mut [u32], pair: Pair)
 
 // Marks a view published: marks are cleared in place as long as no neighbour joins, then the map is rewritten.
 pub fn mark_published(maps: &mut [u32], pair: Pair)
-    requires { (twoMapsIn pair maps.old ≡ true) × OwnCounted pair maps.old }
+    requires { (two_maps_in pair maps.old ≡ true) × OwnCounted pair maps.old }
     ensures { maps.new ≡ with_map pair.space pair.view
-        (map_for pair.space (as_published (viewIn pair maps.old))) maps.old }
+        (map_for pair.space (as_published (view_in pair maps.old))) maps.old }
 {
     let space = pair.space;
     let view = pair.view;

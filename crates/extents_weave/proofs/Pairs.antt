@@ -13,12 +13,12 @@ use Rattle.extents_meaning.specs.Maps.{map_of, map_for, lawful, part_at, with_ma
 use Rattle.extents_meaning.proofs.Longest.{runs_same}
 use Rattle.extents_map.specs.Mixes.{view_is_target, mix_in, becomes}
 use Rattle.extents_map.specs.declared.scan.Mix.{Mix}
-use Rattle.extents_pair.specs.InPairs.{twoMapsIn, viewIn, belowIn}
+use Rattle.extents_pair.specs.InPairs.{two_maps_in, view_in, below_in}
 use Rattle.extents_pair.specs.declared.Pair.{Pair}
 use Rattle.extents_pair.proofs.Pairing.{rows_apart, two-told, two-apart}
-use Rattle.extents_weave.specs.Rewrites.{wovenIn, target_in, Apart, Weavable}
+use Rattle.extents_weave.specs.Rewrites.{woven_in, target_in, Apart, Weavable}
 
-module _ (pair : Pair) (mix : Mix) (xs : List ℕ) (two : twoMapsIn pair xs ≡ true) where
+module _ (pair : Pair) (mix : Mix) (xs : List ℕ) (two : two_maps_in pair xs ≡ true) where
   -- the numbers of a map, and where both maps start
   abbrev size : ℕ
   size = 4 * pair.space
@@ -44,19 +44,19 @@ module _ (pair : Pair) (mix : Mix) (xs : List ℕ) (two : twoMapsIn pair xs ≡ 
 
   -- what the mix makes of both maps
   abbrev made : Bytes
-  made = mix_in mix (viewIn pair xs) (belowIn pair xs)
+  made = mix_in mix (view_in pair xs) (below_in pair xs)
 
   module _ {room : ℕ} (order : mix.start ≤ mix.end) (few : length (runs_of made) ≤ room) (fit : room ≤ pair.space) where
     -- a map at t, with the other one at o, that becomes the mix
-    module _ (t o : ℕ) (woven : (b : ℕ) → wovenIn size t o mix xs b ≡ made b) where
-      same_runs : runs_of (wovenIn size t o mix xs) ≡ runs_of made
-      same_runs = runs_same (wovenIn size t o mix xs) made (λ b _. woven b)
+    module _ (t o : ℕ) (woven : (b : ℕ) → woven_in size t o mix xs b ≡ made b) where
+      same_runs : runs_of (woven_in size t o mix xs) ≡ runs_of made
+      same_runs = runs_same (woven_in size t o mix xs) made (λ b _. woven b)
 
       weavable : Apart size t o xs → lawful (part_at t size xs) ≡ true → Weavable size t o mix room xs
       weavable stand law =
           record { two = stand; law = law; order = order; few = omega (arith, few, ap length same_runs); fit = omega (arith, fit) }
 
-      woven-home : {ys : List ℕ} → ys ≡ with_part t size (map_for (size / 4) (wovenIn size t o mix xs)) xs → ys ≡ with_part t size (map_for pair.space made) xs
+      woven-home : {ys : List ℕ} → ys ≡ with_part t size (map_for (size / 4) (woven_in size t o mix xs)) xs → ys ≡ with_part t size (map_for pair.space made) xs
       woven-home q = let s : size / 4 ≡ pair.space = omega arith in q ∙ (λ i. with_part t size (map_of (s i) (same_runs i)) xs)
 
     module _ (e : view_is_target mix.mode ≡ true) where
@@ -67,7 +67,7 @@ module _ (pair : Pair) (mix : Mix) (xs : List ℕ) (two : twoMapsIn pair xs ≡ 
           weavable v w (λ b. rw e) (record { target_within = maps-in.0; other_in = maps-in.1; apart = apart; other_law = t.below-law }) t.view-law
 
       -- The view rewritten is the mix.
-      pub view-home : {ys : List ℕ} → ys ≡ with_part v size (map_for (size / 4) (wovenIn size v w mix xs)) xs →
+      pub view-home : {ys : List ℕ} → ys ≡ with_part v size (map_for (size / 4) (woven_in size v w mix xs)) xs →
           ys ≡ with_map pair.space (target_in mix pair) (map_for pair.space made) xs
       view-home q = woven-home v w (λ b. rw e) q ∙ rw e
 
@@ -83,6 +83,6 @@ module _ (pair : Pair) (mix : Mix) (xs : List ℕ) (two : twoMapsIn pair xs ≡ 
           weavable w v (λ b. rw e) (record { target_within = maps-in.1; other_in = maps-in.0; apart = turn apart; other_law = t.view-law }) t.below-law
 
       -- The published map rewritten is the mix.
-      pub below-home : {ys : List ℕ} → ys ≡ with_part w size (map_for (size / 4) (wovenIn size w v mix xs)) xs →
+      pub below-home : {ys : List ℕ} → ys ≡ with_part w size (map_for (size / 4) (woven_in size w v mix xs)) xs →
           ys ≡ with_map pair.space (target_in mix pair) (map_for pair.space made) xs
       below-home q = woven-home w v (λ b. rw e) q ∙ rw e

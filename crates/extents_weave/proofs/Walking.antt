@@ -25,7 +25,7 @@ use Rattle.extents_weave_meaning.proofs.InPlace.{Rewriting, stored-size, rewrite
 use Rattle.extents_weave_meaning.proofs.Weave.{held-flat, needs-flat, result-flat}
 use Rattle.extents_weave.specs.Turns.{turned_map, Turned}
 use Rattle.extents_weave.specs.Steps.{step_cell, step_need, Stepped}
-use Rattle.extents_weave.specs.Rewrites.{written_by, needed_by, resultsIn, sourceIn, source_end, OnlyPart, Ready, Rewritten}
+use Rattle.extents_weave.specs.Rewrites.{written_by, needed_by, results_in, source_in, source_end, OnlyPart, Ready, Rewritten}
 use Rattle.extents_weave.specs.declared.Hand.{Hand}
 use Rattle.extents_weave.specs.declared.Step.{Step}
 use Rattle.extents_weave.proofs.Homes.{only-start, only-length, only-apart, home-part, home-only}
@@ -69,8 +69,8 @@ hand-is false m f x c h e = absurd (false≢true e)
 pub record Walking (size t o from : ℕ) (mix : Mix) (keep : Bool) (xs₀ xs : List ℕ) (x i j : ℕ) (h : Hand) : Type 0 where
   pub only : OnlyPart t size xs₀ xs
   pub walk :
-      Rewriting (size / 4) OFFSET_MAX (source_end size t o mix xs₀ from) (sourceIn size t o mix xs₀ from)
-      (written_by keep (resultsIn size t o mix xs₀) (sourceIn size t o mix xs₀ from)) (needed_by keep (resultsIn size t o mix xs₀) (sourceIn size t o mix xs₀ from))
+      Rewriting (size / 4) OFFSET_MAX (source_end size t o mix xs₀ from) (source_in size t o mix xs₀ from)
+      (written_by keep (results_in size t o mix xs₀) (source_in size t o mix xs₀ from)) (needed_by keep (results_in size t o mix xs₀) (source_in size t o mix xs₀ from))
       (part_at t size xs) x h.written i h.start h.end h.cell
   pub others : Passing (part_at o size xs₀) 0 x j
   pub inside : x ≤ OFFSET_MAX
@@ -82,13 +82,13 @@ nothing = record { written = 0; start = 0; end = 0; cell = 0 }
 module _ {size t o from : ℕ} {mix : Mix} {keep : Bool} {xs₀ : List ℕ} (y : Ready size t o from mix keep xs₀) where
   -- the source, the place behind it, what every byte becomes, what is written, and which bytes need it
   abbrev f : Bytes
-  f = sourceIn size t o mix xs₀ from
+  f = source_in size t o mix xs₀ from
 
   abbrev all : ℕ
   all = source_end size t o mix xs₀ from
 
   abbrev m : Results
-  m = resultsIn size t o mix xs₀
+  m = results_in size t o mix xs₀
 
   abbrev g : Bytes
   g = written_by keep m f

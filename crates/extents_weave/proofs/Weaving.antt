@@ -23,7 +23,7 @@ use Rattle.extents_pair.proofs.Parts.{lent, part_length}
 use Rattle.extents_weave_meaning.specs.Kept.{Results, result, held, kept, Lasting}
 use Rattle.extents_weave_meaning.proofs.Kept.{pack_room}
 use Rattle.extents_weave_meaning.proofs.Weave.{roomy_more, few-kept, weave_ready, weave_end, kept_either}
-use Rattle.extents_weave.specs.Rewrites.{resultsIn, wovenIn, sourceIn, source_end, runsWritten, OnlyPart, Weavable, Ready, Rewritten}
+use Rattle.extents_weave.specs.Rewrites.{results_in, woven_in, source_in, source_end, runs_written, OnlyPart, Weavable, Ready, Rewritten}
 use Rattle.extents_weave.proofs.Homes.{only-length, only-apart, only-with, only_then, home-part, home-only}
 use Rattle.extents_weave.proofs.Lasting.{mix-lasting}
 
@@ -44,7 +44,7 @@ module _ {size t o : ℕ} {mix : Mix} {room : ℕ} {xs : List ℕ} (p : Weavable
   f = bytes_of part
 
   abbrev m : Results
-  m = resultsIn size t o mix xs
+  m = results_in size t o mix xs
 
   abbrev space : ℕ
   space = size / 4
@@ -53,7 +53,7 @@ module _ {size t o : ℕ} {mix : Mix} {room : ℕ} {xs : List ℕ} (p : Weavable
   keeps = runs_of (kept OFFSET_MAX m f)
 
   abbrev woven : List Run
-  woven = runs_of (wovenIn size t o mix xs)
+  woven = runs_of (woven_in size t o mix xs)
 
   whole : Map part
   whole = lawful-map part p.law
@@ -172,10 +172,10 @@ module _ {size t o : ℕ} {mix : Mix} {room : ℕ} {xs : List ℕ} (p : Weavable
       other-is = only-apart p.two.target_within only-moved o p.two.apart
 
       -- what it reads and what it makes of that
-      means : (b : ℕ) → b < OFFSET_MAX → sourceIn size t o mix zs from b ≡ kept OFFSET_MAX m f b
+      means : (b : ℕ) → b < OFFSET_MAX → source_in size t o mix zs from b ≡ kept OFFSET_MAX m f b
       means b h = ap (λ (rs : List Run). cell_at rs b) source_runs ∙ runs-mean (kept OFFSET_MAX m f) b h
 
-      even : (b c : ℕ) → resultsIn size t o mix zs b c ≡ m b c
+      even : (b c : ℕ) → results_in size t o mix zs b c ≡ m b c
       even b c = λ z. becomes_in mix (bytes_of (other-is z)) b c
 
       -- The second walk may start.
@@ -194,16 +194,16 @@ module _ {size t o : ℕ} {mix : Mix} {room : ℕ} {xs : List ℕ} (p : Weavable
             fits = omega (arith, place-fits.1);
             law = ap lawful source ∙ map_lawful (space - from) keeps keeps_lawful keeps-fit;
             room =
-                weave_ready OFFSET_MAX (source_end size t o mix zs from) m (resultsIn size t o mix zs) f (sourceIn size t o mix zs from) lasting n means even;
+                weave_ready OFFSET_MAX (source_end size t o mix zs from) m (results_in size t o mix zs) f (source_in size t o mix zs from) lasting n means even;
           }
 
       -- ---- The end
 
       module _ {n : ℕ} {us : List ℕ} (w : Rewritten size t o from mix false zs n us) where
         -- the second walk leaves the runs of the result
-        written : runsWritten size t o mix zs from false ≡ woven
+        written : runs_written size t o mix zs from false ≡ woven
         unfolding runs_of
-        written = weave_end OFFSET_MAX m (resultsIn size t o mix zs) f (sourceIn size t o mix zs from) means even
+        written = weave_end OFFSET_MAX m (results_in size t o mix zs) f (source_in size t o mix zs from) means even
 
         many : n ≡ length woven
         many = w.count ∙ ap length written
@@ -226,7 +226,7 @@ module _ {size t o : ℕ} {mix : Mix} {room : ℕ} {xs : List ℕ} (p : Weavable
 
         module _ {last : List ℕ} (b : length last ≡ length (take (t + size - t) (drop t us)))
             (c : last ≡ (take (n * 4) (take (t + size - t) (drop t us)) ++ replicate (place * 4 - n * 4) 0) ++ drop (place * 4) (take (t + size - t) (drop t us))) where
-          last-is : last ≡ map_for space (wovenIn size t o mix xs)
+          last-is : last ≡ map_for space (woven_in size t o mix xs)
           unfolding map_of
           last-is =
               let i : n * 4 ≡ 4 * n = omega arith in
@@ -243,7 +243,7 @@ module _ {size t o : ℕ} {mix : Mix} {room : ℕ} {xs : List ℕ} (p : Weavable
           last-filled = b ∙ ap length (lent t size us) ∙ w.only.filled
 
           -- The map at t is that of the result.
-          pub woven-home : put_mid t (t + size - t) us last ≡ with_part t size (map_for space (wovenIn size t o mix xs)) xs
+          pub woven-home : put_mid t (t + size - t) us last ≡ with_part t size (map_for space (woven_in size t o mix xs)) xs
           woven-home =
               only-with p.two.target_within (home-only p.two.target_within only-woven last last-filled)
               (home-part p.two.target_within only-woven last last-filled ∙ last-is)

@@ -26,25 +26,25 @@ needed_by keep m f b = cond keep (needs m f b) true
 
 module _ (size t o : ℕ) (mix : Mix) (xs : List ℕ) where
   -- What every byte of the map at t becomes, for each cell that it may have.
-  abbrev pub resultsIn : Results
-  resultsIn = becomes_in mix (bytes_of (part_at o size xs))
+  abbrev pub results_in : Results
+  results_in = becomes_in mix (bytes_of (part_at o size xs))
 
   -- The bytes that a rewrite gives the map at t.
-  abbrev pub wovenIn : Bytes
-  wovenIn = result resultsIn (bytes_of (part_at t size xs))
+  abbrev pub woven_in : Bytes
+  woven_in = result results_in (bytes_of (part_at t size xs))
 
   module _ (from : ℕ) where
     -- The bytes of the map at t from run `from` on.
-    abbrev pub sourceIn : Bytes
-    sourceIn = bytes_of (drop (4 * from) (part_at t size xs))
+    abbrev pub source_in : Bytes
+    source_in = bytes_of (drop (4 * from) (part_at t size xs))
 
     -- The place behind its last run.
     abbrev pub source_end : ℕ
     source_end = from + length (ahead (part_at t size xs) from)
 
     -- The runs that a walk writes.
-    abbrev pub runsWritten : Bool → List Run
-    runsWritten keep = runs_of (trimmed OFFSET_MAX (written_by keep resultsIn sourceIn) (needed_by keep resultsIn sourceIn))
+    abbrev pub runs_written : Bool → List Run
+    runs_written keep = runs_of (trimmed OFFSET_MAX (written_by keep results_in source_in) (needed_by keep results_in source_in))
 
 -- Two slices differ at most in a part.
 pub record OnlyPart (at size : ℕ) (xs ys : List ℕ) : Type 0 where
@@ -63,7 +63,7 @@ pub record Weavable (size t o : ℕ) (mix : Mix) (room : ℕ) (xs : List ℕ) : 
   pub two : Apart size t o xs
   pub law : lawful (part_at t size xs) ≡ true
   pub order : mix.start ≤ mix.end
-  pub few : length (runs_of (wovenIn size t o mix xs)) ≤ room
+  pub few : length (runs_of (woven_in size t o mix xs)) ≤ room
   pub fit : 4 * room ≤ size
 
 -- A walk may start: the part of the map at t from run `from` on is a lawful map, and the walk never writes over a run that it has not read.
@@ -73,12 +73,12 @@ pub record Ready (size t o from : ℕ) (mix : Mix) (keep : Bool) (xs : List ℕ)
   pub fits : 4 * from ≤ size
   pub law : lawful (drop (4 * from) (part_at t size xs)) ≡ true
   pub room :
-      Roomy OFFSET_MAX (source_end size t o mix xs from) (sourceIn size t o mix xs from)
-      (written_by keep (resultsIn size t o mix xs) (sourceIn size t o mix xs from))
+      Roomy OFFSET_MAX (source_end size t o mix xs from) (source_in size t o mix xs from)
+      (written_by keep (results_in size t o mix xs) (source_in size t o mix xs from))
 
 -- A walk has written r runs: they stand in front of the map at t, and behind the source's last run all is 0.
 pub record Rewritten (size t o from : ℕ) (mix : Mix) (keep : Bool) (xs : List ℕ) (r : ℕ) (ys : List ℕ) : Type 0 where
   pub only : OnlyPart t size xs ys
-  pub count : r ≡ length (runsWritten size t o mix xs from keep)
-  pub front : take (4 * r) (part_at t size ys) ≡ fours (runsWritten size t o mix xs from keep)
+  pub count : r ≡ length (runs_written size t o mix xs from keep)
+  pub front : take (4 * r) (part_at t size ys) ≡ fours (runs_written size t o mix xs from keep)
   pub behind : drop (4 * source_end size t o mix xs from) (part_at t size ys) ≡ replicate (4 * (size / 4 - source_end size t o mix xs from)) 0

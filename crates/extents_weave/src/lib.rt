@@ -8,10 +8,10 @@ ghost use Rattle.extents_meaning.specs.Runs.{runs_of};
 ghost use Rattle.extents_meaning.specs.Maps.{map_for, with_part, with_map};
 ghost use Rattle.extents_map.specs.Cursors.{Part};
 ghost use Rattle.extents_map.specs.Mixes.{makes_map, mix_in, view_is_target as Mixes·viewIsTarget, becomes as Mixes·becomes};
-ghost use Rattle.extents_pair.specs.InPairs.{twoMapsIn, viewIn, belowIn, OwnCounted};
+ghost use Rattle.extents_pair.specs.InPairs.{two_maps_in, view_in, below_in, OwnCounted};
 ghost use Rattle.extents_weave.specs.Turns.{Turned, turned_map};
 ghost use Rattle.extents_weave.specs.Steps.{Stepped};
-ghost use Rattle.extents_weave.specs.Rewrites.{Ready, Rewritten, Weavable, wovenIn, target_in};
+ghost use Rattle.extents_weave.specs.Rewrites.{Ready, Rewritten, Weavable, woven_in, target_in};
 
 use extents_map::scan;
 use extents_map::scan::{Mix, Mode};
@@ -38,11 +38,11 @@ struct Step {
 
 // Gives every byte of the view, or of the published map where the mode is Publish, the cell that a mix makes of it, where the result fits.
 pub fn weave(maps: &mut [u32], pair: Pair, mix: Mix)
-    requires maps_value { (twoMapsIn pair maps.old ≡ true) × OwnCounted pair maps.old }
+    requires maps_value { (two_maps_in pair maps.old ≡ true) × OwnCounted pair maps.old }
     requires mode_value { (makes_map mix.mode ≡ true) × (mix.start ≤ mix.end) }
-    requires maps_len_bound { length (runs_of (mix_in mix (viewIn pair maps.old) (belowIn pair maps.old))) ≤ pair.space }
+    requires maps_len_bound { length (runs_of (mix_in mix (view_in pair maps.old) (below_in pair maps.old))) ≤ pair.space }
     ensures { maps.new ≡ with_map pair.space (target_in mix pair)
-        (map_for pair.space (mix_in mix (viewIn pair maps.old) (belowIn pair maps.old))) maps.old }
+        (map_for pair.space (mix_in mix (view_in pair maps.old) (below_in pair maps.old))) maps.old }
 {
     let mode = mix.mode;
     let room = extents_pair::room(maps, pair, mode);
@@ -62,7 +62,7 @@ pub fn weave(maps: &mut [u32], pair: Pair, mix: Mix)
 // Gives every byte of the map at t the cell that a mix makes of it, where the result has at most `room` runs.
 fn weave_map(maps: &mut [u32], size: usize, t: usize, o: usize, mix: Mix, room: usize)
     requires { Weavable size t o mix room maps.old }
-    ensures { maps.new ≡ with_part t size (map_for (size / 4) (wovenIn size t o mix maps.old)) maps.old }
+    ensures { maps.new ≡ with_part t size (map_for (size / 4) (woven_in size t o mix maps.old)) maps.old }
 {
     let all = extents_map::locate::runs_in(&maps[t..t + size]);
     let place = larger(all, room);

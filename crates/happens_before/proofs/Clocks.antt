@@ -302,12 +302,12 @@ count-before : (rows : List Row) (p j : ℕ) → j < length rows →
     count_below (length rows) (λ i. of_process rows p i && hb (edge rows) i j) ≡ clock rows p j
 unfolding count clock
 count-before rows p j h =
-    let isP = of_process rows p in
+    let is_p = of_process rows p in
     let l = last_of (λ k. (row_at rows k).process) (row_at rows j).process j in
     let r = last-is (λ k. (row_at rows k).process) (row_at rows j).process j in
     let sends : ℕ → Bool = λ k. crosses (row_at rows) k j in
-    count_same (length rows) _ _ (λ i b. ap (λ (x : Bool). isP i && x) (hb-union rows j h i l r))
-    ∙ count-joined (length rows) isP sends (λ k i. up_to (edge rows) i k) (up_to_last (edge rows) l) (last-closed rows p l) (up_to-closed rows p) j
+    count_same (length rows) _ _ (λ i b. ap (λ (x : Bool). is_p i && x) (hb-union rows j h i l r))
+    ∙ count-joined (length rows) is_p sends (λ k i. up_to (edge rows) i k) (up_to_last (edge rows) l) (last-closed rows p l) (up_to-closed rows p) j
     ∙ ap (λ (x : ℕ). joined_to sends (λ k. count rows p k) x j) (count-last rows p l)
 
 -- The counts of a row are its clock and the row itself.

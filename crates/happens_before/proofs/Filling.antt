@@ -102,14 +102,14 @@ module _ (n P L : ℕ) (xs : List ℕ) where
   counted k p = count (rows_in n xs) p k
 
   -- The slice with the counts of the first j rows, then 0.
-  abbrev pub filledTo : ℕ → List ℕ
-  filledTo j = rows_of P counted j ++ replicate (L - j * P) 0
+  abbrev pub filled_to : ℕ → List ℕ
+  filled_to j = rows_of P counted j ++ replicate (L - j * P) 0
 
   -- After j rows: their counts are filled, the rest of the slice is 0, and the tables tell of those rows.
   pub record Passed (counts lasts heads earlier : List ℕ) (j : ℕ) : Type 0 where
     pub low : j ≤ n
     pub size : length counts ≡ L
-    pub filled : counts ≡ filledTo j
+    pub filled : counts ≡ filled_to j
     pub tables : Tables xs j lasts heads earlier
 
   module _ (j : ℕ) (h : j < n) where
@@ -119,27 +119,27 @@ module _ (n P L : ℕ) (xs : List ℕ) where
     at : (k : ℕ) → k < n → row_in xs k ≡ row_at rows k
     at k q = sym (row-in n k xs q)
 
-    cells : (p : ℕ) → p < P → (k : ℕ) → k < j → cell_in P (filledTo j) k p ≡ counted k p
+    cells : (p : ℕ) → p < P → (k : ℕ) → k < j → cell_in P (filled_to j) k p ≡ counted k p
     cells p l k q = cell-done P counted j k p (replicate (L - j * P) 0) q l
 
     -- In the slice, the last row of the process has its counts.
     start-count : (p : ℕ) → p < P →
-        from_last (λ k. cell_in P (filledTo j) k p) (last_before (row_in xs) j) ≡ from_last (λ k. counted k p) (last_before (row_at rows) j)
+        from_last (λ k. cell_in P (filled_to j) k p) (last_before (row_in xs) j) ≡ from_last (λ k. counted k p) (last_before (row_at rows) j)
     start-count p l =
-        from_same (λ k. cell_in P (filledTo j) k p) (λ k. counted k p) (last_before (row_in xs) j) j
+        from_same (λ k. cell_in P (filled_to j) k p) (λ k. counted k p) (last_before (row_in xs) j) j
         (last-low (λ k. (row_in xs k).process) (row_in xs j).process j) (cells p l)
         ∙ ap (from_last (λ k. counted k p)) (before_same (row_in xs) (row_at rows) n at j h)
 
     -- In the slice, the rows that lead to row j have their counts.
     leads-count : (p : ℕ) → p < P → (a : ℕ) →
-        joined_to (λ k. crosses (row_in xs) k j) (λ k. cell_in P (filledTo j) k p) a j
+        joined_to (λ k. crosses (row_in xs) k j) (λ k. cell_in P (filled_to j) k p) a j
         ≡ joined_to (λ k. crosses (row_at rows) k j) (λ k. counted k p) a j
     leads-count p l a =
         joined_same (λ k. crosses (row_in xs) k j) (λ k. crosses (row_at rows) k j)
         j (λ k q. crosses-same (row_in xs) (row_at rows) n at k j (omega arith) h) (cells p l) refl
 
     -- Row j is filled with its counts.
-    filled-count : (p : ℕ) → p < P → filled_row P xs (filledTo j) j p ≡ counted j p
+    filled-count : (p : ℕ) → p < P → filled_row P xs (filled_to j) j p ≡ counted j p
     unfolding filled_row clock
     filled-count p l =
         let in_rows : j < length rows = omega (arith, length-rows n xs) in
@@ -147,7 +147,7 @@ module _ (n P L : ℕ) (xs : List ℕ) where
 
     module _ (room : j * P + P ≤ L) where
       -- The slice with row j put there is filled one row further.
-      pub row-filled : with_counts P (filledTo j) j (filled_row P xs (filledTo j) j) ≡ filledTo (suc j)
+      pub row-filled : with_counts P (filled_to j) j (filled_row P xs (filled_to j) j) ≡ filled_to (suc j)
       unfolding blocks
       row-filled =
           let b = rows_of P counted j in
@@ -155,26 +155,26 @@ module _ (n P L : ℕ) (xs : List ℕ) where
           let m : length b ≡ j * P = length-rows_of P counted j in
           let rest : L - j * P ≡ P + (L - suc j * P) = omega (arith, suc-mul j P) in
           let split : z ≡ replicate P 0 ++ replicate (L - suc j * P) 0 = ap (λ (k : ℕ). replicate k 0) rest ∙ sym (replicate-append-replicate P (L - suc j * P) 0) in
-          let front : take (j * P) (filledTo j) ≡ b = take_at b z (j * P) m in
-          let behind : drop (j * P + P) (filledTo j) ≡ replicate (L - suc j * P) 0 =
+          let front : take (j * P) (filled_to j) ≡ b = take_at b z (j * P) m in
+          let behind : drop (j * P + P) (filled_to j) ≡ replicate (L - suc j * P) 0 =
           ap (λ (k : ℕ). drop (k + P) (b ++ z)) (sym m) ∙ drop-append-add b z P ∙ ap (drop P) split
           ∙ drop_at (replicate P 0) (replicate (L - suc j * P) 0) P (length-replicate P 0) in
           (λ i. front i ++ (values_same P filled-count i ++ behind i)) ∙ sym (append_assoc b (values P (counted j)) (replicate (L - suc j * P) 0))
 
       -- Row j's counts are 0 before row j is filled.
-      pub row-empty : (p : ℕ) → p < P → cell_in P (filledTo j) j p ≡ 0
+      pub row-empty : (p : ℕ) → p < P → cell_in P (filled_to j) j p ≡ 0
       row-empty p l = cell-zero P counted j (L - j * P) p
 
       -- The counts of the rows before row j are at most the largest row limit.
-      pub cells-small : n ≤ ROWS → (k p : ℕ) → k < j → p < P → cell_in P (filledTo j) k p ≤ ROWS
+      pub cells-small : n ≤ ROWS → (k p : ℕ) → k < j → p < P → cell_in P (filled_to j) k p ≤ ROWS
       cells-small few k p q l = omega (arith, cells p l k q, count_most rows p k, length-rows n xs)
 
   -- A slice of zeros has no row filled.
-  pub none_filled : replicate L 0 ≡ filledTo 0
+  pub none_filled : replicate L 0 ≡ filled_to 0
   unfolding blocks
   none_filled = let e : L ≡ L - 0 * P = omega (arith, zero-mul P) in ap (λ (k : ℕ). replicate k 0) e
 
   -- A slice with n rows filled has the counts of all rows.
-  pub all-filled : filledTo n ≡ counts_of P (rows_in n xs) ++ replicate (L - n * P) 0
+  pub all-filled : filled_to n ≡ counts_of P (rows_in n xs) ++ replicate (L - n * P) 0
   unfolding counts_of
   all-filled = ap (λ (k : ℕ). rows_of P counted k ++ replicate (L - n * P) 0) (sym (length-rows n xs))

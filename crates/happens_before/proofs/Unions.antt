@@ -12,10 +12,10 @@ use Rattle.rows.proofs.Below.{any-in, any_out, Closed, count-union}
 abbrev pub union_to : (ℕ → Bool) → (ℕ → ℕ → Bool) → (ℕ → Bool) → ℕ → ℕ → Bool
 union_to chosen test first m i = first i || any_below m (λ k. chosen k && test k i)
 
-module _ (n : ℕ) (isP chosen : ℕ → Bool) (test : ℕ → ℕ → Bool) (first : ℕ → Bool)
-    (c : Closed n isP first) (d : (k : ℕ) → Closed n isP (test k)) where
+module _ (n : ℕ) (is_p chosen : ℕ → Bool) (test : ℕ → ℕ → Bool) (first : ℕ → Bool)
+    (c : Closed n is_p first) (d : (k : ℕ) → Closed n is_p (test k)) where
   -- A union of closed tests is closed.
-  closed-union : (m : ℕ) → Closed n isP (union_to chosen test first m)
+  closed-union : (m : ℕ) → Closed n is_p (union_to chosen test first m)
   closed-union m i k l b p q e = go (or_out (first k) (any_below m (λ s. chosen s && test s k)) e)
     where
       go : (first k ≡ true) ⊎ (any_below m (λ s. chosen s && test s k) ≡ true) → union_to chosen test first m i ≡ true
@@ -27,20 +27,20 @@ module _ (n : ℕ) (isP chosen : ℕ → Bool) (test : ℕ → ℕ → Bool) (fi
 
   -- The count of a union is the join of the counts.
   pub count-joined : (m : ℕ) →
-      count_below n (λ i. isP i && union_to chosen test first m i)
-      ≡ joined_to chosen (λ k. count_below n (λ i. isP i && test k i)) (count_below n (λ i. isP i && first i)) m
+      count_below n (λ i. is_p i && union_to chosen test first m i)
+      ≡ joined_to chosen (λ k. count_below n (λ i. is_p i && test k i)) (count_below n (λ i. is_p i && first i)) m
   unfolding any_below joined_to
   count-joined zero = simp or-false
   count-joined (suc m) = go (chosen m) (count-joined m)
     where
       U : ℕ
-      U = count_below n (λ i. isP i && union_to chosen test first m i)
+      U = count_below n (λ i. is_p i && union_to chosen test first m i)
 
       J : ℕ
-      J = joined_to chosen (λ k. count_below n (λ i. isP i && test k i)) (count_below n (λ i. isP i && first i)) m
+      J = joined_to chosen (λ k. count_below n (λ i. is_p i && test k i)) (count_below n (λ i. is_p i && first i)) m
 
       go : (b : Bool) → U ≡ J →
-          count_below n (λ i. isP i && (first i || (any_below m (λ k. chosen k && test k i) || (b && test m i))))
-          ≡ cond b (max J (count_below n (λ i. isP i && test m i))) J
-      go true h = simp (← or_assoc) (rw (← h) (count-union n isP (union_to chosen test first m) (test m) (closed-union m) (d m)))
+          count_below n (λ i. is_p i && (first i || (any_below m (λ k. chosen k && test k i) || (b && test m i))))
+          ≡ cond b (max J (count_below n (λ i. is_p i && test m i))) J
+      go true h = simp (← or_assoc) (rw (← h) (count-union n is_p (union_to chosen test first m) (test m) (closed-union m) (d m)))
       go false h = simp or-false h

@@ -19,7 +19,7 @@ same_barrier r s = eqb r.kind BARRIER && (eqb s.kind BARRIER && eqb r.message s.
 
 -- The index of the last row of a process below k, plus one; 0 where there is none.
 unfoldable pub last_of : (ℕ → ℕ) → ℕ → ℕ → ℕ
-last_of processAt process k = last_below k (λ i. eqb (processAt i) process)
+last_of process_at process k = last_below k (λ i. eqb (process_at i) process)
 
 -- The last row of row j's process before row j, named so.
 abbrev pub last_before : (ℕ → Row) → ℕ → ℕ

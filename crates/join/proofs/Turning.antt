@@ -94,11 +94,11 @@ module _ (P : ℕ) (first second : List ℕ) (both : List Row) (done : List Entr
 
   module _ (few : P ≤ PROCESSES) {table stands arrivals : List ℕ} {processes : ℕ} (t : Told both (rows_of done) table stands arrivals processes) where
     -- The chooser's turn.
-    abbrev chosenTurn : Turn
-    chosenTurn = turn_by table stands arrivals processes a b
+    abbrev chosen_turn : Turn
+    chosen_turn = turn_by table stands arrivals processes a b
 
     -- Both files are at their end.
-    turn-none : Stands P FIRST first a [] → Stands P SECOND second b [] → TurnTells P first second both done a b [] [] chosenTurn
+    turn-none : Stands P FIRST first a [] → Stands P SECOND second b [] → TurnTells P first second both done a b [] [] chosen_turn
     unfolding turn_of
     turn-none sa sb =
         let p = stands-none sa in
@@ -107,7 +107,7 @@ module _ (P : ℕ) (first second : List ℕ) (both : List Row) (done : List Entr
 
     -- The first file is at its end.
     turn-last-second : {e : Entry} {ys : List Entry} → Stands P FIRST first a [] → Stands P SECOND second b (e ∷ ys) →
-        TurnTells P first second both done a b [] (e ∷ ys) chosenTurn
+        TurnTells P first second both done a b [] (e ∷ ys) chosen_turn
     unfolding turn_of
     turn-last-second {e} {ys} sa sb = go (waits both (rows_of done) e.row) refl
       where
@@ -117,7 +117,7 @@ module _ (P : ℕ) (first second : List ℕ) (both : List Row) (done : List Entr
         p : a ≡ no_next
         p = stands-none sa
 
-        go : (w : Bool) → waits both (rows_of done) e.row ≡ w → TurnTells P first second both done a b [] (e ∷ ys) chosenTurn
+        go : (w : Bool) → waits both (rows_of done) e.row ≡ w → TurnTells P first second both done a b [] (e ∷ ys) chosen_turn
         go true w =
             turn_is [] (e ∷ ys) (stuck-second table stands arrivals processes a b (ready-none table stands arrivals processes p) (ready-told t few f ∙ ap not w) (some_is p) (some_is f.is_next)) (rw w)
         go false w =
@@ -125,7 +125,7 @@ module _ (P : ℕ) (first second : List ℕ) (both : List Row) (done : List Entr
 
     -- The second file is at its end.
     turn-last-first : {e : Entry} {xs : List Entry} → Stands P FIRST first a (e ∷ xs) → Stands P SECOND second b [] →
-        TurnTells P first second both done a b (e ∷ xs) [] chosenTurn
+        TurnTells P first second both done a b (e ∷ xs) [] chosen_turn
     unfolding turn_of
     turn-last-first {e} {xs} sa sb = go (waits both (rows_of done) e.row) refl
       where
@@ -135,13 +135,13 @@ module _ (P : ℕ) (first second : List ℕ) (both : List Row) (done : List Entr
         q : b ≡ no_next
         q = stands-none sb
 
-        go : (w : Bool) → waits both (rows_of done) e.row ≡ w → TurnTells P first second both done a b (e ∷ xs) [] chosenTurn
+        go : (w : Bool) → waits both (rows_of done) e.row ≡ w → TurnTells P first second both done a b (e ∷ xs) [] chosen_turn
         go true w = turn_is (e ∷ xs) [] (stuck-first table stands arrivals processes a b (ready-told t few f ∙ ap not w) (ready-none table stands arrivals processes q) (some_is f.is_next)) (rw w)
         go false w = turn_is (e ∷ xs) [] (turn-first table stands arrivals processes a b (ready-told t few f ∙ ap not w)) (take-first f sb (rw w))
 
     -- Both files have a next row.
     turn-both : {e g : Entry} {xs ys : List Entry} → Stands P FIRST first a (e ∷ xs) → Stands P SECOND second b (g ∷ ys) →
-        TurnTells P first second both done a b (e ∷ xs) (g ∷ ys) chosenTurn
+        TurnTells P first second both done a b (e ∷ xs) (g ∷ ys) chosen_turn
     unfolding turn_of
     turn-both {e} {g} {xs} {ys} sa sb = go (waits both (rows_of done) e.row) (waits both (rows_of done) g.row) refl refl
       where
@@ -152,7 +152,7 @@ module _ (P : ℕ) (first second : List ℕ) (both : List Row) (done : List Entr
         h = stands-first sb
 
         go : (v w : Bool) → waits both (rows_of done) e.row ≡ v → waits both (rows_of done) g.row ≡ w →
-            TurnTells P first second both done a b (e ∷ xs) (g ∷ ys) chosenTurn
+            TurnTells P first second both done a b (e ∷ xs) (g ∷ ys) chosen_turn
         go true true v w =
             turn_is (e ∷ xs) (g ∷ ys) (stuck-first table stands arrivals processes a b (ready-told t few f ∙ ap not v) (ready-told t few h ∙ ap not w) (some_is f.is_next)) (rw (v, w))
         go true false v w =
@@ -161,7 +161,7 @@ module _ (P : ℕ) (first second : List ℕ) (both : List Row) (done : List Entr
 
     -- The chooser's turn tells that of the entries.
     pub turned : (xs ys : List Entry) → Stands P FIRST first a xs → Stands P SECOND second b ys →
-        TurnTells P first second both done a b xs ys chosenTurn
+        TurnTells P first second both done a b xs ys chosen_turn
     turned [] [] sa sb = turn-none sa sb
     turned [] (e ∷ ys) sa sb = turn-last-second sa sb
     turned (e ∷ xs) [] sa sb = turn-last-first sa sb

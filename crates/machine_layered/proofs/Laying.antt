@@ -31,8 +31,8 @@ use Rattle.rows.proofs.Asking.{AllYes, all_yes, first-no, yes-behind}
 use Rattle.extents.specs.declared.Answer as extents
 use Rattle.extents.specs.declared.Answer.TheVariants.{Done, Refused}
 use Rattle.extents_meaning.specs.Pairs.{two_maps, view_of, below_of}
-use Rattle.extents.specs.Entries.{bothMaps, or_refused, or_kept, listed_count, write_refusal, written_map, list_refusal, publishRefusal, publishedMaps, refreshRefusal, refreshedMaps, syncRefusal, syncedMaps, writeThroughRefusal, writtenThroughMaps, readRefusal}
-use Rattle.extents.proofs.Lent.{home, two-told, lentMap, map_lent, map_space}
+use Rattle.extents.specs.Entries.{both_maps, or_refused, or_kept, listed_count, write_refusal, written_map, list_refusal, publish_refusal, published_maps, refresh_refusal, refreshed_maps, sync_refusal, synced_maps, write_through_refusal, written_through_maps, read_refusal}
+use Rattle.extents.proofs.Lent.{home, two-told, lent_map, map_lent, map_space}
 use Rattle.machine_state.specs.Answers.{answer_of, Steps, Ready}
 use Rattle.machine_state.proofs.Maps.{first-map, state_two, state_view, state_in, anew, fit-both, to_both, to_view_alone, shared', view', row-both}
 use Rattle.machine_state.proofs.Questions.{room-named, asked-yes, asked-process, asked-range}
@@ -60,8 +60,8 @@ lent-lawful size p xs b h =
 
 module _ (h : Header) (xs : List ℕ) where
   -- The published map is lawful and without marks, and every view is lawful.
-  abbrev mapsLaw : Bool
-  mapsLaw = lawful_published (map_at h.space 0 xs) && all_below h.processes (λ p. lawful (map_at h.space (suc p) xs))
+  abbrev maps_law : Bool
+  maps_law = lawful_published (map_at h.space 0 xs) && all_below h.processes (λ p. lawful (map_at h.space (suc p) xs))
 
   -- A model past the models: the state is not lawful.
   pub no_model : MODELS ≤ h.model → false ≡ lawful_state h xs
@@ -72,13 +72,13 @@ module _ (h : Header) (xs : List ℕ) where
     -- No process limit: the state is not lawful.
     pub no_limit : is_process_limit h.processes ≡ false → false ≡ lawful_state h xs
     unfolding lawful_state
-    no_limit b = sym (λ i. lt-ltb h.model MODELS a i && (b i && (ltb h.file FILES && (leb (maps_length h) (length xs) && mapsLaw))))
+    no_limit b = sym (λ i. lt-ltb h.model MODELS a i && (b i && (ltb h.file FILES && (leb (maps_length h) (length xs) && maps_law))))
 
     module _ (b : is_process_limit h.processes ≡ true) where
       -- A file past the files: the state is not lawful.
       pub no_file : FILES ≤ h.file → false ≡ lawful_state h xs
       unfolding lawful_state
-      no_file d = sym (λ i. lt-ltb h.model MODELS a i && (b i && (le-ltb h.file FILES d i && (leb (maps_length h) (length xs) && mapsLaw))))
+      no_file d = sym (λ i. lt-ltb h.model MODELS a i && (b i && (le-ltb h.file FILES d i && (leb (maps_length h) (length xs) && maps_law))))
 
       module _ (d : h.file < FILES) where
         -- A slice that is too short: the state is not lawful.
@@ -86,15 +86,15 @@ module _ (h : Header) (xs : List ℕ) where
         unfolding lawful_state
         no-slice l =
             let e : length xs < maps_length h = omega arith in
-            sym (λ i. lt-ltb h.model MODELS a i && (b i && (lt-ltb h.file FILES d i && (lt-leb (maps_length h) (length xs) e i && mapsLaw))))
+            sym (λ i. lt-ltb h.model MODELS a i && (b i && (lt-ltb h.file FILES d i && (lt-leb (maps_length h) (length xs) e i && maps_law))))
 
         module _ (l : h.space * (h.processes + 1) ≤ length xs / 4) where
           -- If the header and the slice pass, the maps decide.
-          by-maps : lawful_state h xs ≡ mapsLaw
+          by-maps : lawful_state h xs ≡ maps_law
           unfolding lawful_state
           by-maps =
               let e : maps_length h ≤ length xs = omega arith in
-              λ i. lt-ltb h.model MODELS a i && (b i && (lt-ltb h.file FILES d i && (le-leb (maps_length h) (length xs) e i && mapsLaw)))
+              λ i. lt-ltb h.model MODELS a i && (b i && (lt-ltb h.file FILES d i && (le-leb (maps_length h) (length xs) e i && maps_law)))
 
           -- The published map is lent as the front of the slice.
           by_first : {b : Bool} → lawful_published (take (4 * h.space) xs) ≡ b →
@@ -167,7 +167,7 @@ module _ {h : Header} {xs : List ℕ} {r : Row} {number : ℕ} (k : Ready h xs r
   two = state_two h xs k.lawful r.process (ready-process k)
 
   -- The lent view is the map of the process.
-  lent-own : lentMap h.space (r.process + 1) xs ≡ map_at h.space (suc r.process) xs
+  lent-own : lent_map h.space (r.process + 1) xs ≡ map_at h.space (suc r.process) xs
   lent-own = map_lent h.space (r.process + 1) xs ∙ ap (λ (n : ℕ). map_at h.space n xs) (add-one r.process)
 
   -- A ready row meets what the entries for lawful maps ask: those of two maps, and those of one.
@@ -175,7 +175,7 @@ module _ {h : Header} {xs : List ℕ} {r : Row} {number : ℕ} (k : Ready h xs r
   ready-two = ap (λ (n : ℕ). two_maps h.space n 0 xs) (add-one r.process) ∙ two
 
   -- The lent view of a ready row is lawful.
-  pub ready-own : lawful (lentMap h.space (r.process + 1) xs) ≡ true
+  pub ready-own : lawful (lent_map h.space (r.process + 1) xs) ≡ true
   ready-own = ap lawful lent-own ∙ state_view h xs k.lawful r.process (ready-process k)
 
   -- The published map fits its space.
@@ -241,7 +241,7 @@ module _ {h : Header} {xs : List ℕ} {r : Row} {number : ℕ} (k : Ready h xs r
     fits_both out e = (all_yes (room_asked fits pieces (length out)) (room-named fits pieces (length out)) e).0
 
     -- Encoding the new state replaces both maps.
-    both_to : fits ≡ true → layers_to h state xs ≡ bothMaps h.space (suc r.process) 0 xs v w
+    both_to : fits ≡ true → layers_to h state xs ≡ both_maps h.space (suc r.process) 0 xs v w
     both_to f =
         let b = and_out (plain_fits h w) (plain_fits h v) f in
         to_both h xs k.lawful r.process (ready-process k) v w (leb-true _ _ b.1) (leb-true _ _ b.0)
@@ -269,7 +269,7 @@ module _ {h : Header} {xs : List ℕ} {r : Row} {number : ℕ} (k : Ready h xs r
 
       -- A row that an entry for two maps serves.
       by_two : (refusal : ℕ → ℕ) (left : ℕ → List ℕ) → refusal (suc r.process) ≡ cond (plain_fits h v && plain_fits h w) 0 16 →
-          left (suc r.process) ≡ bothMaps h.space (suc r.process) 0 xs v w → {answer : extents.Answer} {maps' : List ℕ} →
+          left (suc r.process) ≡ both_maps h.space (suc r.process) 0 xs v w → {answer : extents.Answer} {maps' : List ℕ} →
           answer ≡ or_refused (refusal (r.process + 1)) Done → maps' ≡ or_kept (refusal (r.process + 1)) (left (r.process + 1)) xs →
           (out : List ℕ) → Steps (step_of h xs r number out) answer maps' out
       by_two refusal left e l a m =
@@ -306,34 +306,34 @@ module _ {h : Header} {xs : List ℕ} {r : Row} {number : ℕ} (k : Ready h xs r
     module _ {answer : extents.Answer} {maps' : List ℕ} where
       -- A row that publishes and refreshes does what `sync` does.
       pub share-both : publishes h.model r.kind ≡ true → refreshes h.model r.kind ≡ true →
-          answer ≡ or_refused (syncRefusal h.space (r.process + 1) 0 xs) Done →
-          maps' ≡ or_kept (syncRefusal h.space (r.process + 1) 0 xs) (syncedMaps h.space (r.process + 1) 0 xs) xs →
+          answer ≡ or_refused (sync_refusal h.space (r.process + 1) 0 xs) Done →
+          maps' ≡ or_kept (sync_refusal h.space (r.process + 1) 0 xs) (synced_maps h.space (r.process + 1) 0 xs) xs →
           (out : List ℕ) → Steps (step_of h xs r number out) answer maps' out
-      unfolding first_no syncRefusal syncedMaps
+      unfolding first_no sync_refusal synced_maps
       share-both p f =
           let w = published (own k) (old k).shared in
           by_two k (refreshed (as_published (own k)) w) w (rw (no_write, p, f)) (rw (no_write, p)) no_read
-          (λ n. syncRefusal h.space n 0 xs) (λ n. syncedMaps h.space n 0 xs) (rw (two k)) refl
+          (λ n. sync_refusal h.space n 0 xs) (λ n. synced_maps h.space n 0 xs) (rw (two k)) refl
 
       -- A row that publishes only does what `publish` does.
       pub share-publish : publishes h.model r.kind ≡ true → refreshes h.model r.kind ≡ false →
-          answer ≡ or_refused (publishRefusal h.space (r.process + 1) 0 xs) Done →
-          maps' ≡ or_kept (publishRefusal h.space (r.process + 1) 0 xs) (publishedMaps h.space (r.process + 1) 0 xs) xs →
+          answer ≡ or_refused (publish_refusal h.space (r.process + 1) 0 xs) Done →
+          maps' ≡ or_kept (publish_refusal h.space (r.process + 1) 0 xs) (published_maps h.space (r.process + 1) 0 xs) xs →
           (out : List ℕ) → Steps (step_of h xs r number out) answer maps' out
-      unfolding first_no publishRefusal publishedMaps
+      unfolding first_no publish_refusal published_maps
       share-publish p f =
           by_two k (as_published (own k)) (published (own k) (old k).shared) (rw (no_write, p, f)) (rw (no_write, p)) no_read
-          (λ n. publishRefusal h.space n 0 xs) (λ n. publishedMaps h.space n 0 xs) (rw (two k)) refl
+          (λ n. publish_refusal h.space n 0 xs) (λ n. published_maps h.space n 0 xs) (rw (two k)) refl
 
       -- A row that refreshes only does what `refresh` does.
       pub share-refresh : publishes h.model r.kind ≡ false → refreshes h.model r.kind ≡ true →
-          answer ≡ or_refused (refreshRefusal h.space (r.process + 1) 0 xs) Done →
-          maps' ≡ or_kept (refreshRefusal h.space (r.process + 1) 0 xs) (refreshedMaps h.space (r.process + 1) 0 xs) xs →
+          answer ≡ or_refused (refresh_refusal h.space (r.process + 1) 0 xs) Done →
+          maps' ≡ or_kept (refresh_refusal h.space (r.process + 1) 0 xs) (refreshed_maps h.space (r.process + 1) 0 xs) xs →
           (out : List ℕ) → Steps (step_of h xs r number out) answer maps' out
-      unfolding first_no refreshRefusal refreshedMaps
+      unfolding first_no refresh_refusal refreshed_maps
       share-refresh p f =
           by_two k (refreshed (own k) (old k).shared) (old k).shared (rw (no_write, p, f)) (rw (no_write, p)) no_read
-          (λ n. refreshRefusal h.space n 0 xs) (λ n. refreshedMaps h.space n 0 xs) (rw (two k)) refl
+          (λ n. refresh_refusal h.space n 0 xs) (λ n. refreshed_maps h.space n 0 xs) (rw (two k)) refl
 
     -- A row that does neither changes nothing.
     pub share-none : publishes h.model r.kind ≡ false → refreshes h.model r.kind ≡ false →
@@ -370,15 +370,15 @@ module _ {h : Header} {xs : List ℕ} {r : Row} {number : ℕ} (k : Ready h xs r
   module _ {answer : extents.Answer} {maps' : List ℕ} where
     -- A write that publishes does what `write_through` does.
     pub write-write-through : publishes h.model 1 ≡ true →
-        answer ≡ or_refused (writeThroughRefusal h.space (r.process + 1) 0 xs r.offset r.length number) Done →
-        maps' ≡ or_kept (writeThroughRefusal h.space (r.process + 1) 0 xs r.offset r.length number)
-        (writtenThroughMaps h.space (r.process + 1) 0 xs r.offset r.length number) xs →
+        answer ≡ or_refused (write_through_refusal h.space (r.process + 1) 0 xs r.offset r.length number) Done →
+        maps' ≡ or_kept (write_through_refusal h.space (r.process + 1) 0 xs r.offset r.length number)
+        (written_through_maps h.space (r.process + 1) 0 xs r.offset r.length number) xs →
         (out : List ℕ) → Steps (step_of h xs r number out) answer maps' out
-    unfolding first_no writeThroughRefusal writtenThroughMaps
+    unfolding first_no write_through_refusal written_through_maps
     write-write-through p =
         let q : publishes h.model r.kind ≡ true = ap (publishes h.model) kind ∙ p in
         by_two k (as_published new) (published new (old k).shared) (rw (write_is, q, write_stays)) (rw (write_is, q)) write_quiet
-        (λ n. writeThroughRefusal h.space n 0 xs r.offset r.length number) (λ n. writtenThroughMaps h.space n 0 xs r.offset r.length number)
+        (λ n. write_through_refusal h.space n 0 xs r.offset r.length number) (λ n. written_through_maps h.space n 0 xs r.offset r.length number)
         (rw (two k, ready-number k, le-leb _ _ write_range.0, le-leb _ _ write_range.1, le-leb _ _ write_range.2)) refl
 
   -- The map of the process.
@@ -405,7 +405,7 @@ module _ {h : Header} {xs : List ℕ} {r : Row} {number : ℕ} (k : Ready h xs r
 
   -- A write that does not publish does what `write` does to the view.
   pub write_own : publishes h.model 1 ≡ false → {answer : extents.Answer} {last : List ℕ} →
-      let m = lentMap h.space (r.process + 1) xs in
+      let m = lent_map h.space (r.process + 1) xs in
       let at = (r.process + 1) * (4 * h.space) in
       answer ≡ or_refused (write_refusal m r.offset r.length number true) Done →
       last ≡ or_kept (write_refusal m r.offset r.length number true) (written_map m r.offset r.length number true) m →
@@ -451,29 +451,29 @@ module _ {h : Header} {xs : List ℕ} {r : Row} {number : ℕ} (k : Ready h xs r
     module _ {maps' out' : List ℕ} where
       -- The answer slice and the maps are those that `read` of the map of pieces leaves.
       pub read-fresh : refreshes h.model 0 ≡ true → let p = r.process + 1 in
-          let n = readRefusal h.space p 0 xs r.offset r.length (length out) in
+          let n = read_refusal h.space p 0 xs r.offset r.length (length out) in
           let ps = pieces_of (refreshed (view_of h.space p 0 xs) (below_of h.space p 0 xs)) r.offset r.length in
-          answer ≡ or_refused n (listed_count ps) → maps' ≡ or_kept n (refreshedMaps h.space p 0 xs) xs → out' ≡ or_kept n (listed_in ps out) out →
+          answer ≡ or_refused n (listed_count ps) → maps' ≡ or_kept n (refreshed_maps h.space p 0 xs) xs → out' ≡ or_kept n (listed_in ps out) out →
           Steps (step_of h xs r number out) answer maps' out'
-      unfolding first_no readRefusal refreshedMaps
+      unfolding first_no read_refusal refreshed_maps
       read-fresh f a m o =
           let q : refreshes h.model r.kind ≡ true = ap (refreshes h.model) kind ∙ f in
           let e = add-one r.process in
           let v = refreshed (own k) (old k).shared in
-          let n : ℕ → ℕ = λ p. readRefusal h.space p 0 xs r.offset r.length (length out) in
+          let n : ℕ → ℕ = λ p. read_refusal h.space p 0 xs r.offset r.length (length out) in
           let ps : ℕ → List Run = λ p. pieces_of (refreshed (view_of h.space p 0 xs) (below_of h.space p 0 xs)) r.offset r.length in
           let b = read-range in
           by_read k v (old k).shared (rw (read_plain, read_stays, q)) (rw read_stays) read_is out
           {n = n (suc r.process)}
           (rw (two k, le-leb _ _ b.0, le-leb _ _ b.1, le-leb _ _ b.2, and_comm (plain_fits h v) (plain_fits h (old k).shared)))
           (a ∙ (λ i. or_refused (n (e i)) (listed_count (ps (e i)))))
-          (m ∙ (λ i. or_kept (n (e i)) (refreshedMaps h.space (e i) 0 xs) xs))
+          (m ∙ (λ i. or_kept (n (e i)) (refreshed_maps h.space (e i) 0 xs) xs))
           (o ∙ (λ i. or_kept (n (e i)) (listed_in (ps (e i)) out) out))
           (λ t. sym (both_to k v (old k).shared (rw (read_plain, read_stays, q)) (rw read_stays) t))
 
     -- A read that does not refresh lists the pieces of the view.
     pub read-own : refreshes h.model 0 ≡ false → {out' : List ℕ} →
-        let m = lentMap h.space (r.process + 1) xs in
+        let m = lent_map h.space (r.process + 1) xs in
         let n = list_refusal m r.offset r.length (length out) in
         let ps = pieces_of (bytes_of m) r.offset r.length in
         answer ≡ or_refused n (listed_count ps) → out' ≡ or_kept n (listed_in ps out) out → Steps (step_of h xs r number out) answer xs out'

@@ -171,33 +171,33 @@ module _ (h : Header) {s : Layers} (k : LayersHeld h s) where
       λ i. le-leb _ _ k.shared.fit i && views i
 
   -- The published map, the map of one view, and the maps of all views.
-  abbrev mapFirst : List ℕ
-  mapFirst = map_for h.space s.shared
+  abbrev map_first : List ℕ
+  map_first = map_for h.space s.shared
 
-  abbrev mapOne : ℕ → List ℕ
-  mapOne p = map_for h.space (s.view p)
+  abbrev map_one : ℕ → List ℕ
+  map_one p = map_for h.space (s.view p)
 
-  abbrev mapViews : List ℕ
-  mapViews = blocks h.processes mapOne
+  abbrev map_views : List ℕ
+  map_views = blocks h.processes map_one
 
   -- The lengths of these maps.
-  one-length : (p : ℕ) → p < h.processes → length (mapOne p) ≡ 4 * h.space
+  one-length : (p : ℕ) → p < h.processes → length (map_one p) ≡ 4 * h.space
   one-length p l = held-length (k.view p l)
 
-  maps-length : length (mapFirst ++ mapViews) ≡ maps_length h
+  maps-length : length (map_first ++ map_views) ≡ maps_length h
   maps-length =
-      omega (arith, length-append mapFirst mapViews, held-length k.shared, blocks-length (4 * h.space) mapOne h.processes one-length)
+      omega (arith, length-append map_first map_views, held-length k.shared, blocks-length (4 * h.space) map_one h.processes one-length)
 
   module _ (xs : List ℕ) where
     -- Encoding keeps the numbers past the maps.
     to-rest : drop (maps_length h) (layers_to h s xs) ≡ drop (maps_length h) xs
     unfolding layers_to
-    to-rest = drop_at (mapFirst ++ mapViews) (drop (maps_length h) xs) (maps_length h) maps-length
+    to-rest = drop_at (map_first ++ map_views) (drop (maps_length h) xs) (maps_length h) maps-length
 
     -- Encoding keeps the length of the slice.
     pub to-length : maps_length h ≤ length xs → length (layers_to h s xs) ≡ length xs
     unfolding layers_to
-    to-length l = omega (arith, length-append (mapFirst ++ mapViews) (drop (maps_length h) xs), maps-length, length-drop (maps_length h) xs)
+    to-length l = omega (arith, length-append (map_first ++ map_views) (drop (maps_length h) xs), maps-length, length-drop (maps_length h) xs)
 
     -- A second encoding replaces the first.
     pub to-again : (t : Layers) → layers_to h t (layers_to h s xs) ≡ layers_to h t xs
@@ -205,25 +205,25 @@ module _ (h : Header) {s : Layers} (k : LayersHeld h s) where
     to-again t = ap (λ (l : List ℕ). (map_for h.space t.shared ++ blocks h.processes (λ p. map_for h.space (t.view p))) ++ l) to-rest
 
     -- The published map, then the views, then the rest of the slice.
-    to-apart : layers_to h s xs ≡ mapFirst ++ (mapViews ++ drop (maps_length h) xs)
+    to-apart : layers_to h s xs ≡ map_first ++ (map_views ++ drop (maps_length h) xs)
     unfolding layers_to
-    to-apart = append_assoc mapFirst mapViews (drop (maps_length h) xs)
+    to-apart = append_assoc map_first map_views (drop (maps_length h) xs)
 
     -- The published map of the encoding is at its place.
     pub to-shared : map_at h.space 0 (layers_to h s xs) ≡ map_for h.space s.shared
     to-shared =
         (λ i. take (4 * h.space) (drop (zero-mul (4 * h.space) i) (to-apart i)))
-        ∙ take_at mapFirst (mapViews ++ drop (maps_length h) xs) (4 * h.space) (held-length k.shared)
+        ∙ take_at map_first (map_views ++ drop (maps_length h) xs) (4 * h.space) (held-length k.shared)
 
     -- The map of each view is at its place.
     pub to-view : (p : ℕ) → p < h.processes → map_at h.space (suc p) (layers_to h s xs) ≡ map_for h.space (s.view p)
     to-view p l =
         let m : ℕ = 4 * h.space in
         let z = drop (maps_length h) xs in
-        let e : suc p * m ≡ length mapFirst + p * m = omega (arith, held-length k.shared) in
+        let e : suc p * m ≡ length map_first + p * m = omega (arith, held-length k.shared) in
         (λ i. take m (drop (e i) (to-apart i)))
-        ∙ ap (take m) (drop-append-add mapFirst (mapViews ++ z) (p * m))
-        ∙ block_at m mapOne h.processes one-length p l z
+        ∙ ap (take m) (drop-append-add map_first (map_views ++ z) (p * m))
+        ∙ block_at m map_one h.processes one-length p l z
 
     -- Decoding the encoded slice gives the layered file.
     pub to_in : Alike h.processes (layers_in h (layers_to h s xs)) s

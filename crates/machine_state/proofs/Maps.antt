@@ -31,7 +31,7 @@ use Rattle.extents_meaning.proofs.Trips.{length-map}
 use Rattle.rows.proofs.Bools.{and_out, not_passed}
 use Rattle.extents_meaning.proofs.Sides.{with_length, with_other, at_same, at_other}
 use Rattle.extents_meaning.specs.Pairs.{two_maps}
-use Rattle.extents.specs.Entries.{bothMaps}
+use Rattle.extents.specs.Entries.{both_maps}
 
 -- ---- Numbers below a bound
 
@@ -162,8 +162,8 @@ module _ (h : Header) (xs : List ℕ) (law : lawful_state h xs ≡ true) (p : �
         ap (λ (b : Bool). leb (length (runs_of w)) h.space && b) (all_one h.processes p test below others ∙ own)
 
     -- Encoding the new state replaces these two maps alone.
-    pub to_both : length (runs_of v) ≤ h.space → length (runs_of w) ≤ h.space → layers_to h anew xs ≡ bothMaps h.space (suc p) 0 xs v w
-    unfolding bothMaps
+    pub to_both : length (runs_of v) ≤ h.space → length (runs_of w) ≤ h.space → layers_to h anew xs ≡ both_maps h.space (suc p) 0 xs v w
+    unfolding both_maps
     to_both vf wf =
         let ys = viewed v vf in
         let m = map_for h.space w in

@@ -17,7 +17,7 @@ use Rattle.extents.specs.declared.Answer as extents
 use Rattle.extents.specs.declared.Answer.TheVariants.{Done}
 use Rattle.machine_state.specs.Answers.{answer_of, refusal_of, count_of, Steps, put_to}
 use Rattle.machine_state.proofs.Keeping.{Keeps, Preserves, put-preserves}
-use Rattle.machine_state.specs.Replays.{Replay, refusal_in, count_in, tried, rowPassed, stopped, onward, after, replay_questions, started, replay_by, Replays}
+use Rattle.machine_state.specs.Replays.{Replay, refusal_in, count_in, tried, row_passed, stopped, onward, after, replay_questions, started, replay_by, Replays}
 
 -- The refusal in the code's answer is that of the step.
 refusal-told : (a : StepAnswer) → refusal_of (answer_of a) ≡ refusal_in a
@@ -41,7 +41,7 @@ module _ (step : List ℕ → Row → ℕ → List ℕ → Step) (file : ℕ) (r
   stop-next n s e k =
       let t = tried step file rows s in
       let refused : onward step file rows s ≡ stopped step file rows (refusal_in t.answer) s =
-      λ i. cond (ne_eqb (refusal_in t.answer) 0 k i) (rowPassed step file rows t s) (stopped step file rows (refusal_in t.answer) s) in
+      λ i. cond (ne_eqb (refusal_in t.answer) 0 k i) (row_passed step file rows t s) (stopped step file rows (refusal_in t.answer) s) in
       (λ i. cond (eq-eqb s.refusal 0 e i) (after step file rows n (onward step file rows s)) s)
       ∙ ap (after step file rows n) refused ∙ stay n
     where
@@ -52,13 +52,13 @@ module _ (step : List ℕ → Row → ℕ → List ℕ → Step) (file : ℕ) (r
 
   -- A row that is not refused leads on.
   pass_next : (n : ℕ) (s : Replay) → s.refusal ≡ 0 → refusal_in (tried step file rows s).answer ≡ 0 →
-      after step file rows (suc n) s ≡ after step file rows n (rowPassed step file rows (tried step file rows s) s)
+      after step file rows (suc n) s ≡ after step file rows n (row_passed step file rows (tried step file rows s) s)
   unfolding after onward
   pass_next n s e k =
       let t = tried step file rows s in
       (λ i. cond (eq-eqb s.refusal 0 e i) (after step file rows n (onward step file rows s)) s)
       ∙ ap (after step file rows n)
-      (λ i. cond (eq-eqb (refusal_in t.answer) 0 k i) (rowPassed step file rows t s) (stopped step file rows (refusal_in t.answer) s))
+      (λ i. cond (eq-eqb (refusal_in t.answer) 0 k i) (row_passed step file rows t s) (stopped step file rows (refusal_in t.answer) s))
 
 -- ---- Before the rows
 

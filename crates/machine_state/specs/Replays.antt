@@ -36,8 +36,8 @@ module _ (step : List ℕ → Row → ℕ → List ℕ → Step) (file : ℕ) wh
     tried s = put_to step file s.maps (row_in rows s.rows) (suc s.rows) (drop (3 * s.pieces) s.out)
 
     -- The replay behind a row that is not refused: the row's count is set, and the pieces of a read stand behind those of the reads before it.
-    abbrev pub rowPassed : Step → Replay → Replay
-    rowPassed t s =
+    abbrev pub row_passed : Step → Replay → Replay
+    row_passed t s =
         record {
           refusal = 0;
           rows = suc s.rows;
@@ -54,7 +54,7 @@ module _ (step : List ℕ → Row → ℕ → List ℕ → Step) (file : ℕ) wh
 
     -- The replay one row on.
     unfoldable pub onward : Replay → Replay
-    onward s = let t = tried s in cond (eqb (refusal_in t.answer) 0) (rowPassed t s) (stopped (refusal_in t.answer) s)
+    onward s = let t = tried s in cond (eqb (refusal_in t.answer) 0) (row_passed t s) (stopped (refusal_in t.answer) s)
 
     -- The replay n rows on. A refusal ends it.
     unfoldable pub after : ℕ → Replay → Replay

@@ -14,7 +14,7 @@ use Rattle.rows.proofs.Bools.{and_out, or_right}
 use Rattle.models.specs.Models.{POSIX, COMMIT_MODEL, SESSION, MPI_IO}
 use Rattle.happens_before.specs.Order.{same_process, last_before, passes, crosses, edge, more, hb}
 use Rattle.happens_before.proofs.Clocks.{edge-forward, program-order, hb-iff}
-use Rattle.races_meaning.specs.Races.{is_write, same_file, is_sync, share_byte, conflict, chainCommit, chainSession, chainMpiIo, chain, synchronized, race, free, verdict_of}
+use Rattle.races_meaning.specs.Races.{is_write, same_file, is_sync, share_byte, conflict, chain_commit, chain_session, chain_mpi_io, chain, synchronized, race, free, verdict_of}
 use Rattle.races_meaning.proofs.Chains.{posix-iff, commit-iff, session-iff, mpi_io_iff}
 use Rattle.races_meaning.proofs.Verdicts.{race_out, free-iff}
 use Rattle.reorder.proofs.Between.{sync_process, chain_order, race-parts, race-in}
@@ -50,7 +50,7 @@ module _ (rows : List Row) where
   race_posix model x y e = race_passed POSIX model x y (λ b c. (posix-iff rows x y).1 (chain_order rows model x y b c)) e
 
   -- A session chain is an MPI-IO chain.
-  chain_session_mpi_io : (x y : ℕ) → chainSession rows x y ≡ true → chainMpiIo rows x y ≡ true
+  chain_session_mpi_io : (x y : ℕ) → chain_session rows x y ≡ true → chain_mpi_io rows x y ≡ true
   chain_session_mpi_io x y e =
       let (c, o, l, t, m, u, h) = (session-iff rows x y).0 e in
       (mpi_io_iff rows x y).1 (c, o, l, rw t refl, m, or_right (is_sync SYNC (row_at rows y) (row_at rows o)) _ u, h)
@@ -137,7 +137,7 @@ module _ (rows : List Row) where
   hb-kept i j t = hb (λ k l. edges_kept k l t) i j
 
   -- A session chain is a commit chain where closes are renamed: what happens before the open happens before Y, which follows it in its process.
-  chain_session_commit : (x y : ℕ) → y < length rows → chainSession rows x y ≡ true → chainCommit (closes_renamed rows) x y ≡ true
+  chain_session_commit : (x y : ℕ) → y < length rows → chain_session rows x y ≡ true → chain_commit (closes_renamed rows) x y ≡ true
   chain_session_commit x y b e =
       let (c, o, l, t, m, u, h) = (session-iff rows x y).0 e in
       let k = more h (program-order rows o y m b (sym (sync_process OPEN (row_at rows y) (row_at rows o) u))) in

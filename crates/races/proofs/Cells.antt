@@ -19,7 +19,7 @@ use Rattle.ranges.specs.Ranges.{YES, NO, overlaps, overlap_of}
 use Rattle.races_meaning.specs.Races.{is_write, is_data, same_file, conflict, share_byte}
 use Rattle.happens_before.specs.Order.{same_process}
 use Rattle.races.specs.Given.{may_conflict}
-use Rattle.races_meaning.specs.Search.{isRefresh, refreshAt}
+use Rattle.races_meaning.specs.Search.{is_refresh, refresh_at}
 use Rattle.rows.specs.Counting.{last_below}
 
 -- ---- The numbers of a row
@@ -164,7 +164,7 @@ module _ (test : ℕ → Bool) (i : ℕ) (h : 0 < i) where
 module _ (xs : List ℕ) (n model y : ℕ) where
   -- Row k refreshes for row y.
   abbrev pub refreshing : ℕ → Bool
-  refreshing k = isRefresh (rows_in n xs) model (row_at (rows_in n xs) y) k
+  refreshing k = is_refresh (rows_in n xs) model (row_at (rows_in n xs) y) k
 
   -- Row k refreshes for row y where their numbers say so.
   refresh_cells : (k : ℕ) → y < n → k < n →
@@ -187,11 +187,11 @@ module _ (xs : List ℕ) (n model y : ℕ) where
     refresh-before q = last-before refreshing i z (refresh_cells (i - 1) h (omega arith) ∙ sym e ∙ q)
 
   -- Where a read refreshes, row y itself is the refresh.
-  pub refresh_own : refreshes model READ ≡ true → suc y ≡ refreshAt (rows_in n xs) model y
-  unfolding refreshAt
+  pub refresh_own : refreshes model READ ≡ true → suc y ≡ refresh_at (rows_in n xs) model y
+  unfolding refresh_at
   refresh_own e = rw e
 
   -- Where a read does not refresh, the last earlier row that does is the refresh.
-  pub refresh_earlier : refreshes model READ ≡ false → refreshAt (rows_in n xs) model y ≡ last_below y refreshing
-  unfolding refreshAt
+  pub refresh_earlier : refreshes model READ ≡ false → refresh_at (rows_in n xs) model y ≡ last_below y refreshing
+  unfolding refresh_at
   refresh_earlier e = rw e

@@ -24,14 +24,14 @@ use Rattle.happens_before.proofs.Filling.{rows_of, length-rows_of, cell-done}
 use Rattle.rows.proofs.Slices.{length-rows, row-in}
 use Rattle.races_meaning.specs.Races.{is_data, share_byte, conflict, race}
 use Rattle.rows.specs.Counting.{last_below, LastBy}
-use Rattle.races_meaning.specs.Search.{isRefresh, refreshAt}
-use Rattle.races_meaning.specs.Scan.{noted, lastNoted, inOrder, seen}
-use Rattle.races_meaning.specs.Lists.{RowPair, pairsWith, pairsBelow, race_pairs}
+use Rattle.races_meaning.specs.Search.{is_refresh, refresh_at}
+use Rattle.races_meaning.specs.Scan.{noted, last_noted, is_in_order, seen}
+use Rattle.races_meaning.specs.Lists.{RowPair, pairs_with, pairs_below, race_pairs}
 use Rattle.races_meaning.proofs.Lists.{none-with, few-with, pair_of}
 use Rattle.races_meaning.proofs.Scans.{race_seen}
 use Rattle.races.specs.Given.{Given, Noted, may_conflict}
 use Rattle.races.specs.Listing.{with_pair, with_pairs}
-use Rattle.races.proofs.Putting.{put-append, put_last}
+use Rattle.races.proofs.Putting.{put-append, put_last_lem}
 use Rattle.rows.proofs.Below.{last-most}
 use Rattle.rows.proofs.Lasts.{lasts_none, lasts-kept, lasts-noted}
 use Rattle.races.proofs.Cells.{conflict-split, refresh_own}
@@ -122,29 +122,29 @@ module _ {n P model : ℕ} {xs counts : List ℕ} (g : Given n P model xs counts
   module _ {x : ℕ} (y : ℕ) (hx : x < n) where
     -- A row that is no write is in order by the counts.
     pub order-read : {b : Bool} → (get_or xs (x * 6 + 1) 0 ≡ WRITE → ⊥) →
-        b ≡ leb (count rows (row_at rows x).process x) (count rows (row_at rows x).process y) → b ≡ inOrder rows model x y
-    unfolding inOrder
+        b ≡ leb (count rows (row_at rows x).process x) (count rows (row_at rows x).process y) → b ≡ is_in_order rows model x y
+    unfolding is_in_order
     order-read f t = t ∙ sym (rw (kind_at hx, ne_eqb (get_or xs (x * 6 + 1) 0) WRITE f))
 
     -- A write that publishes is in order by the counts, since row y is then the refresh.
     pub order-own : {b r : Bool} → get_or xs (x * 6 + 1) 0 ≡ WRITE → b ≡ publishes model WRITE → b ≡ true →
-        r ≡ leb (count rows (row_at rows x).process x) (count rows (row_at rows x).process y) → r ≡ inOrder rows model x y
-    unfolding inOrder
+        r ≡ leb (count rows (row_at rows x).process x) (count rows (row_at rows x).process y) → r ≡ is_in_order rows model x y
+    unfolding is_in_order
     order-own w d q t =
-        let e : refreshAt rows model y ≡ suc y = sym (refresh_own xs n model y (own-refresh model (sym d ∙ q))) in
+        let e : refresh_at rows model y ≡ suc y = sym (refresh_own xs n model y (own-refresh model (sym d ∙ q))) in
         let m : suc y - 1 ≡ y = omega arith in
         t ∙ sym (rw (kind_at hx, eq-eqb (get_or xs (x * 6 + 1) 0) WRITE w, e, lt-ltb 0 (suc y) (omega arith), m, sym d ∙ q))
 
-    module _ {refresh : ℕ} (w : get_or xs (x * 6 + 1) 0 ≡ WRITE) (e : refresh ≡ refreshAt rows model y) where
+    module _ {refresh : ℕ} (w : get_or xs (x * 6 + 1) 0 ≡ WRITE) (e : refresh ≡ refresh_at rows model y) where
       -- A write with no refresh is not in order.
-      pub order-none : refresh ≡ 0 → false ≡ inOrder rows model x y
-      unfolding inOrder
+      pub order-none : refresh ≡ 0 → false ≡ is_in_order rows model x y
+      unfolding is_in_order
       order-none z = sym (rw (kind_at hx, eq-eqb (get_or xs (x * 6 + 1) 0) WRITE w, sym e ∙ z))
 
       -- A write that does not publish is in order where a noted row follows.
       pub order-noted : {b : Bool} {last : ℕ} → 0 < refresh → b ≡ publishes model WRITE → b ≡ false →
-          last ≡ lastNoted rows model y (refresh - 1) (row_at rows x).process y → ltb (x + 1) last ≡ inOrder rows model x y
-      unfolding inOrder
+          last ≡ last_noted rows model y (refresh - 1) (row_at rows x).process y → ltb (x + 1) last ≡ is_in_order rows model x y
+      unfolding is_in_order
       order-noted l d q t =
           let one : x + 1 ≡ suc x = omega arith in
           (λ i. ltb (one i) (t i)) ∙ sym (rw (kind_at hx, eq-eqb (get_or xs (x * 6 + 1) 0) WRITE w, sym e, lt-ltb 0 refresh l, sym d ∙ q))
@@ -152,12 +152,12 @@ module _ {n P model : ℕ} {xs counts : List ℕ} (g : Given n P model xs counts
 -- ---- The refresh
 
 -- The refresh is y or stands before y.
-pub refresh_most : (rows : List Row) (model y : ℕ) → refreshAt rows model y ≤ suc y
-unfolding refreshAt
-refresh_most rows model y = go (refreshes model READ) (last-most y (isRefresh rows model (row_at rows y)))
+pub refresh_most : (rows : List Row) (model y : ℕ) → refresh_at rows model y ≤ suc y
+unfolding refresh_at
+refresh_most rows model y = go (refreshes model READ) (last-most y (is_refresh rows model (row_at rows y)))
   where
-    go : (b : Bool) → last_below y (isRefresh rows model (row_at rows y)) ≤ y →
-        cond b (suc y) (last_below y (isRefresh rows model (row_at rows y))) ≤ suc y
+    go : (b : Bool) → last_below y (is_refresh rows model (row_at rows y)) ≤ y →
+        cond b (suc y) (last_below y (is_refresh rows model (row_at rows y))) ≤ suc y
     go true h = omega arith
     go false h = omega arith
 
@@ -170,14 +170,14 @@ noted_of rows model y o p c = eqb (row_at rows c).process p && noted rows model 
 -- Where a write does not publish, the slice `last` holds, for each process, its last noted row below c.
 pub record Noting (rows : List Row) (model y refresh : ℕ) (last : List ℕ) (c : ℕ) : Type 0 where
   pub low : c ≤ y
-  pub refreshed : refresh ≡ refreshAt rows model y
+  pub refreshed : refresh ≡ refresh_at rows model y
   pub many : length last ≡ PROCESSES
   pub held : 0 < refresh → publishes model WRITE ≡ false → LastBy (noted_of rows model y (refresh - 1)) PROCESSES last c
 
 -- Before the first row, no process has a noted row.
-pub noting_start : (rows : List Row) (model y : ℕ) {refresh : ℕ} → refresh ≡ refreshAt rows model y →
+pub noting_start : (rows : List Row) (model y : ℕ) {refresh : ℕ} → refresh ≡ refresh_at rows model y →
     Noting rows model y refresh (replicate PROCESSES 0) 0
-unfolding lastNoted last_below
+unfolding last_noted last_below
 noting_start rows model y e =
     record { low = omega arith; refreshed = e; many = length-replicate {A = ℕ} PROCESSES 0; held = λ l q. lasts_none (noted_of rows model y (_ - 1)) PROCESSES }
 
@@ -209,10 +209,10 @@ module _ {rows : List Row} {model y refresh : ℕ} {last : List ℕ} {c : ℕ} (
 
   -- After all rows below y, the table holds the last noted row of each process.
   pub noting_done : y ≤ c → Noted rows model y refresh last
-  unfolding lastNoted
+  unfolding last_noted
   noting_done h r f p l =
       let d : c ≡ y = omega (arith, k.low) in
-      (k.held r f).last_at p l ∙ ap (lastNoted rows model y (refresh - 1) p) d
+      (k.held r f).last_at p l ∙ ap (last_noted rows model y (refresh - 1) p) d
 
 -- ---- The pass over the earlier rows
 
@@ -227,7 +227,7 @@ module _ {n P model x y : ℕ} {xs counts : List ℕ} (k : Given n P model xs co
     pub no-race-kind : b ≡ false → false ≡ seen (rows_in n xs) model y x
     no-race-kind q = sym (rw (split, sym e ∙ q))
 
-    module _ {o : Bool} (t : o ≡ inOrder (rows_in n xs) model x y) where
+    module _ {o : Bool} (t : o ≡ is_in_order (rows_in n xs) model x y) where
       -- A row that is in order does not race.
       pub no-race-order : o ≡ true → false ≡ seen (rows_in n xs) model y x
       no-race-order q = sym (rw (sym t ∙ q) (and-false (conflict (row_at (rows_in n xs) x) (row_at (rows_in n xs) y))))
@@ -237,7 +237,7 @@ module _ {n P model x y : ℕ} {xs counts : List ℕ} (k : Given n P model xs co
       by_byte q u w = w ∙ sym (rw (split, sym e ∙ q, sym t ∙ u) (and-true (share_byte (row_in xs x) (row_in xs y))))
 
 -- A row that is no data row races with none.
-pub no_data : (rows : List Row) (model y : ℕ) → WRITE < (row_at rows y).kind → (k : ℕ) → pairsWith rows model y k ≡ []
+pub no_data : (rows : List Row) (model y : ℕ) → WRITE < (row_at rows y).kind → (k : ℕ) → pairs_with rows model y k ≡ []
 unfolding race conflict
 no_data rows model y h = none-with rows model y none
   where
@@ -254,12 +254,12 @@ no_data rows model y h = none-with rows model y none
 -- Behind the pairs that were found before, the list holds the races of row y with the rows below x.
 pub record Putting (rows : List Row) (model y before : ℕ) (list₀ : List ℕ) (found x : ℕ) (list : List ℕ) : Type 0 where
   pub low : x ≤ y
-  pub many : found ≡ before + length (pairsWith rows model y x)
-  pub put : list ≡ with_pairs before (pairsWith rows model y x) list₀
+  pub many : found ≡ before + length (pairs_with rows model y x)
+  pub put : list ≡ with_pairs before (pairs_with rows model y x) list₀
 
 -- Before the first row, nothing is put.
 pub putting_start : (rows : List Row) (model y before : ℕ) (list : List ℕ) → Putting rows model y before list before 0 list
-unfolding pairsWith with_pairs
+unfolding pairs_with with_pairs
 putting_start rows model y before list = record { low = omega arith; many = omega arith; put = refl }
 
 module _ {rows : List Row} {model y before found x : ℕ} {list₀ list : List ℕ} (k : Putting rows model y before list₀ found x list) where
@@ -271,14 +271,14 @@ module _ {rows : List Row} {model y before found x : ℕ} {list₀ list : List �
   pub putting_next : {after : List ℕ} {next : ℕ} {b : Bool} → model < MODELS → x < y → y < length rows → b ≡ seen rows model y x →
       ((b ≡ true) × (after ≡ with_pair found (x + 1) (y + 1) list) × (next ≡ found + 1)) ⊎ ((b ≡ false) × (after ≡ list) × (next ≡ found)) →
       Putting rows model y before list₀ next (x + 1) after
-  unfolding pairsWith
+  unfolding pairs_with
   putting_next {after} {next} {b} m h g e w = rw add-one (go w)
     where
       is : race rows model x y ≡ b
       is = race_seen rows model x y m h g ∙ sym e
 
       old : List RowPair
-      old = pairsWith rows model y x
+      old = pairs_with rows model y x
 
       go : ((b ≡ true) × (after ≡ with_pair found (x + 1) (y + 1) list) × (next ≡ found + 1)) ⊎ ((b ≡ false) × (after ≡ list) × (next ≡ found)) →
           Putting rows model y before list₀ next (suc x) after
@@ -288,7 +288,7 @@ module _ {rows : List Row} {model y before found x : ℕ} {list₀ list : List �
             many = rw (is ∙ t) (omega (arith, v, k.many, length-append old (pair_of x y ∷ [])));
             put =
                 rw (is ∙ t)
-                (u ∙ (λ i. with_pair (k.many i) (add-one x i) (add-one y i) (k.put i)) ∙ sym (put_last before old (pair_of x y) list₀));
+                (u ∙ (λ i. with_pair (k.many i) (add-one x i) (add-one y i) (k.put i)) ∙ sym (put_last_lem before old (pair_of x y) list₀));
           }
       go (inr (t, u, v)) =
           record {
@@ -298,36 +298,36 @@ module _ {rows : List Row} {model y before found x : ℕ} {list₀ list : List �
           }
 
   -- After all rows below y, the list holds the races of row y.
-  pub putting_done : y ≤ x → (found ≡ before + length (pairsWith rows model y y)) × (list ≡ with_pairs before (pairsWith rows model y y) list₀)
+  pub putting_done : y ≤ x → (found ≡ before + length (pairs_with rows model y y)) × (list ≡ with_pairs before (pairs_with rows model y y) list₀)
   putting_done h =
       let d : x ≡ y = omega (arith, k.low) in (
-        k.many ∙ ap (λ (i : ℕ). before + length (pairsWith rows model y i)) d,
-        k.put ∙ ap (λ (i : ℕ). with_pairs before (pairsWith rows model y i) list₀) d,
+        k.many ∙ ap (λ (i : ℕ). before + length (pairs_with rows model y i)) d,
+        k.put ∙ ap (λ (i : ℕ). with_pairs before (pairs_with rows model y i) list₀) d,
       )
 
 -- ---- All later rows
 
 -- The rows below y have at most ROWS races each.
-pairs-bound : (rows : List Row) (model y : ℕ) → y ≤ ROWS → length (pairsBelow rows model y) ≤ y * ROWS
-unfolding pairsBelow
+pairs-bound : (rows : List Row) (model y : ℕ) → y ≤ ROWS → length (pairs_below rows model y) ≤ y * ROWS
+unfolding pairs_below
 pairs-bound rows model zero h = omega arith
 pairs-bound rows model (suc y) h =
     omega (
       arith,
       pairs-bound rows model y (omega arith),
       few-with rows model y y,
-      length-append (pairsBelow rows model y) (pairsWith rows model y y),
+      length-append (pairs_below rows model y) (pairs_with rows model y y),
     )
 
 -- The list holds the races whose later rows stand below y.
 pub record Covering (rows : List Row) (model : ℕ) (list₀ : List ℕ) (found y : ℕ) (list : List ℕ) : Type 0 where
   pub low : y ≤ length rows
-  pub many : found ≡ length (pairsBelow rows model y)
-  pub put : list ≡ with_pairs 0 (pairsBelow rows model y) list₀
+  pub many : found ≡ length (pairs_below rows model y)
+  pub put : list ≡ with_pairs 0 (pairs_below rows model y) list₀
 
 -- Before the first row, nothing is put.
 pub covering_start : (rows : List Row) (model : ℕ) (list : List ℕ) → Covering rows model list 0 0 list
-unfolding pairsBelow with_pairs
+unfolding pairs_below with_pairs
 covering_start rows model list = record { low = omega arith; many = refl; put = refl }
 
 module _ {rows : List Row} {model : ℕ} {list₀ : List ℕ} {found y : ℕ} {list : List ℕ} (k : Covering rows model list₀ found y list) where
@@ -336,18 +336,18 @@ module _ {rows : List Row} {model : ℕ} {list₀ : List ℕ} {found y : ℕ} {l
   covering_few h = omega (arith, k.many, pairs-bound rows model y (omega (arith, k.low)))
 
   -- The races of row y are put behind the pairs so far.
-  pub covering_next : {next : ℕ} {after : List ℕ} → y < length rows → next ≡ found + length (pairsWith rows model y y) →
-      after ≡ with_pairs found (pairsWith rows model y y) list → Covering rows model list₀ next (y + 1) after
-  unfolding pairsBelow
+  pub covering_next : {next : ℕ} {after : List ℕ} → y < length rows → next ≡ found + length (pairs_with rows model y y) →
+      after ≡ with_pairs found (pairs_with rows model y y) list → Covering rows model list₀ next (y + 1) after
+  unfolding pairs_below
   covering_next h e w =
       rw add-one
       (record {
         low = h;
-        many = e ∙ ap (λ (n : ℕ). n + length (pairsWith rows model y y)) k.many ∙ sym (length-append (pairsBelow rows model y) (pairsWith rows model y y));
+        many = e ∙ ap (λ (n : ℕ). n + length (pairs_with rows model y y)) k.many ∙ sym (length-append (pairs_below rows model y) (pairs_with rows model y y));
         put =
-            let count : found ≡ 0 + length (pairsBelow rows model y) = omega (arith, k.many) in
-            w ∙ (λ i. with_pairs (count i) (pairsWith rows model y y) (k.put i))
-            ∙ sym (put-append 0 (pairsBelow rows model y) (pairsWith rows model y y) list₀);
+            let count : found ≡ 0 + length (pairs_below rows model y) = omega (arith, k.many) in
+            w ∙ (λ i. with_pairs (count i) (pairs_with rows model y y) (k.put i))
+            ∙ sym (put-append 0 (pairs_below rows model y) (pairs_with rows model y y) list₀);
       })
 
   -- After all rows, the list holds every race.
@@ -355,6 +355,6 @@ module _ {rows : List Row} {model : ℕ} {list₀ : List ℕ} {found y : ℕ} {l
   unfolding race_pairs
   covering_done h =
       let d : y ≡ length rows = omega (arith, k.low) in (
-        k.many ∙ ap (λ (i : ℕ). length (pairsBelow rows model i)) d,
-        k.put ∙ ap (λ (i : ℕ). with_pairs 0 (pairsBelow rows model i) list₀) d,
+        k.many ∙ ap (λ (i : ℕ). length (pairs_below rows model i)) d,
+        k.put ∙ ap (λ (i : ℕ). with_pairs 0 (pairs_below rows model i) list₀) d,
       )

@@ -20,10 +20,10 @@ put-append k (p ∷ a) b list =
     put-append (suc k) a b (with_pair k p.earlier p.later list) ∙ ap (λ (i : ℕ). with_pairs i b (with_pairs (suc k) a (with_pair k p.earlier p.later list))) e
 
 -- One more pair is put behind the others.
-pub put_last : (k : ℕ) (a : List RowPair) (p : RowPair) (list : List ℕ) →
+pub put_last_lem : (k : ℕ) (a : List RowPair) (p : RowPair) (list : List ℕ) →
     with_pairs k (a ++ (p ∷ [])) list ≡ with_pair (k + length a) p.earlier p.later (with_pairs k a list)
 unfolding with_pairs
-put_last k a p list = put-append k a (p ∷ []) list
+put_last_lem k a p list = put-append k a (p ∷ []) list
 
 module _ (k a b : ℕ) (list : List ℕ) where
   -- Where there is room, the pair is put.

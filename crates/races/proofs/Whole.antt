@@ -22,7 +22,7 @@ use Rattle.rows.proofs.Bools.{and_out}
 use Rattle.rows.proofs.Slices.{length-rows}
 use Rattle.happens_before.proofs.Asking.{Asked, asked, done-told, refused-told}
 use Rattle.races_meaning.specs.Races.{verdict_of}
-use Rattle.races_meaning.specs.Lists.{RowPair, pairsWith, pairsBelow, race_pairs, pair_numbers, first_of}
+use Rattle.races_meaning.specs.Lists.{RowPair, pairs_with, pairs_below, race_pairs, pair_numbers, first_of}
 use Rattle.races_meaning.proofs.Lists.{front_below, first-listed, pairs-most}
 use Rattle.races.specs.Answers.{judge_questions, verdict_found, found_of}
 use Rattle.races.specs.Given.{Given}
@@ -49,35 +49,35 @@ two-of (a ∷ (b ∷ (c ∷ list))) e = absurd (omega arith)
 
 module _ (n model : ℕ) (xs : List ℕ) where
   -- Before the first row there is no race.
-  pub none-start : pairsBelow (rows_in n xs) model 0 ≡ []
-  unfolding pairsBelow
+  pub none-start : pairs_below (rows_in n xs) model 0 ≡ []
+  unfolding pairs_below
   none-start = refl
 
   -- Row y has no race, and neither has a row before it.
-  pub none-next : (y : ℕ) {found : ℕ} → pairsBelow (rows_in n xs) model y ≡ [] → found ≡ 0 + length (pairsWith (rows_in n xs) model y y) → found ≤ 0 →
-      pairsBelow (rows_in n xs) model (y + 1) ≡ []
-  unfolding pairsBelow
-  none-next y e q z = rw (add-one, e) (no_pair (pairsWith (rows_in n xs) model y y) (omega arith))
+  pub none-next : (y : ℕ) {found : ℕ} → pairs_below (rows_in n xs) model y ≡ [] → found ≡ 0 + length (pairs_with (rows_in n xs) model y y) → found ≤ 0 →
+      pairs_below (rows_in n xs) model (y + 1) ≡ []
+  unfolding pairs_below
+  none-next y e q z = rw (add-one, e) (no_pair (pairs_with (rows_in n xs) model y y) (omega arith))
 
   -- Where no row has a race, the answer is free.
-  pub answer-free : (y : ℕ) → n ≤ y → y ≤ n → pairsBelow (rows_in n xs) model y ≡ [] → Free ≡ verdict_found (verdict_of (rows_in n xs) model)
+  pub answer-free : (y : ℕ) → n ≤ y → y ≤ n → pairs_below (rows_in n xs) model y ≡ [] → Free ≡ verdict_found (verdict_of (rows_in n xs) model)
   unfolding race_pairs
   answer-free y h l e =
       let q : length (rows_in n xs) ≡ y = omega (arith, length-rows n xs) in
-      sym (ap verdict_found (first-listed (rows_in n xs) model ∙ ap first_of (ap (pairsBelow (rows_in n xs) model) q ∙ e)))
+      sym (ap verdict_found (first-listed (rows_in n xs) model ∙ ap first_of (ap (pairs_below (rows_in n xs) model) q ∙ e)))
 
   -- The first row that has a race gives the answer: its first pair, which a list of one pair's length holds.
-  pub answer-race : (y : ℕ) {found : ℕ} (before : List ℕ) {pair : List ℕ} → y < n → pairsBelow (rows_in n xs) model y ≡ [] → length before ≡ 2 →
-      found ≡ 0 + length (pairsWith (rows_in n xs) model y y) → 0 < found → pair ≡ with_pairs 0 (pairsWith (rows_in n xs) model y y) before →
+  pub answer-race : (y : ℕ) {found : ℕ} (before : List ℕ) {pair : List ℕ} → y < n → pairs_below (rows_in n xs) model y ≡ [] → length before ≡ 2 →
+      found ≡ 0 + length (pairs_with (rows_in n xs) model y y) → 0 < found → pair ≡ with_pairs 0 (pairs_with (rows_in n xs) model y y) before →
       Race (get_or pair 0 0) (get_or pair 1 0) ≡ verdict_found (verdict_of (rows_in n xs) model)
-  unfolding race_pairs pairsBelow
-  answer-race y {found} before {pair} h e two q z w = go (pairsWith (rows_in n xs) model y y) refl
+  unfolding race_pairs pairs_below
+  answer-race y {found} before {pair} h e two q z w = go (pairs_with (rows_in n xs) model y y) refl
     where
-      go : (pairs : List RowPair) → pairsWith (rows_in n xs) model y y ≡ pairs → Race (get_or pair 0 0) (get_or pair 1 0) ≡ verdict_found (verdict_of (rows_in n xs) model)
+      go : (pairs : List RowPair) → pairs_with (rows_in n xs) model y y ≡ pairs → Race (get_or pair 0 0) (get_or pair 1 0) ≡ verdict_found (verdict_of (rows_in n xs) model)
       go [] d = absurd (omega (arith, q, z, ap length d))
       go (p ∷ pairs) d =
           let (more, f) = front_below (rows_in n xs) model (suc y) (length (rows_in n xs)) (omega (arith, h, length-rows n xs)) in
-          let first : pairsBelow (rows_in n xs) model (length (rows_in n xs)) ≡ (p ∷ pairs) ++ more =
+          let first : pairs_below (rows_in n xs) model (length (rows_in n xs)) ≡ (p ∷ pairs) ++ more =
           f ∙ (λ i. (e i ++ d i) ++ more) in
           let held : pair ≡ p.earlier ∷ (p.later ∷ []) = w ∙ (λ i. with_pairs 0 (d i) (two-of before two i)) ∙ put_first p pairs (get_or before 0 0) (get_or before 1 0) in
           (λ i. Race (get_or (held i) 0 0) (get_or (held i) 1 0)) ∙ sym (ap verdict_found (first-listed (rows_in n xs) model ∙ ap first_of first))

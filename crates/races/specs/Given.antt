@@ -5,7 +5,7 @@ use Rattle.rows.specs.Rows.{rows_in, row_in}
 use Rattle.happens_before.specs.Order.{same_process, counts_of}
 use Rattle.models.specs.Table.{publishes}
 use Rattle.races_meaning.specs.Races.{is_write, is_data, same_file}
-use Rattle.races_meaning.specs.Scan.{lastNoted}
+use Rattle.races_meaning.specs.Scan.{last_noted}
 use Rattle.rows.specs.Kinds.{WRITE}
 use Rattle.rows.specs.Limits.{ROWS, PROCESSES, MODELS, FIELDS}
 
@@ -26,4 +26,4 @@ may_conflict r s = is_data r && (is_data s && (same_file r s && (not (same_proce
 -- Where there is a refresh for row y and a write does not publish by itself, the table holds each process's last noted row before y, plus one.
 abbrev pub Noted : List Row → ℕ → ℕ → ℕ → List ℕ → Type 0
 Noted rows model y refresh last =
-    0 < refresh → publishes model WRITE ≡ false → (p : ℕ) → p < PROCESSES → get_or last p 0 ≡ lastNoted rows model y (refresh - 1) p y
+    0 < refresh → publishes model WRITE ≡ false → (p : ℕ) → p < PROCESSES → get_or last p 0 ≡ last_noted rows model y (refresh - 1) p y

@@ -9,9 +9,9 @@ ghost use Rattle.rows.specs.Questions.{first_no};
 ghost use Rattle.happens_before.specs.Clock.{cell_in};
 ghost use Rattle.happens_before.specs.Filling.{filled_of, filled_left};
 ghost use Rattle.races_meaning.specs.Races.{share_byte, conflict, verdict_of};
-ghost use Rattle.races_meaning.specs.Search.{refreshAt};
-ghost use Rattle.races_meaning.specs.Scan.{noted, lastNoted, inOrder};
-ghost use Rattle.races_meaning.specs.Lists.{pairsWith, race_pairs};
+ghost use Rattle.races_meaning.specs.Search.{refresh_at};
+ghost use Rattle.races_meaning.specs.Scan.{noted, last_noted, is_in_order};
+ghost use Rattle.races_meaning.specs.Lists.{pairs_with, race_pairs};
 ghost use Rattle.races.specs.Answers.{judge_questions, verdict_found, found_of};
 ghost use Rattle.races.specs.Listing.{with_pair, with_pairs, has_room, list_questions, listed_of, list_left, room_answer, room_left};
 ghost use Rattle.races.specs.Given.{Given, Noted, may_conflict};
@@ -203,7 +203,7 @@ fn share_byte(rows: &[u32], x: usize, y: usize) -> bool
 // Answers the index of the last row that refreshes for y, plus one; 0 where none does.
 fn refresh_at(rows: &[u32], n: usize, model: u32, y: usize) -> usize
     requires { (y < n) × (n * FIELDS ≤ length rows.now) }
-    ensures { result ≡ refreshAt (rows_in n rows.now) model y }
+    ensures { result ≡ refresh_at (rows_in n rows.now) model y }
 {
     if models::is_refresh(model, rows::READ) {
         return y + 1;
@@ -284,8 +284,8 @@ fn put_races_with(
 ) -> usize
     requires given { Given n processes model rows.now counts.now }
     requires y_lt_n { (y < n) × (found ≤ y * ROWS) }
-    ensures answer { result ≡ found + length (pairsWith (rows_in n rows.now) model y y) }
-    ensures listed { list.new ≡ with_pairs found (pairsWith (rows_in n rows.now) model y y) list.old }
+    ensures answer { result ≡ found + length (pairs_with (rows_in n rows.now) model y y) }
+    ensures listed { list.new ≡ with_pairs found (pairs_with (rows_in n rows.now) model y y) list.old }
 {
     let to = y * rows::FIELDS;
     if rows::WRITE < rows[to + rows::KIND_AT] {
@@ -307,7 +307,7 @@ fn put_races_with(
 // Answers, for each process, the index of its last noted row before the later row, plus one; 0 where there is none.
 fn note_rows(rows: &[u32], counts: &[u16], later: Later) -> [usize; NOTES]
     requires given { Given later.n later.processes later.model rows.now counts.now }
-    requires y_lt_n { (later.y < later.n) × (later.refresh ≡ refreshAt (rows_in later.n rows.now) later.model later.y) × (later.refresh ≤ later.n) × (later.own ≡ publishes later.model WRITE) }
+    requires y_lt_n { (later.y < later.n) × (later.refresh ≡ refresh_at (rows_in later.n rows.now) later.model later.y) × (later.refresh ≤ later.n) × (later.own ≡ publishes later.model WRITE) }
     ensures { Noted (rows_in later.n rows.now) later.model later.y later.refresh result }
 {
     let mut last = [0usize; NOTES];
@@ -334,10 +334,10 @@ fn put_found(
     list: &mut [u32],
 ) -> usize
     requires given { Given later.n later.processes later.model rows.now counts.now }
-    requires y_lt_n { (later.y < later.n) × (later.refresh ≡ refreshAt (rows_in later.n rows.now) later.model later.y) × (later.refresh ≤ later.n) × (later.own ≡ publishes later.model WRITE) × (before ≤ later.y * ROWS) }
+    requires y_lt_n { (later.y < later.n) × (later.refresh ≡ refresh_at (rows_in later.n rows.now) later.model later.y) × (later.refresh ≤ later.n) × (later.own ≡ publishes later.model WRITE) × (before ≤ later.y * ROWS) }
     requires noted { Noted (rows_in later.n rows.now) later.model later.y later.refresh last }
-    ensures answer { result ≡ before + length (pairsWith (rows_in later.n rows.now) later.model later.y later.y) }
-    ensures listed { list.new ≡ with_pairs before (pairsWith (rows_in later.n rows.now) later.model later.y later.y) list.old }
+    ensures answer { result ≡ before + length (pairs_with (rows_in later.n rows.now) later.model later.y later.y) }
+    ensures listed { list.new ≡ with_pairs before (pairs_with (rows_in later.n rows.now) later.model later.y later.y) list.old }
 {
     let y = later.y;
     let mut found = before;
@@ -370,9 +370,9 @@ fn put_pair(list: &mut [u32], k: usize, earlier: u32, later: u32)
 // two rows that may conflict and are not in order, a shared byte is a race, and no other pair is asked for its bytes.
 fn is_race(rows: &[u32], counts: &[u16], later: Later, x: usize, last: usize) -> bool
     requires given { Given later.n later.processes later.model rows.now counts.now }
-    requires y_lt_n { (later.y < later.n) × (x < later.n) × (later.refresh ≡ refreshAt (rows_in later.n rows.now) later.model later.y) × (later.refresh ≤ later.n) × (later.own ≡ publishes later.model WRITE) }
-    requires last_value { 0 < later.refresh → publishes later.model WRITE ≡ false → last ≡ lastNoted (rows_in later.n rows.now) later.model later.y (later.refresh - 1) (row_at (rows_in later.n rows.now) x).process later.y }
-    ensures { result ≡ (conflict (row_at (rows_in later.n rows.now) x) (row_at (rows_in later.n rows.now) later.y) && not (inOrder (rows_in later.n rows.now) later.model x later.y)) }
+    requires y_lt_n { (later.y < later.n) × (x < later.n) × (later.refresh ≡ refresh_at (rows_in later.n rows.now) later.model later.y) × (later.refresh ≤ later.n) × (later.own ≡ publishes later.model WRITE) }
+    requires last_value { 0 < later.refresh → publishes later.model WRITE ≡ false → last ≡ last_noted (rows_in later.n rows.now) later.model later.y (later.refresh - 1) (row_at (rows_in later.n rows.now) x).process later.y }
+    ensures { result ≡ (conflict (row_at (rows_in later.n rows.now) x) (row_at (rows_in later.n rows.now) later.y) && not (is_in_order (rows_in later.n rows.now) later.model x later.y)) }
 {
     if !may_conflict(rows, x, later.y) {
         return false;
@@ -418,9 +418,9 @@ fn is_noted(rows: &[u32], counts: &[u16], later: Later, c: usize) -> bool
 // Row x before the later row is properly synchronized; `last` is the index of the last noted row of the process of x, plus one.
 fn is_in_order(rows: &[u32], counts: &[u16], later: Later, x: usize, last: usize) -> bool
     requires given { Given later.n later.processes later.model rows.now counts.now }
-    requires y_lt_n { (later.y < later.n) × (x < later.n) × (later.refresh ≡ refreshAt (rows_in later.n rows.now) later.model later.y) × (later.refresh ≤ later.n) × (later.own ≡ publishes later.model WRITE) }
-    requires last_value { 0 < later.refresh → publishes later.model WRITE ≡ false → last ≡ lastNoted (rows_in later.n rows.now) later.model later.y (later.refresh - 1) (row_at (rows_in later.n rows.now) x).process later.y }
-    ensures { result ≡ inOrder (rows_in later.n rows.now) later.model x later.y }
+    requires y_lt_n { (later.y < later.n) × (x < later.n) × (later.refresh ≡ refresh_at (rows_in later.n rows.now) later.model later.y) × (later.refresh ≤ later.n) × (later.own ≡ publishes later.model WRITE) }
+    requires last_value { 0 < later.refresh → publishes later.model WRITE ≡ false → last ≡ last_noted (rows_in later.n rows.now) later.model later.y (later.refresh - 1) (row_at (rows_in later.n rows.now) x).process later.y }
+    ensures { result ≡ is_in_order (rows_in later.n rows.now) later.model x later.y }
 {
     let at = x * rows::FIELDS;
     if rows[at + rows::KIND_AT] == rows::WRITE {

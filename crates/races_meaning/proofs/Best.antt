@@ -20,8 +20,8 @@ use Rattle.rows.proofs.Bools.{and_out, or_out, or_right, same_test, not_passed}
 use Rattle.rows.proofs.Below.{count_less, count_cut}
 use Rattle.happens_before.proofs.Clocks.{edge-forward, program-order, HB-less, HB-trans, hb-iff, place_of, place-iff}
 use Rattle.races_meaning.specs.Races.{same_file}
-use Rattle.races_meaning.specs.TableChain.{publishedBy, refreshedBy, tableChain}
-use Rattle.races_meaning.specs.Search.{isPublish, isRefresh, publishAt, refreshAt, bestChain, counts_order}
+use Rattle.races_meaning.specs.TableChain.{published_by, refreshed_by, table_chain}
+use Rattle.races_meaning.specs.Search.{is_publish, is_refresh, publish_at, refresh_at, best_chain, counts_order}
 use Rattle.races_meaning.proofs.Verdicts.{Least, least-is}
 use Rattle.races_meaning.proofs.Chains.{HB-in, HB-start, two-iff}
 
@@ -54,11 +54,11 @@ last-is (suc n) test = go (test n) refl (last-is n test)
 
 module _ (rows : List Row) where
   -- The process of the row at an index.
-  abbrev processAt : ℕ → ℕ
-  processAt k = (row_at rows k).process
+  abbrev process_at : ℕ → ℕ
+  process_at k = (row_at rows k).process
 
   -- A row that happens after another happens after every earlier row of that one's process.
-  HB-early : (p c o : ℕ) → p ≤ c → processAt p ≡ processAt c → HB (edge rows) c o → HB (edge rows) p o
+  HB-early : (p c o : ℕ) → p ≤ c → process_at p ≡ process_at c → HB (edge rows) c o → HB (edge rows) p o
   HB-early p c o l s h = go (dec_lt p c)
     where
       go : Dec (p < c) → HB (edge rows) p o
@@ -66,7 +66,7 @@ module _ (rows : List Row) where
       go (no b) = let q : p ≡ c = omega arith in rw q h
 
   -- A row that happens before another happens before every later row of that one's process.
-  HB-late : (c o r : ℕ) → o ≤ r → r < length rows → processAt o ≡ processAt r → HB (edge rows) c o → HB (edge rows) c r
+  HB-late : (c o r : ℕ) → o ≤ r → r < length rows → process_at o ≡ process_at r → HB (edge rows) c o → HB (edge rows) c r
   HB-late c o r l b s h = go (dec_lt o r)
     where
       go : Dec (o < r) → HB (edge rows) c r
@@ -74,8 +74,8 @@ module _ (rows : List Row) where
       go (no a) = let q : o ≡ r = omega arith in rw q at h
 
   -- Of two processes, some row that passes happens before some row that passes exactly where the first of the one does before the last of the other.
-  best_pair : (by for : ℕ → Bool) (x y p q n : ℕ) → n ≤ length rows → ((c : ℕ) → by c ≡ true → processAt x ≡ processAt c) →
-      ((o : ℕ) → for o ≡ true → (o < n) × (processAt y ≡ processAt o)) → Earliest (length rows) by p → Latest n for q →
+  best_pair : (by for : ℕ → Bool) (x y p q n : ℕ) → n ≤ length rows → ((c : ℕ) → by c ≡ true → process_at x ≡ process_at c) →
+      ((o : ℕ) → for o ≡ true → (o < n) × (process_at y ≡ process_at o)) → Earliest (length rows) by p → Latest n for q →
       any_below (length rows) (λ c. by c && any_below (length rows) (λ o. for o && hb (edge rows) c o))
       ≡ ltb p (length rows) && (ltb 0 q && hb (edge rows) p (q - 1))
   best_pair by for x y p q n m a b f g = same_test _ _ (λ e. there ((two-iff rows (length rows) by for).0 e)) back
@@ -105,37 +105,37 @@ module _ (rows : List Row) where
   -- ---- The choices
 
   -- A row that publishes x is of x's process.
-  published : (model x c : ℕ) → publishedBy rows model x c ≡ true → processAt x ≡ processAt c
-  unfolding publishedBy
+  published : (model x c : ℕ) → published_by rows model x c ≡ true → process_at x ≡ process_at c
+  unfolding published_by
   published model x c = go (publishes model WRITE)
     where
-      go : (b : Bool) → cond b (eqb c x) (ltb x c && isPublish rows model (row_at rows x) c) ≡ true → processAt x ≡ processAt c
-      go true e = ap processAt (sym (eqb-true c x e))
+      go : (b : Bool) → cond b (eqb c x) (ltb x c && is_publish rows model (row_at rows x) c) ≡ true → process_at x ≡ process_at c
+      go true e = ap process_at (sym (eqb-true c x e))
       go false e =
           let i = and_out (ltb x c) _ e in
           let j = and_out (publishes model (row_at rows c).kind) _ i.1 in
           eqb-true _ _ (and_out (same_file (row_at rows x) (row_at rows c)) _ j.1).1
 
   -- A row that refreshes for y is y or stands before y, and is of y's process.
-  pub refreshed : (model y o : ℕ) → refreshedBy rows model y o ≡ true → (o < suc y) × (processAt y ≡ processAt o)
-  unfolding refreshedBy
+  pub refreshed : (model y o : ℕ) → refreshed_by rows model y o ≡ true → (o < suc y) × (process_at y ≡ process_at o)
+  unfolding refreshed_by
   refreshed model y o = go (refreshes model READ)
     where
-      go : (b : Bool) → cond b (eqb o y) (ltb o y && isRefresh rows model (row_at rows y) o) ≡ true → (o < suc y) × (processAt y ≡ processAt o)
-      go true e = let q = eqb-true o y e in (omega arith, ap processAt (sym q))
+      go : (b : Bool) → cond b (eqb o y) (ltb o y && is_refresh rows model (row_at rows y) o) ≡ true → (o < suc y) × (process_at y ≡ process_at o)
+      go true e = let q = eqb-true o y e in (omega arith, ap process_at (sym q))
       go false e =
           let i = and_out (ltb o y) _ e in
           let j = and_out (refreshes model (row_at rows o).kind) _ i.1 in
           let l = ltb-true o y i.0 in
           (omega arith, eqb-true _ _ (and_out (same_file (row_at rows y) (row_at rows o)) _ j.1).1)
 
-  -- `publishAt` names the first row that publishes x.
-  pub publish_first : (model x : ℕ) → x < length rows → Earliest (length rows) (publishedBy rows model x) (publishAt rows model x)
-  unfolding publishedBy publishAt
+  -- `publish_at_lem` names the first row that publishes x.
+  pub publish_first : (model x : ℕ) → x < length rows → Earliest (length rows) (published_by rows model x) (publish_at rows model x)
+  unfolding published_by publish_at
   publish_first model x h = go (publishes model WRITE)
     where
       test : ℕ → Bool
-      test = isPublish rows model (row_at rows x)
+      test = is_publish rows model (row_at rows x)
 
       p : ℕ
       p = least_from (length rows - suc x) (suc x) test
@@ -153,13 +153,13 @@ module _ (rows : List Row) where
       go true = record { passes = λ l. eq-eqb x x refl; first = λ c e. omega (arith, eqb-true c x e) }
       go false = record { passes = λ l. rw (lt-ltb x p r.low) (r.passes (omega arith)); first = after }
 
-  -- `refreshAt` names the last row that refreshes for y, plus one.
-  pub refresh_last : (model y : ℕ) → Latest (suc y) (refreshedBy rows model y) (refreshAt rows model y)
-  unfolding refreshedBy refreshAt
+  -- `refresh_at_lem` names the last row that refreshes for y, plus one.
+  pub refresh_last : (model y : ℕ) → Latest (suc y) (refreshed_by rows model y) (refresh_at rows model y)
+  unfolding refreshed_by refresh_at
   refresh_last model y = go (refreshes model READ)
     where
       test : ℕ → Bool
-      test = isRefresh rows model (row_at rows y)
+      test = is_refresh rows model (row_at rows y)
 
       q : ℕ
       q = last_below y test
@@ -180,10 +180,10 @@ module _ (rows : List Row) where
           }
 
 -- The table has a chain exactly where the best choices make one.
-pub best_chain : (rows : List Row) (model x y : ℕ) → x < length rows → y < length rows → tableChain rows model x y ≡ bestChain rows model x y
-unfolding tableChain bestChain
-best_chain rows model x y h g =
-    best_pair rows (publishedBy rows model x) (refreshedBy rows model y) x y (publishAt rows model x) (refreshAt rows model y) (suc y) g
+pub best_chain_lem : (rows : List Row) (model x y : ℕ) → x < length rows → y < length rows → table_chain rows model x y ≡ best_chain rows model x y
+unfolding table_chain best_chain
+best_chain_lem rows model x y h g =
+    best_pair rows (published_by rows model x) (refreshed_by rows model y) x y (publish_at rows model x) (refresh_at rows model y) (suc y) g
     (published rows model x) (refreshed rows model y) (publish_first rows model x h) (refresh_last rows model y)
 
 -- ---- Counts
@@ -201,17 +201,17 @@ own-most : (rows : List Row) (i : ℕ) → i < length rows → count rows (row_a
 unfolding count place_of
 own-most rows i h =
     let a = count_cut (suc i) (length rows) both h out in
-    let b = count_less (suc i) both isP (λ k l e. (and_out (isP k) _ e).0) in
+    let b = count_less (suc i) both is_p (λ k l e. (and_out (is_p k) _ e).0) in
     omega arith
   where
-    isP : ℕ → Bool
-    isP k = eqb (row_at rows k).process (row_at rows i).process
+    is_p : ℕ → Bool
+    is_p k = eqb (row_at rows k).process (row_at rows i).process
 
     both : ℕ → Bool
-    both k = isP k && up_to (edge rows) k i
+    both k = is_p k && up_to (edge rows) k i
 
     out : (k : ℕ) → suc i ≤ k → k < length rows → both k ≡ false
-    out k l b = not_passed (both k) (λ e. let m = up_to-least rows k i (and_out (isP k) _ e).1 in omega arith)
+    out k l b = not_passed (both k) (λ e. let m = up_to-least rows k i (and_out (is_p k) _ e).1 in omega arith)
 
 -- A row's count for its own process is its place among that process's rows.
 own-place : (rows : List Row) (i : ℕ) → i < length rows → count rows (row_at rows i).process i ≡ place_of rows i

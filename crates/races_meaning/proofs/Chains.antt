@@ -17,8 +17,8 @@ use Rattle.rows.specs.Rows.{row_at}
 use Rattle.rows.proofs.Bools.{and_out, same_test}
 use Rattle.rows.proofs.Below.{any-in, any_out}
 use Rattle.happens_before.proofs.Clocks.{edge-forward, edge_in, HB-less, hb-iff}
-use Rattle.races_meaning.specs.Races.{same_file, is_sync, chainPosix, chainCommit, chainSession, chainMpiIo, chain}
-use Rattle.races_meaning.specs.TableChain.{publishedBy, refreshedBy, tableChain}
+use Rattle.races_meaning.specs.Races.{same_file, is_sync, chain_posix, chain_commit, chain_session, chain_mpi_io, chain}
+use Rattle.races_meaning.specs.TableChain.{published_by, refreshed_by, table_chain}
 use Rattle.rows.specs.Limits.{MODELS}
 
 -- ---- Tests
@@ -129,27 +129,27 @@ module _ (rows : List Row) (x y : ℕ) where
   -- ---- The chains
 
   -- POSIX: X happens before Y
-  pub posix-iff : (chainPosix rows x y ≡ true) ↔ HB (edge rows) x y
-  unfolding chainPosix
+  pub posix-iff : (chain_posix rows x y ≡ true) ↔ HB (edge rows) x y
+  unfolding chain_posix
   posix-iff = hb-iff (edge-forward rows) x y
 
   -- commit: a commit by X's process after X, and it happens before Y
-  pub commit-iff : (chainCommit rows x y ≡ true) ↔
+  pub commit-iff : (chain_commit rows x y ≡ true) ↔
       ((c : ℕ) × (x < c) × (is_sync COMMIT (row_at rows x) (row_at rows c) ≡ true) × HB (edge rows) c y)
-  unfolding chainCommit
+  unfolding chain_commit
   commit-iff = one-iff (λ c. is_sync COMMIT (row_at rows x) (row_at rows c))
 
   -- session: a close by X's process after X, happening before an open by Y's process before Y
-  pub session-iff : (chainSession rows x y ≡ true) ↔
+  pub session-iff : (chain_session rows x y ≡ true) ↔
       ((c : ℕ) × (o : ℕ) × (x < c) × (is_sync CLOSE (row_at rows x) (row_at rows c) ≡ true) × (o < y) × (is_sync OPEN (row_at rows y) (row_at rows o) ≡ true) × HB (edge rows) c o)
-  unfolding chainSession
+  unfolding chain_session
   session-iff = pair-iff (λ c. is_sync CLOSE (row_at rows x) (row_at rows c)) (λ o. is_sync OPEN (row_at rows y) (row_at rows o))
 
   -- MPI-IO: a close or sync by X's process after X, happening before a sync or open by Y's process before Y
-  pub mpi_io_iff : (chainMpiIo rows x y ≡ true) ↔
+  pub mpi_io_iff : (chain_mpi_io rows x y ≡ true) ↔
       ((c : ℕ) × (o : ℕ) × (x < c) × ((is_sync CLOSE (row_at rows x) (row_at rows c) || is_sync SYNC (row_at rows x) (row_at rows c)) ≡ true)
       × (o < y) × ((is_sync SYNC (row_at rows y) (row_at rows o) || is_sync OPEN (row_at rows y) (row_at rows o)) ≡ true) × HB (edge rows) c o)
-  unfolding chainMpiIo
+  unfolding chain_mpi_io
   mpi_io_iff =
       pair-iff (λ c. is_sync CLOSE (row_at rows x) (row_at rows c) || is_sync SYNC (row_at rows x) (row_at rows c))
       (λ o. is_sync SYNC (row_at rows y) (row_at rows o) || is_sync OPEN (row_at rows y) (row_at rows o))
@@ -208,16 +208,16 @@ module _ (rows : List Row) (x y : ℕ) where
   own i k = same_file (row_at rows i) (row_at rows k) && same_process (row_at rows i) (row_at rows k)
 
   -- The table's chain is the chain of document 01 under each of the four models.
-  pub table-chain : (model : ℕ) → model < MODELS → x < length rows → y < length rows → tableChain rows model x y ≡ chain rows model x y
-  unfolding tableChain publishedBy refreshedBy publishes refreshes chain chainPosix chainCommit chainSession chainMpiIo
+  pub table-chain : (model : ℕ) → model < MODELS → x < length rows → y < length rows → table_chain rows model x y ≡ chain rows model x y
+  unfolding table_chain published_by refreshed_by publishes refreshes chain chain_posix chain_commit chain_session chain_mpi_io
   table-chain zero h a b = table-self
   table-chain (suc zero) h a b =
-      table-one (publishedBy rows 1 x) (λ c. is_sync COMMIT (row_at rows x) (row_at rows c)) (λ c. simp or-false)
+      table-one (published_by rows 1 x) (λ c. is_sync COMMIT (row_at rows x) (row_at rows c)) (λ c. simp or-false)
   table-chain (suc (suc zero)) h a b =
-      table-pair (publishedBy rows 2 x) (refreshedBy rows 2 y) (λ c. is_sync CLOSE (row_at rows x) (row_at rows c))
+      table-pair (published_by rows 2 x) (refreshed_by rows 2 y) (λ c. is_sync CLOSE (row_at rows x) (row_at rows c))
       (λ o. is_sync OPEN (row_at rows y) (row_at rows o)) (λ c. simp or-false) (λ o. simp or-false)
   table-chain (suc (suc (suc zero))) h a b =
-      table-pair (publishedBy rows 3 x) (refreshedBy rows 3 y)
+      table-pair (published_by rows 3 x) (refreshed_by rows 3 y)
       (λ c. is_sync CLOSE (row_at rows x) (row_at rows c) || is_sync SYNC (row_at rows x) (row_at rows c))
       (λ o. is_sync SYNC (row_at rows y) (row_at rows o) || is_sync OPEN (row_at rows y) (row_at rows o))
       (λ c. ap (λ (t : Bool). ltb x c && t) (kinds (eqb (row_at rows c).kind CLOSE) (eqb (row_at rows c).kind SYNC) (own x c)))

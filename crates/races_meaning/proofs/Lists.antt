@@ -12,7 +12,7 @@ use lib.ListN.{length, get_or, length-append, get_or-append}
 use lib.Seq.{get_or-append-add}
 use Rattle.rows.specs.declared.Row.{Row}
 use Rattle.races_meaning.specs.Races.{race, verdict_of}
-use Rattle.races_meaning.specs.Lists.{RowPair, pairsWith, pairsBelow, race_pairs, pair_numbers, first_of}
+use Rattle.races_meaning.specs.Lists.{RowPair, pairs_with, pairs_below, race_pairs, pair_numbers, first_of}
 use Rattle.races_meaning.proofs.Verdicts.{race_out, First, free-iff, racing-iff}
 
 -- ---- Lists of pairs
@@ -100,29 +100,29 @@ module _ (rows : List Row) (model : ℕ) where
   last x y b = cond b (pair_of x y ∷ []) []
 
   -- A later row that races with no row has no pair.
-  pub none-with : (y : ℕ) → ((x : ℕ) → race rows model x y ≡ false) → (k : ℕ) → pairsWith rows model y k ≡ []
-  unfolding pairsWith
+  pub none-with : (y : ℕ) → ((x : ℕ) → race rows model x y ≡ false) → (k : ℕ) → pairs_with rows model y k ≡ []
+  unfolding pairs_with
   none-with y f zero = refl
   none-with y f (suc k) = rw (none-with y f k, f k)
 
   -- A later row has at most one pair for each row below k.
-  pub few-with : (y k : ℕ) → length (pairsWith rows model y k) ≤ k
-  unfolding pairsWith
+  pub few-with : (y k : ℕ) → length (pairs_with rows model y k) ≤ k
+  unfolding pairs_with
   few-with y zero = omega arith
   few-with y (suc k) = go (race rows model k y) (few-with y k)
     where
-      go : (b : Bool) → length (pairsWith rows model y k) ≤ k → length (pairsWith rows model y k ++ last k y b) ≤ suc k
-      go true h = omega (arith, length-append (pairsWith rows model y k) (pair_of k y ∷ []))
+      go : (b : Bool) → length (pairs_with rows model y k) ≤ k → length (pairs_with rows model y k ++ last k y b) ≤ suc k
+      go true h = omega (arith, length-append (pairs_with rows model y k) (pair_of k y ∷ []))
       go false h = rw append-nil (omega (arith, h))
 
   -- A race of the later row with a row below k is listed.
-  in_with : (y k x : ℕ) → x < k → race rows model x y ≡ true → (i : ℕ) × Stands (pairsWith rows model y k) i (pair_of x y)
-  unfolding pairsWith
+  in_with : (y k x : ℕ) → x < k → race rows model x y ≡ true → (i : ℕ) × Stands (pairs_with rows model y k) i (pair_of x y)
+  unfolding pairs_with
   in_with y zero x l r = absurd (omega arith)
   in_with y (suc k) x l r = go (dec_lt x k) (λ h. in_with y k x h r)
     where
       before : List RowPair
-      before = pairsWith rows model y k
+      before = pairs_with rows model y k
 
       go : Dec (x < k) → (x < k → (i : ℕ) × Stands before i (pair_of x y)) → (i : ℕ) × Stands (before ++ last k y (race rows model k y)) i (pair_of x y)
       go (yes h) ih = let t = ih h in (t.0, stands-first before (last k y (race rows model k y)) t.1)
@@ -132,14 +132,14 @@ module _ (rows : List Row) (model : ℕ) where
           (length before + 0, stands-second before (last k y (race rows model k y)) s)
 
   -- What is listed is a race of the later row with a row below k.
-  out-with : (y k i : ℕ) (p : RowPair) → Stands (pairsWith rows model y k) i p → (x : ℕ) × (x < k) × (race rows model x y ≡ true) × (pair_of x y ≡ p)
-  unfolding pairsWith
+  out-with : (y k i : ℕ) (p : RowPair) → Stands (pairs_with rows model y k) i p → (x : ℕ) × (x < k) × (race rows model x y ≡ true) × (pair_of x y ≡ p)
+  unfolding pairs_with
   out-with y zero i p s = absurd (omega (arith, s.0))
-  out-with y (suc k) i p s = go (race rows model k y) refl (stands-out (pairsWith rows model y k) (last k y (race rows model k y)) i s) (out-with y k i p)
+  out-with y (suc k) i p s = go (race rows model k y) refl (stands-out (pairs_with rows model y k) (last k y (race rows model k y)) i s) (out-with y k i p)
     where
       go : (b : Bool) → race rows model k y ≡ b →
-          Stands (pairsWith rows model y k) i p ⊎ ((n : ℕ) × (i ≡ length (pairsWith rows model y k) + n) × Stands (last k y (race rows model k y)) n p) →
-          (Stands (pairsWith rows model y k) i p → (x : ℕ) × (x < k) × (race rows model x y ≡ true) × (pair_of x y ≡ p)) →
+          Stands (pairs_with rows model y k) i p ⊎ ((n : ℕ) × (i ≡ length (pairs_with rows model y k) + n) × Stands (last k y (race rows model k y)) n p) →
+          (Stands (pairs_with rows model y k) i p → (x : ℕ) × (x < k) × (race rows model x y ≡ true) × (pair_of x y ≡ p)) →
           (x : ℕ) × (x < suc k) × (race rows model x y ≡ true) × (pair_of x y ≡ p)
       go b e (inl t) ih = let (x, h, r, q) = ih t in (x, omega arith, r, q)
       go true e (inr (n, d, t)) ih = let u = rw e at t in (k, omega arith, e, one n u)
@@ -150,89 +150,89 @@ module _ (rows : List Row) (model : ℕ) where
       go false e (inr (n, d, t)) ih = let u = rw e at t in absurd (omega (arith, u.0))
 
   -- The pairs of one later row rise by their earlier rows.
-  rising-with : (y k : ℕ) → Rising (pairsWith rows model y k)
-  unfolding pairsWith
+  rising-with : (y k : ℕ) → Rising (pairs_with rows model y k)
+  unfolding pairs_with
   rising-with y zero = λ i j l h. absurd (omega arith)
   rising-with y (suc k) = go (race rows model k y) (rising-with y k)
     where
-      go : (b : Bool) → Rising (pairsWith rows model y k) → Rising (pairsWith rows model y k ++ last k y b)
+      go : (b : Bool) → Rising (pairs_with rows model y k) → Rising (pairs_with rows model y k ++ last k y b)
       go false f = rw append-nil f
       go true f =
-          rising_whole (pairsWith rows model y k) (pair_of k y ∷ []) f (λ i j l h. absurd (omega arith))
+          rising_whole (pairs_with rows model y k) (pair_of k y ∷ []) f (λ i j l h. absurd (omega arith))
           (λ i j l h.
-          let (x, m, r, q) = out-with y k i (get_or (pairsWith rows model y k) i no_pair_lem) (l, refl) in
+          let (x, m, r, q) = out-with y k i (get_or (pairs_with rows model y k) i no_pair_lem) (l, refl) in
           let z : j ≡ 0 = omega arith in
           rw (z, ← q) (inr (refl, omega arith)))
 
   -- ---- The races of all later rows below a bound
 
   -- Twice the number of pairs and the number of later rows are at most that number squared.
-  few-below : (y : ℕ) → 2 * length (pairsBelow rows model y) + y ≤ y * y
-  unfolding pairsBelow
+  few-below : (y : ℕ) → 2 * length (pairs_below rows model y) + y ≤ y * y
+  unfolding pairs_below
   few-below zero = omega arith
   few-below (suc y) =
       omega (
         arith,
         few-below y,
         few-with y y,
-        length-append (pairsBelow rows model y) (pairsWith rows model y y),
+        length-append (pairs_below rows model y) (pairs_with rows model y y),
         suc-mul y (suc y),
         mul-suc y y,
       )
 
   -- A race whose later row stands below the bound is listed.
-  in_below : (m x y : ℕ) → y < m → race rows model x y ≡ true → (i : ℕ) × Stands (pairsBelow rows model m) i (pair_of x y)
-  unfolding pairsBelow
+  in_below : (m x y : ℕ) → y < m → race rows model x y ≡ true → (i : ℕ) × Stands (pairs_below rows model m) i (pair_of x y)
+  unfolding pairs_below
   in_below zero x y l r = absurd (omega arith)
   in_below (suc m) x y l r = go (dec_lt y m) (λ h. in_below m x y h r)
     where
-      go : Dec (y < m) → (y < m → (i : ℕ) × Stands (pairsBelow rows model m) i (pair_of x y)) →
-          (i : ℕ) × Stands (pairsBelow rows model m ++ pairsWith rows model m m) i (pair_of x y)
-      go (yes h) ih = let t = ih h in (t.0, stands-first (pairsBelow rows model m) (pairsWith rows model m m) t.1)
+      go : Dec (y < m) → (y < m → (i : ℕ) × Stands (pairs_below rows model m) i (pair_of x y)) →
+          (i : ℕ) × Stands (pairs_below rows model m ++ pairs_with rows model m m) i (pair_of x y)
+      go (yes h) ih = let t = ih h in (t.0, stands-first (pairs_below rows model m) (pairs_with rows model m m) t.1)
       go (no h) ih =
           let e : y ≡ m = omega arith in
           let t = in_with m m x (omega (arith, (race_out rows model x y r).0)) (ap (race rows model x) (sym e) ∙ r) in
-          let s = subst (λ (z : ℕ). Stands (pairsWith rows model m m) t.0 (pair_of x z)) (sym e) t.1 in
-          (length (pairsBelow rows model m) + t.0, stands-second (pairsBelow rows model m) (pairsWith rows model m m) s)
+          let s = subst (λ (z : ℕ). Stands (pairs_with rows model m m) t.0 (pair_of x z)) (sym e) t.1 in
+          (length (pairs_below rows model m) + t.0, stands-second (pairs_below rows model m) (pairs_with rows model m m) s)
 
   -- What is listed is a race whose later row stands below the bound.
-  out_below : (m i : ℕ) (p : RowPair) → Stands (pairsBelow rows model m) i p →
+  out_below : (m i : ℕ) (p : RowPair) → Stands (pairs_below rows model m) i p →
       (x : ℕ) × (y : ℕ) × (y < m) × (race rows model x y ≡ true) × (pair_of x y ≡ p)
-  unfolding pairsBelow
+  unfolding pairs_below
   out_below zero i p s = absurd (omega (arith, s.0))
-  out_below (suc m) i p s = go (stands-out (pairsBelow rows model m) (pairsWith rows model m m) i s) (out_below m i p)
+  out_below (suc m) i p s = go (stands-out (pairs_below rows model m) (pairs_with rows model m m) i s) (out_below m i p)
     where
-      go : Stands (pairsBelow rows model m) i p ⊎ ((n : ℕ) × (i ≡ length (pairsBelow rows model m) + n) × Stands (pairsWith rows model m m) n p) →
-          (Stands (pairsBelow rows model m) i p → (x : ℕ) × (y : ℕ) × (y < m) × (race rows model x y ≡ true) × (pair_of x y ≡ p)) →
+      go : Stands (pairs_below rows model m) i p ⊎ ((n : ℕ) × (i ≡ length (pairs_below rows model m) + n) × Stands (pairs_with rows model m m) n p) →
+          (Stands (pairs_below rows model m) i p → (x : ℕ) × (y : ℕ) × (y < m) × (race rows model x y ≡ true) × (pair_of x y ≡ p)) →
           (x : ℕ) × (y : ℕ) × (y < suc m) × (race rows model x y ≡ true) × (pair_of x y ≡ p)
       go (inl t) ih = let (x, y, h, r, q) = ih t in (x, y, omega arith, r, q)
       go (inr (n, e, t)) ih = let (x, h, r, q) = out-with m m n p t in (x, m, omega arith, r, q)
 
   -- The pairs rise by their later rows, and those of one later row by their earlier rows.
-  rising-below : (m : ℕ) → Rising (pairsBelow rows model m)
-  unfolding pairsBelow
+  rising-below : (m : ℕ) → Rising (pairs_below rows model m)
+  unfolding pairs_below
   rising-below zero = λ i j l h. absurd (omega arith)
   rising-below (suc m) =
-      rising_whole (pairsBelow rows model m) (pairsWith rows model m m) (rising-below m) (rising-with m m)
+      rising_whole (pairs_below rows model m) (pairs_with rows model m m) (rising-below m) (rising-with m m)
       (λ i j l h.
-      let (x, y, k, r, q) = out_below m i (get_or (pairsBelow rows model m) i no_pair_lem) (l, refl) in
-      let (w, d, t, u) = out-with m m j (get_or (pairsWith rows model m m) j no_pair_lem) (h, refl) in
+      let (x, y, k, r, q) = out_below m i (get_or (pairs_below rows model m) i no_pair_lem) (l, refl) in
+      let (w, d, t, u) = out-with m m j (get_or (pairs_with rows model m m) j no_pair_lem) (h, refl) in
       rw (← q, ← u) (inl (omega arith)))
 
   -- The pairs below a bound stand at the front of those below any larger bound.
-  pub front_below : (y m : ℕ) → y ≤ m → (more : List RowPair) × (pairsBelow rows model m ≡ pairsBelow rows model y ++ more)
-  unfolding pairsBelow
-  front_below y zero l = let e : 0 ≡ y = omega arith in ([], ap (pairsBelow rows model) e ∙ sym (append-nil (pairsBelow rows model y)))
+  pub front_below : (y m : ℕ) → y ≤ m → (more : List RowPair) × (pairs_below rows model m ≡ pairs_below rows model y ++ more)
+  unfolding pairs_below
+  front_below y zero l = let e : 0 ≡ y = omega arith in ([], ap (pairs_below rows model) e ∙ sym (append-nil (pairs_below rows model y)))
   front_below y (suc m) l = go (dec_lt y (suc m)) (λ h. front_below y m h)
     where
-      go : Dec (y < suc m) → (y ≤ m → (more : List RowPair) × (pairsBelow rows model m ≡ pairsBelow rows model y ++ more)) →
-          (more : List RowPair) × (pairsBelow rows model (suc m) ≡ pairsBelow rows model y ++ more)
+      go : Dec (y < suc m) → (y ≤ m → (more : List RowPair) × (pairs_below rows model m ≡ pairs_below rows model y ++ more)) →
+          (more : List RowPair) × (pairs_below rows model (suc m) ≡ pairs_below rows model y ++ more)
       go (yes h) ih =
           let (more, e) = ih (omega arith) in
-          (more ++ pairsWith rows model m m, ap (λ (l : List RowPair). l ++ pairsWith rows model m m) e ∙ append_assoc (pairsBelow rows model y) more _)
+          (more ++ pairs_with rows model m m, ap (λ (l : List RowPair). l ++ pairs_with rows model m m) e ∙ append_assoc (pairs_below rows model y) more _)
       go (no h) ih =
           let e : suc m ≡ y = omega arith in
-          ([], ap (pairsBelow rows model) e ∙ sym (append-nil (pairsBelow rows model y)))
+          ([], ap (pairs_below rows model) e ∙ sym (append-nil (pairs_below rows model y)))
 
   -- ---- Every race
 
@@ -241,7 +241,7 @@ module _ (rows : List Row) (model : ℕ) where
   unfolding race_pairs
   stands-iff x y = (λ r. in_below (length rows) x y (race_out rows model x y r).1 r, back)
     where
-      back : (k : ℕ) × Stands (pairsBelow rows model (length rows)) k (pair_of x y) → race rows model x y ≡ true
+      back : (k : ℕ) × Stands (pairs_below rows model (length rows)) k (pair_of x y) → race rows model x y ≡ true
       back (k, s) =
           let (u, v, h, r, q) = out_below (length rows) k (pair_of x y) s in
           let same = same-pair u v x y q in
@@ -251,7 +251,7 @@ module _ (rows : List Row) (model : ℕ) where
   pub listed-race : (k : ℕ) → k < length (race_pairs rows model) →
       (x : ℕ) × (y : ℕ) × (race rows model x y ≡ true) × (get_or (race_pairs rows model) k no_pair_lem ≡ pair_of x y)
   unfolding race_pairs
-  listed-race k h = let (x, y, l, r, q) = out_below (length rows) k (get_or (pairsBelow rows model (length rows)) k no_pair_lem) (h, refl) in (x, y, r, sym q)
+  listed-race k h = let (x, y, l, r, q) = out_below (length rows) k (get_or (pairs_below rows model (length rows)) k no_pair_lem) (h, refl) in (x, y, r, sym q)
 
   -- The pairs rise strictly, by later row and then by earlier row; so each is listed once.
   pub listed-rising : Rising (race_pairs rows model)

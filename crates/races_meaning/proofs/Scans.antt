@@ -16,12 +16,12 @@ use Rattle.rows.proofs.Bools.{and_out, same_test}
 use Rattle.happens_before.proofs.Clocks.{edge-forward, HB-less, hb-iff}
 use Rattle.races_meaning.specs.Races.{same_file, conflict, synchronized, race}
 use Rattle.rows.specs.Counting.{last_below}
-use Rattle.races_meaning.specs.TableChain.{publishedBy, refreshedBy, tableChain}
-use Rattle.races_meaning.specs.Search.{isPublish, publishAt, refreshAt, bestChain}
-use Rattle.races_meaning.specs.Scan.{before, noted, lastNoted, inOrder, seen}
+use Rattle.races_meaning.specs.TableChain.{published_by, refreshed_by, table_chain}
+use Rattle.races_meaning.specs.Search.{is_publish, publish_at, refresh_at, best_chain}
+use Rattle.races_meaning.specs.Scan.{before, noted, last_noted, is_in_order, seen}
 use Rattle.races_meaning.proofs.Conflicts.{Conflict, conflict-iff}
 use Rattle.races_meaning.proofs.Chains.{two-iff, table-chain}
-use Rattle.races_meaning.proofs.Best.{Latest, last-is, refreshed, publish_first, refresh_last, best_chain, counts-tell}
+use Rattle.races_meaning.proofs.Best.{Latest, last-is, refreshed, publish_first, refresh_last, best_chain_lem, counts-tell}
 use Rattle.rows.specs.Limits.{MODELS}
 
 -- ---- A write: its chain and the last noted row
@@ -36,7 +36,7 @@ module _ (rows : List Row) (model x y : ℕ) (h : x < y) (g : y < length rows) (
   told b o = cond b (before rows model (row_at rows x).process x o) (ltb (suc x) (last_below y (mark o)))
 
   -- Where a row publishes x and happens before row o, the noted rows tell.
-  chain_told : (b : Bool) (k o : ℕ) → o ≤ y → HB (edge rows) k o → cond b (eqb k x) (ltb x k && isPublish rows model (row_at rows x) k) ≡ true →
+  chain_told : (b : Bool) (k o : ℕ) → o ≤ y → HB (edge rows) k o → cond b (eqb k x) (ltb x k && is_publish rows model (row_at rows x) k) ≡ true →
       told b o ≡ true
   chain_told true k o l r e =
       let q = eqb-true k x e in
@@ -57,7 +57,7 @@ module _ (rows : List Row) (model x y : ℕ) (h : x < y) (g : y < length rows) (
 
   -- Where the noted rows tell, a row publishes x and happens before row o.
   told-chain : (b : Bool) (o : ℕ) → o ≤ y → (row_at rows y).process ≡ (row_at rows o).process → told b o ≡ true →
-      (k : ℕ) × (cond b (eqb k x) (ltb x k && isPublish rows model (row_at rows x) k) ≡ true) × HB (edge rows) k o
+      (k : ℕ) × (cond b (eqb k x) (ltb x k && is_publish rows model (row_at rows x) k) ≡ true) × HB (edge rows) k o
   told-chain true o l s e = (x, eq-eqb x x refl, (hb-iff (edge-forward rows) x o).0 (counts-tell rows x o (omega arith) (omega arith) apart ∙ e))
     where
       apart : x ≡ o → ⊥
@@ -89,7 +89,7 @@ module _ (rows : List Row) (model x y : ℕ) (h : x < y) (g : y < length rows) (
       p : (row_at rows k).process ≡ (row_at rows x).process
       p = eqb-true _ _ a.0
 
-      t : ltb x k && isPublish rows model (row_at rows x) k ≡ true
+      t : ltb x k && is_publish rows model (row_at rows x) k ≡ true
       t =
           rw (
             lt-ltb x k (omega (arith, low)),
@@ -102,36 +102,36 @@ module _ (rows : List Row) (model x y : ℕ) (h : x < y) (g : y < length rows) (
       apart q = c.two-processes (sym p ∙ ap (λ (i : ℕ). (row_at rows i).process) q ∙ sym s)
 
   -- The chain of the table, by the last noted row.
-  chain_scan : tableChain rows model x y ≡ ltb 0 (refreshAt rows model y) && told (publishes model WRITE) (refreshAt rows model y - 1)
-  unfolding tableChain publishedBy bestChain
-  chain_scan = same_test _ _ (λ e. there (sym (best_chain rows model x y (omega arith) g) ∙ e)) back
+  chain_scan : table_chain rows model x y ≡ ltb 0 (refresh_at rows model y) && told (publishes model WRITE) (refresh_at rows model y - 1)
+  unfolding table_chain published_by best_chain
+  chain_scan = same_test _ _ (λ e. there (sym (best_chain_lem rows model x y (omega arith) g) ∙ e)) back
     where
       q : ℕ
-      q = refreshAt rows model y
+      q = refresh_at rows model y
 
-      r : Latest (suc y) (refreshedBy rows model y) q
+      r : Latest (suc y) (refreshed_by rows model y) q
       r = refresh_last rows model y
 
-      there : bestChain rows model x y ≡ true → ltb 0 q && told (publishes model WRITE) (q - 1) ≡ true
+      there : best_chain rows model x y ≡ true → ltb 0 q && told (publishes model WRITE) (q - 1) ≡ true
       there e =
-          let i = and_out (ltb (publishAt rows model x) (length rows)) _ e in
+          let i = and_out (ltb (publish_at rows model x) (length rows)) _ e in
           let j = and_out (ltb 0 q) _ i.1 in
           let t = (publish_first rows model x (omega arith)).passes (ltb-true _ _ i.0) in
-          let s = (hb-iff (edge-forward rows) (publishAt rows model x) (q - 1)).0 j.1 in
-          rw j.0 (chain_told (publishes model WRITE) (publishAt rows model x) (q - 1) (omega (arith, r.high)) s t)
+          let s = (hb-iff (edge-forward rows) (publish_at rows model x) (q - 1)).0 j.1 in
+          rw j.0 (chain_told (publishes model WRITE) (publish_at rows model x) (q - 1) (omega (arith, r.high)) s t)
 
-      back : ltb 0 q && told (publishes model WRITE) (q - 1) ≡ true → tableChain rows model x y ≡ true
+      back : ltb 0 q && told (publishes model WRITE) (q - 1) ≡ true → table_chain rows model x y ≡ true
       back e =
           let j = and_out (ltb 0 q) _ e in
           let t = r.passes (ltb-true 0 q j.0) in
           let l : q ≤ suc y = r.high in
           let a = told-chain (publishes model WRITE) (q - 1) (omega arith) (refreshed rows model y (q - 1) t).1 j.1 in
-          (two-iff rows (length rows) (publishedBy rows model x) (refreshedBy rows model y)).1 (a.0, q - 1, a.1, omega arith, t, a.2)
+          (two-iff rows (length rows) (published_by rows model x) (refreshed_by rows model y)).1 (a.0, q - 1, a.1, omega arith, t, a.2)
 
 -- Of a conflicting pair, the scan tells whether it is properly synchronized.
 pub in_order : (rows : List Row) (model x y : ℕ) → model < MODELS → x < y → y < length rows → conflict (row_at rows x) (row_at rows y) ≡ true →
-    synchronized rows model x y ≡ inOrder rows model x y
-unfolding synchronized inOrder lastNoted
+    synchronized rows model x y ≡ is_in_order rows model x y
+unfolding synchronized is_in_order last_noted
 in_order rows model x y m h g c =
     let k = (conflict-iff (row_at rows x) (row_at rows y)).0 c in
     let write = sym (table-chain rows x y model m (omega arith) g) ∙ chain_scan rows model x y h g k in
@@ -144,6 +144,6 @@ pub race_seen : (rows : List Row) (model x y : ℕ) → model < MODELS → x < y
 unfolding race
 race_seen rows model x y m h g = rw (lt-ltb x y h, lt-ltb y (length rows) g) (go (conflict (row_at rows x) (row_at rows y)) refl)
   where
-    go : (b : Bool) → conflict (row_at rows x) (row_at rows y) ≡ b → b && not (synchronized rows model x y) ≡ b && not (inOrder rows model x y)
+    go : (b : Bool) → conflict (row_at rows x) (row_at rows y) ≡ b → b && not (synchronized rows model x y) ≡ b && not (is_in_order rows model x y)
     go true e = ap not (in_order rows model x y m h g e)
     go false e = refl

@@ -10,18 +10,18 @@ pub record RowPair : Type 0 where
 
 module _ (rows : List Row) (model : ℕ) where
   -- The races of the later row at index y with the rows below index x.
-  unfoldable pub pairsWith : ℕ → ℕ → List RowPair
-  pairsWith y zero = []
-  pairsWith y (suc x) = pairsWith y x ++ cond (race rows model x y) (record { earlier = suc x; later = suc y } ∷ []) []
+  unfoldable pub pairs_with : ℕ → ℕ → List RowPair
+  pairs_with y zero = []
+  pairs_with y (suc x) = pairs_with y x ++ cond (race rows model x y) (record { earlier = suc x; later = suc y } ∷ []) []
 
   -- The races whose later row stands below index y.
-  unfoldable pub pairsBelow : ℕ → List RowPair
-  pairsBelow zero = []
-  pairsBelow (suc y) = pairsBelow y ++ pairsWith y y
+  unfoldable pub pairs_below : ℕ → List RowPair
+  pairs_below zero = []
+  pairs_below (suc y) = pairs_below y ++ pairs_with y y
 
 -- Every race of the rows.
 unfoldable pub race_pairs : List Row → ℕ → List RowPair
-race_pairs rows model = pairsBelow rows model (length rows)
+race_pairs rows model = pairs_below rows model (length rows)
 
 -- Pairs as a list holds them: two numbers each, the earlier row's first.
 unfoldable pub pair_numbers : List RowPair → List ℕ

@@ -50,21 +50,21 @@ module _ (rows : List Row) where
   row k = row_at rows k
 
   -- POSIX: X happens before Y
-  unfoldable pub chainPosix : ℕ → ℕ → Bool
-  chainPosix x y = hb (edge rows) x y
+  unfoldable pub chain_posix : ℕ → ℕ → Bool
+  chain_posix x y = hb (edge rows) x y
 
   -- commit: a commit by X's process after X, and it happens before Y
-  unfoldable pub chainCommit : ℕ → ℕ → Bool
-  chainCommit x y = some_after rows x (λ c. is_sync COMMIT (row x) (row c) && hb (edge rows) c y)
+  unfoldable pub chain_commit : ℕ → ℕ → Bool
+  chain_commit x y = some_after rows x (λ c. is_sync COMMIT (row x) (row c) && hb (edge rows) c y)
 
   -- session: a close by X's process after X, happening before an open by Y's process before Y
-  unfoldable pub chainSession : ℕ → ℕ → Bool
-  chainSession x y =
+  unfoldable pub chain_session : ℕ → ℕ → Bool
+  chain_session x y =
       some_after rows x (λ c. is_sync CLOSE (row x) (row c) && some_before y (λ o. is_sync OPEN (row y) (row o) && hb (edge rows) c o))
 
   -- MPI-IO: a close or sync by X's process after X, happening before a sync or open by Y's process before Y
-  unfoldable pub chainMpiIo : ℕ → ℕ → Bool
-  chainMpiIo x y =
+  unfoldable pub chain_mpi_io : ℕ → ℕ → Bool
+  chain_mpi_io x y =
       some_after rows x
       (λ c. (is_sync CLOSE (row x) (row c) || is_sync SYNC (row x) (row c))
       && some_before y (λ o. (is_sync SYNC (row y) (row o) || is_sync OPEN (row y) (row o)) && hb (edge rows) c o))
@@ -72,8 +72,8 @@ module _ (rows : List Row) where
   -- The chain of a model by its number.
   unfoldable pub chain : ℕ → ℕ → ℕ → Bool
   chain model x y =
-      cond (eqb model POSIX) (chainPosix x y)
-      (cond (eqb model COMMIT_MODEL) (chainCommit x y) (cond (eqb model SESSION) (chainSession x y) (chainMpiIo x y)))
+      cond (eqb model POSIX) (chain_posix x y)
+      (cond (eqb model COMMIT_MODEL) (chain_commit x y) (cond (eqb model SESSION) (chain_session x y) (chain_mpi_io x y)))
 
   -- ---- Races and the verdict
 

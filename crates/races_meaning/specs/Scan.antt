@@ -8,7 +8,7 @@ use Rattle.rows.specs.Rows.{row_at}
 use Rattle.happens_before.specs.Order.{count}
 use Rattle.races_meaning.specs.Races.{is_write, same_file, conflict}
 use Rattle.rows.specs.Counting.{last_below}
-use Rattle.races_meaning.specs.Search.{refreshAt}
+use Rattle.races_meaning.specs.Search.{refresh_at}
 
 module _ (rows : List Row) (model : ℕ) where
   -- By the counts, row i, of process p, happens before row j or is row j.
@@ -21,18 +21,18 @@ module _ (rows : List Row) (model : ℕ) where
       publishes model (row_at rows c).kind && (same_file (row_at rows y) (row_at rows c) && before (row_at rows c).process c o)
 
   -- The index of the last noted row of process p below k, plus one; 0 where there is none.
-  unfoldable pub lastNoted : ℕ → ℕ → ℕ → ℕ → ℕ
-  lastNoted y o p k = last_below k (λ c. eqb (row_at rows c).process p && noted y o c)
+  unfoldable pub last_noted : ℕ → ℕ → ℕ → ℕ → ℕ
+  last_noted y o p k = last_below k (λ c. eqb (row_at rows c).process p && noted y o c)
 
   -- X before Y is properly synchronized: a read by the counts; a write, where there is a refresh, by itself or by its process's last noted row.
-  unfoldable pub inOrder : ℕ → ℕ → Bool
-  inOrder x y =
+  unfoldable pub is_in_order : ℕ → ℕ → Bool
+  is_in_order x y =
       let p = (row_at rows x).process in
       cond (is_write (row_at rows x))
-      (ltb 0 (refreshAt rows model y)
-      && cond (publishes model WRITE) (before p x (refreshAt rows model y - 1)) (ltb (suc x) (lastNoted y (refreshAt rows model y - 1) p y)))
+      (ltb 0 (refresh_at rows model y)
+      && cond (publishes model WRITE) (before p x (refresh_at rows model y - 1)) (ltb (suc x) (last_noted y (refresh_at rows model y - 1) p y)))
       (before p x y)
 
   -- Row x before row y races with it: the two conflict and are not properly synchronized.
   abbrev pub seen : ℕ → ℕ → Bool
-  seen y x = conflict (row_at rows x) (row_at rows y) && not (inOrder x y)
+  seen y x = conflict (row_at rows x) (row_at rows y) && not (is_in_order x y)

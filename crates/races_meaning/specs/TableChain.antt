@@ -10,17 +10,17 @@ use Rattle.races_meaning.specs.Races.{same_file}
 
 module _ (rows : List Row) (model : ℕ) where
   -- Row c publishes the write X: X itself where a write publishes, else a later row of its process and file that does.
-  unfoldable pub publishedBy : ℕ → ℕ → Bool
-  publishedBy x c =
+  unfoldable pub published_by : ℕ → ℕ → Bool
+  published_by x c =
       cond (publishes model WRITE) (eqb c x)
       (ltb x c && (publishes model (row_at rows c).kind && (same_file (row_at rows x) (row_at rows c) && same_process (row_at rows x) (row_at rows c))))
 
   -- Row o refreshes for Y: Y itself where a read refreshes, else an earlier row of its process and file that does.
-  unfoldable pub refreshedBy : ℕ → ℕ → Bool
-  refreshedBy y o =
+  unfoldable pub refreshed_by : ℕ → ℕ → Bool
+  refreshed_by y o =
       cond (refreshes model READ) (eqb o y)
       (ltb o y && (refreshes model (row_at rows o).kind && (same_file (row_at rows y) (row_at rows o) && same_process (row_at rows y) (row_at rows o))))
 
   -- The chain of the table: a row that publishes X happens before a row that refreshes for Y.
-  unfoldable pub tableChain : ℕ → ℕ → Bool
-  tableChain x y = any_below (length rows) (λ c. publishedBy x c && any_below (length rows) (λ o. refreshedBy y o && hb (edge rows) c o))
+  unfoldable pub table_chain : ℕ → ℕ → Bool
+  table_chain x y = any_below (length rows) (λ c. published_by x c && any_below (length rows) (λ o. refreshed_by y o && hb (edge rows) c o))

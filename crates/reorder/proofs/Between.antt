@@ -15,7 +15,7 @@ use Rattle.rows.proofs.Bools.{and_out, or_out, not_passed}
 use Rattle.models.specs.Models.{POSIX, COMMIT_MODEL, SESSION}
 use Rattle.happens_before.specs.Order.{edge, HB, one, more, hb}
 use Rattle.happens_before.proofs.Clocks.{edge-forward, program-order, HB-trans, hb-iff}
-use Rattle.races_meaning.specs.Races.{is_write, same_file, is_sync, conflict, chainMpiIo, chain, synchronized, race}
+use Rattle.races_meaning.specs.Races.{is_write, same_file, is_sync, conflict, chain_mpi_io, chain, synchronized, race}
 use Rattle.races_meaning.proofs.Conflicts.{conflict-iff}
 use Rattle.races_meaning.proofs.Chains.{HB-start, posix-iff, commit-iff, session-iff, mpi_io_iff}
 
@@ -84,7 +84,7 @@ module _ (rows : List Row) where
       more (one-order first p x o (c, l, t, h)) (program-order rows o y m b (sym (q _ _ u)))
 
   -- The chain of every model number from 3 on is that of MPI-IO.
-  pub other-chain : (n x y : ℕ) → chain rows (suc (suc (suc n))) x y ≡ chainMpiIo rows x y
+  pub other-chain : (n x y : ℕ) → chain rows (suc (suc (suc n))) x y ≡ chain_mpi_io rows x y
   unfolding chain
   other-chain n x y =
       let m = suc (suc (suc n)) in

@@ -88,9 +88,9 @@ module _ {rows rows' : List Row} {to from : ℕ → ℕ} (s : SameRows rows rows
         go (no x) (no y) = let e : i ≡ j = omega arith in let z = ap to e in absurd (omega arith)
 
     -- Where a row that is named by its index plus one stands under the new numbers, named so; 0 stays.
-    abbrev movedLast : ℕ → ℕ
-    movedLast zero = 0
-    movedLast (suc k) = suc (to k)
+    abbrev moved_last : ℕ → ℕ
+    moved_last zero = 0
+    moved_last (suc k) = suc (to k)
 
     -- A row that stands before row j of its process under the new numbers, by its old place.
     own-before : (j k : ℕ) → j < length rows → k < to j → (row_at rows' k).process ≡ (row_at rows' (to j)).process →
@@ -104,7 +104,7 @@ module _ {rows rows' : List Row} {to from : ℕ → ℕ} (s : SameRows rows rows
 
     -- The last row of row j's process before row j is the same row under the new numbers.
     last-moved : (j : ℕ) → j < length rows → (l : ℕ) → Last (λ k. (row_at rows k).process) (row_at rows j).process j l →
-        Last (λ k. (row_at rows' k).process) (row_at rows' (to j)).process (to j) (movedLast l)
+        Last (λ k. (row_at rows' k).process) (row_at rows' (to j)).process (to j) (moved_last l)
     last-moved j h zero r = λ k b q. let t = own-before j k h b q in r (from k) t.0 t.1
     last-moved j h (suc i) r =
         let low : i < length rows = omega (arith, r.0) in (
@@ -126,12 +126,12 @@ module _ {rows rows' : List Row} {to from : ℕ → ℕ} (s : SameRows rows rows
     passes-moved i j h g q =
         let last = last-is (λ k. (row_at rows k).process) (row_at rows j).process j in
         let there = last-is (λ k. (row_at rows' k).process) (row_at rows' (to j)).process (to j) in
-        let same : last_before (row_at rows') (to j) ≡ movedLast (last_before (row_at rows) j) =
+        let same : last_before (row_at rows') (to j) ≡ moved_last (last_before (row_at rows) j) =
         last_one (λ k. (row_at rows' k).process) (row_at rows' (to j)).process (to j) _ _ there (last-moved j g (last_before (row_at rows) j) last) in
         ap (passes (row_at rows') (to i)) same ∙ go (last_before (row_at rows) j) last q
       where
         go : (l : ℕ) → Last (λ k. (row_at rows k).process) (row_at rows j).process j l → passes (row_at rows) i l ≡ true →
-            passes (row_at rows') (to i) (movedLast l) ≡ true
+            passes (row_at rows') (to i) (moved_last l) ≡ true
         go zero r q = q
         go (suc k) r q = let low : k < length rows = omega (arith, r.0) in (λ z. same_barrier (s.same_row i h z) (s.same_row k low z)) ∙ q
 

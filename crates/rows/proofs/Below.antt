@@ -139,85 +139,85 @@ count_cut k (suc n) f h out = go (dec_lt n k) (count_cut k n f)
         rw (out n at (omega arith)) (omega arith)
 
 -- One number j that passes beside others counts once.
-pub count-own : (n j : ℕ) (isP f : ℕ → Bool) → j < n → f j ≡ false →
-    count_below n (λ i. isP i && (eqb i j || f i)) ≡ count_below n (λ i. isP i && f i) + cond (isP j) 1 0
+pub count-own : (n j : ℕ) (is_p f : ℕ → Bool) → j < n → f j ≡ false →
+    count_below n (λ i. is_p i && (eqb i j || f i)) ≡ count_below n (λ i. is_p i && f i) + cond (is_p j) 1 0
 unfolding count_below
-count-own zero j isP f h e = absurd (omega arith)
-count-own (suc n) j isP f h e = go (dec_lt j n) (count-own n j isP f)
+count-own zero j is_p f h e = absurd (omega arith)
+count-own (suc n) j is_p f h e = go (dec_lt j n) (count-own n j is_p f)
   where
     go : Dec (j < n) →
-        (j < n → f j ≡ false → count_below n (λ i. isP i && (eqb i j || f i)) ≡ count_below n (λ i. isP i && f i) + cond (isP j) 1 0) →
-        count_below n (λ i. isP i && (eqb i j || f i)) + cond (isP n && (eqb n j || f n)) 1 0
-        ≡ count_below n (λ i. isP i && f i) + cond (isP n && f n) 1 0 + cond (isP j) 1 0
+        (j < n → f j ≡ false → count_below n (λ i. is_p i && (eqb i j || f i)) ≡ count_below n (λ i. is_p i && f i) + cond (is_p j) 1 0) →
+        count_below n (λ i. is_p i && (eqb i j || f i)) + cond (is_p n && (eqb n j || f n)) 1 0
+        ≡ count_below n (λ i. is_p i && f i) + cond (is_p n && f n) 1 0 + cond (is_p j) 1 0
     go (yes l) rest = let r = rest l e in rw (ne_eqb n j (omega arith)) (omega arith)
     go (no l) rest =
         let q : n ≡ j = omega arith in
-        let r = count_same n (λ i. isP i && (eqb i j || f i)) (λ i. isP i && f i) (λ i b. rw (ne_eqb i j (omega arith))) in
+        let r = count_same n (λ i. is_p i && (eqb i j || f i)) (λ i. is_p i && f i) (λ i b. rw (ne_eqb i j (omega arith))) in
         rw (r, eq-eqb n j q, q, e, and-true, and-false) (omega arith)
 
 -- ---- Tests that are closed downward among the numbers of one kind
 
 -- Where a number of the kind passes, every smaller number of the kind passes.
 abbrev pub Closed : ℕ → (ℕ → Bool) → (ℕ → Bool) → Type 0
-Closed n isP f = (i k : ℕ) → i < k → k < n → isP i ≡ true → isP k ≡ true → f k ≡ true → f i ≡ true
+Closed n is_p f = (i k : ℕ) → i < k → k < n → is_p i ≡ true → is_p k ≡ true → f k ≡ true → f i ≡ true
 
 -- Where number n passes a closed test, no other test has a larger count below n.
-closed-most : (n : ℕ) (isP f g : ℕ → Bool) → Closed (suc n) isP f → isP n ≡ true → f n ≡ true →
-    count_below n (λ i. isP i && g i) ≤ count_below n (λ i. isP i && f i)
-closed-most n isP f g c p t = count_less n _ _ (λ i l e. let a = and_out (isP i) (g i) e in rw a.0 (c i n l (omega arith) a.0 p t))
+closed-most : (n : ℕ) (is_p f g : ℕ → Bool) → Closed (suc n) is_p f → is_p n ≡ true → f n ≡ true →
+    count_below n (λ i. is_p i && g i) ≤ count_below n (λ i. is_p i && f i)
+closed-most n is_p f g c p t = count_less n _ _ (λ i l e. let a = and_out (is_p i) (g i) e in rw a.0 (c i n l (omega arith) a.0 p t))
 
 -- The count of a union of two closed tests is the larger of their counts.
-pub count-union : (n : ℕ) (isP f g : ℕ → Bool) → Closed n isP f → Closed n isP g →
-    count_below n (λ i. isP i && (f i || g i)) ≡ max (count_below n (λ i. isP i && f i)) (count_below n (λ i. isP i && g i))
+pub count-union : (n : ℕ) (is_p f g : ℕ → Bool) → Closed n is_p f → Closed n is_p g →
+    count_below n (λ i. is_p i && (f i || g i)) ≡ max (count_below n (λ i. is_p i && f i)) (count_below n (λ i. is_p i && g i))
 unfolding count_below
-count-union zero isP f g c d = omega arith
-count-union (suc n) isP f g c d =
-    go (isP n) (f n) (g n) refl refl refl
-    (count-union n isP f g (λ i k l b. c i k l (omega arith)) (λ i k l b. d i k l (omega arith)))
+count-union zero is_p f g c d = omega arith
+count-union (suc n) is_p f g c d =
+    go (is_p n) (f n) (g n) refl refl refl
+    (count-union n is_p f g (λ i k l b. c i k l (omega arith)) (λ i k l b. d i k l (omega arith)))
   where
     F : ℕ
-    F = count_below n (λ i. isP i && f i)
+    F = count_below n (λ i. is_p i && f i)
 
     G : ℕ
-    G = count_below n (λ i. isP i && g i)
+    G = count_below n (λ i. is_p i && g i)
 
-    go : (x y z : Bool) → isP n ≡ x → f n ≡ y → g n ≡ z → count_below n (λ i. isP i && (f i || g i)) ≡ max F G →
-        count_below n (λ i. isP i && (f i || g i)) + cond (x && (y || z)) 1 0 ≡ max (F + cond (x && y) 1 0) (G + cond (x && z) 1 0)
+    go : (x y z : Bool) → is_p n ≡ x → f n ≡ y → g n ≡ z → count_below n (λ i. is_p i && (f i || g i)) ≡ max F G →
+        count_below n (λ i. is_p i && (f i || g i)) + cond (x && (y || z)) 1 0 ≡ max (F + cond (x && y) 1 0) (G + cond (x && z) 1 0)
     go false y z p t u h = omega arith
     go true true true p t u h = omega arith
-    go true true false p t u h = let m = closed-most n isP f g c p t in omega arith
-    go true false true p t u h = let m = closed-most n isP g f d p u in omega arith
+    go true true false p t u h = let m = closed-most n is_p f g c p t in omega arith
+    go true false true p t u h = let m = closed-most n is_p g f d p u in omega arith
     go true false false p t u h = omega arith
 
 -- Where a number of the kind passes a closed test, so does every number of the kind up to that one.
-closed_at : (n : ℕ) (isP f : ℕ → Bool) → Closed n isP f → (i k : ℕ) → i ≤ k → k < n → isP i ≡ true → isP k ≡ true → f k ≡ true → f i ≡ true
-closed_at n isP f c i k l h p q e = go (dec_lt i k)
+closed_at : (n : ℕ) (is_p f : ℕ → Bool) → Closed n is_p f → (i k : ℕ) → i ≤ k → k < n → is_p i ≡ true → is_p k ≡ true → f k ≡ true → f i ≡ true
+closed_at n is_p f c i k l h p q e = go (dec_lt i k)
   where
     go : Dec (i < k) → f i ≡ true
     go (yes b) = c i k b h p q e
     go (no b) = let s : i ≡ k = omega arith in ap f s ∙ e
 
 -- A number k of the kind passes exactly when there are at least as many that pass as there are of the kind up to k.
-pub closed-place : (n k : ℕ) (isP f : ℕ → Bool) → Closed n isP f → k < n → isP k ≡ true →
-    (f k ≡ true) ↔ (count_below (suc k) isP ≤ count_below n (λ i. isP i && f i))
+pub closed-place : (n k : ℕ) (is_p f : ℕ → Bool) → Closed n is_p f → k < n → is_p k ≡ true →
+    (f k ≡ true) ↔ (count_below (suc k) is_p ≤ count_below n (λ i. is_p i && f i))
 unfolding count_below
-closed-place n k isP f c h p = (there, λ m. back (f k) refl m)
+closed-place n k is_p f c h p = (there, λ m. back (f k) refl m)
   where
-    there : f k ≡ true → count_below (suc k) isP ≤ count_below n (λ i. isP i && f i)
+    there : f k ≡ true → count_below (suc k) is_p ≤ count_below n (λ i. is_p i && f i)
     there e =
-        let a = count_less (suc k) isP (λ i. isP i && f i) (λ i l q. rw q (closed_at n isP f c i k (omega arith) h q p e)) in
-        let b = count-up (suc k) n (λ i. isP i && f i) h in
+        let a = count_less (suc k) is_p (λ i. is_p i && f i) (λ i l q. rw q (closed_at n is_p f c i k (omega arith) h q p e)) in
+        let b = count-up (suc k) n (λ i. is_p i && f i) h in
         omega arith
 
-    out : f k ≡ false → (i : ℕ) → k ≤ i → i < n → isP i && f i ≡ false
+    out : f k ≡ false → (i : ℕ) → k ≤ i → i < n → is_p i && f i ≡ false
     out e i l b =
-        not_passed (isP i && f i)
-        (λ q. let r = and_out (isP i) (f i) q in false≢true (sym e ∙ closed_at n isP f c k i l b p r.0 r.1))
+        not_passed (is_p i && f i)
+        (λ q. let r = and_out (is_p i) (f i) q in false≢true (sym e ∙ closed_at n is_p f c k i l b p r.0 r.1))
 
-    back : (b : Bool) → f k ≡ b → count_below k isP + cond (isP k) 1 0 ≤ count_below n (λ i. isP i && f i) → b ≡ true
+    back : (b : Bool) → f k ≡ b → count_below k is_p + cond (is_p k) 1 0 ≤ count_below n (λ i. is_p i && f i) → b ≡ true
     back true e m = refl
     back false e m =
-        let a = count_cut k n (λ i. isP i && f i) (omega arith) (out e) in
-        let b = count_less k (λ i. isP i && f i) isP (λ i l q. (and_out (isP i) (f i) q).0) in
+        let a = count_cut k n (λ i. is_p i && f i) (omega arith) (out e) in
+        let b = count_less k (λ i. is_p i && f i) is_p (λ i l q. (and_out (is_p i) (f i) q).0) in
         let m' = rw p at m in
         absurd (omega arith)

@@ -158,8 +158,8 @@ module _ (f : Filled) where
       ∙ (λ i. outcome (known_in k i) ((filled_in k ∙ f.filled) i) ((ranged_in ∙ e) i) (end_in_range (row_of fields)) fields)
 
   -- what the numbers were read as
-  abbrev pub numbersRead : ReadRow
-  numbersRead = read_numbers f.of.kind used f.of.limit fields
+  abbrev pub numbers_read : ReadRow
+  numbers_read = read_numbers f.of.kind used f.of.limit fields
 
   -- the numbers' row is the record's
   row_is : row_using f.of.kind used fields ≡ row_of fields
@@ -179,7 +179,7 @@ module _ (f : Filled) where
       }
 
   -- 10 is answered No
-  pub no_number : {r : ReadRow} {k : ℕ} → r ≡ numbersRead → r ≡ No k → No k ≡ answer f.of
+  pub no_number : {r : ReadRow} {k : ℕ} → r ≡ numbers_read → r ≡ No k → No k ≡ answer f.of
   unfolding read_numbers
   no_number {k} e g = go (ranged_as used f.of.limit fields) refl (sym e ∙ g)
     where
@@ -188,7 +188,7 @@ module _ (f : Filled) where
       go false q h = sym h ∙ sym (judged-filled q)
 
   -- 10 is answered Yes, and this is the row
-  numbered : {r : ReadRow} {row : Row} → r ≡ numbersRead → r ≡ Kept row → (ranged_as used f.of.limit fields ≡ true) × (row ≡ row_of fields)
+  numbered : {r : ReadRow} {row : Row} → r ≡ numbers_read → r ≡ Kept row → (ranged_as used f.of.limit fields ≡ true) × (row ≡ row_of fields)
   unfolding read_numbers
   numbered {row} e g = go (ranged_as used f.of.limit fields) refl (sym e ∙ g)
     where
@@ -197,7 +197,7 @@ module _ (f : Filled) where
       go true q h = let z : row_using f.of.kind used fields ≡ row = cc in (q, sym z ∙ row_is)
       go false q h = absurd (kept-no (sym h))
 
-  module _ {r : ReadRow} {row : Row} (e : r ≡ numbersRead) (g : r ≡ Kept row) where
+  module _ {r : ReadRow} {row : Row} (e : r ≡ numbers_read) (g : r ≡ Kept row) where
     -- 8 to 10 are answered Yes
     judged-numbered : answer f.of ≡ outcome true true true (end_in_range row) fields
     judged-numbered =

@@ -1,6 +1,6 @@
 -- `extents::publish` meets its contract.
 use Rattle.extents.proofs.Doubles.{publish_unlawful}
-use Rattle.extents.specs.Entries.{publishedMaps}
+use Rattle.extents.specs.Entries.{published_maps}
 use Rattle.extents.proofs.Entering.{refused}
 use Rattle.extents.specs.declared.Answer.TheVariants.{Done}
 use mathlib.Core.Path.{sym, ◌∙◌}
@@ -13,7 +13,7 @@ two_maps-requires c = tt
 pub returns-then-not-two_maps : goal.returns-then-not-two_maps
 returns-then-not-two_maps c =
     let a = c.args in
-    refused 13 Done (publishedMaps a.space a.view a.below a.maps.now) a.maps.now (publish_unlawful a.space a.view a.below
+    refused 13 Done (published_maps a.space a.view a.below a.maps.now) a.maps.now (publish_unlawful a.space a.view a.below
     a.maps.now (sym c.two_maps.ensures ∙ c.if-not-two_maps.true)) (omega arith)
 
 pub publish-requires : goal.publish-requires

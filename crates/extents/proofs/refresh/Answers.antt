@@ -1,6 +1,6 @@
 -- `extents::refresh` meets its contract.
 use Rattle.extents.proofs.Doubles.{refresh_unlawful}
-use Rattle.extents.specs.Entries.{refreshedMaps}
+use Rattle.extents.specs.Entries.{refreshed_maps}
 use Rattle.extents.proofs.Entering.{refused}
 use Rattle.extents.specs.declared.Answer.TheVariants.{Done}
 use mathlib.Core.Path.{sym, ◌∙◌}
@@ -13,7 +13,7 @@ two_maps-requires c = tt
 pub returns-then-not-two_maps : goal.returns-then-not-two_maps
 returns-then-not-two_maps c =
     let a = c.args in
-    refused 13 Done (refreshedMaps a.space a.view a.below a.maps.now) a.maps.now (refresh_unlawful a.space a.view a.below
+    refused 13 Done (refreshed_maps a.space a.view a.below a.maps.now) a.maps.now (refresh_unlawful a.space a.view a.below
     a.maps.now (sym c.two_maps.ensures ∙ c.if-not-two_maps.true)) (omega arith)
 
 pub refresh-requires : goal.refresh-requires

@@ -1,6 +1,6 @@
 -- `extents::sync` meets its contract.
 use Rattle.extents.proofs.Doubles.{sync_unlawful}
-use Rattle.extents.specs.Entries.{syncedMaps}
+use Rattle.extents.specs.Entries.{synced_maps}
 use Rattle.extents.proofs.Entering.{refused}
 use Rattle.extents.specs.declared.Answer.TheVariants.{Done}
 use mathlib.Core.Path.{sym, ◌∙◌}
@@ -13,7 +13,7 @@ two_maps-requires c = tt
 pub returns-then-not-two_maps : goal.returns-then-not-two_maps
 returns-then-not-two_maps c =
     let a = c.args in
-    refused 13 Done (syncedMaps a.space a.view a.below a.maps.now) a.maps.now (sync_unlawful a.space a.view a.below a.maps.now (sym c.two_maps.ensures ∙ c.if-not-two_maps.true)) (omega arith)
+    refused 13 Done (synced_maps a.space a.view a.below a.maps.now) a.maps.now (sync_unlawful a.space a.view a.below a.maps.now (sym c.two_maps.ensures ∙ c.if-not-two_maps.true)) (omega arith)
 
 pub sync-requires : goal.sync-requires
 sync-requires c = sym c.two_maps.ensures ∙ c.if-not-two_maps.false

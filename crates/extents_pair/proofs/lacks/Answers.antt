@@ -6,7 +6,7 @@ use lib.Dec.{ltb}
 use Rattle.extents_meaning.specs.Cells.{refreshed}
 use Rattle.extents_meaning.specs.Runs.{pieces_of}
 use Rattle.extents_map.specs.Mixes.{mixed}
-use Rattle.extents_pair.specs.InPairs.{viewIn, belowIn}
+use Rattle.extents_pair.specs.InPairs.{view_in, below_in}
 use Rattle.extents_pair.proofs.Rooms.{room-enough}
 use Rattle.extents_pair.proofs.lacks.Goals as goal
 
@@ -17,7 +17,7 @@ pub returns-then-most_runs-room : goal.returns-then-most_runs-room
 unfolding mixed
 returns-then-most_runs-room c =
     let a = c.args in
-    room-enough (refreshed (viewIn a.pair a.maps.now) (belowIn a.pair a.maps.now)) a.from (a.to - a.from) a.room
+    room-enough (refreshed (view_in a.pair a.maps.now) (below_in a.pair a.maps.now)) a.from (a.to - a.from) a.room
     (omega (arith, c.requires.from_le_to.0, c.ranges.to)) (c.most_runs.ensures 0 0 0) (omega (arith, c.if-most_runs-room.true))
 
 pub count-requires : goal.count-requires

@@ -5,7 +5,7 @@ use mathlib.Core.Path.{ap, ◌∙◌}
 use Rattle.extents_meaning.specs.Cells.{overwrite}
 use Rattle.extents_meaning.specs.Maps.{bytes_of, lawful}
 use Rattle.extents_pair.proofs.Parts.{laid-fit}
-use Rattle.extents_pair.proofs.Pairing.{lentMap, map_lent, map_space, made-home}
+use Rattle.extents_pair.proofs.Pairing.{lent_map, map_lent, map_space, made-home}
 use Rattle.extents_pair.proofs.lay.Goals as goal
 
 pub lay-requires : goal.lay-requires
@@ -20,6 +20,6 @@ returns c =
     let xs = a.maps.now in
     let r = c.lay.ensures in
     let f = overwrite a.start (a.end - a.start) a.cell in
-    let m = lentMap a.space a.k xs in
+    let m = lent_map a.space a.k xs in
     made-home a.space a.k xs c.requires.space_in_bounds f
     (laid-fit m (f (bytes_of m)) (rw (map_lent a.space a.k xs) (omega (arith, c.requires.maps_len_bound, map_space a.space a.k xs c.requires.space_in_bounds))) r.value r.map_after)

@@ -7,7 +7,7 @@ use native.Mathlib.Numerals.{add-one}
 use Rattle.happens_before.specs.Clock.{with_counts, filled_row}
 use Rattle.rows.proofs.Products.{block_before}
 use native.Mathlib.Omega.{arith}
-use Rattle.happens_before.proofs.Filling.{filledTo, none_filled, all-filled, row-filled, row-empty, cells-small}
+use Rattle.happens_before.proofs.Filling.{filled_to, none_filled, all-filled, row-filled, row-empty, cells-small}
 use Rattle.happens_before.proofs.Tables.{tables_none}
 use Rattle.happens_before.proofs.Asking.{asked, left-filled, left-kept}
 use Rattle.happens_before.proofs.fill_counts.Goals as goal
@@ -81,7 +81,7 @@ loop-j-preserved c =
             c.fill_row.ensures ∙ ap (λ (x : List ℕ). with_counts a.process_limit x l.j
             (filled_row a.process_limit a.rows.now x l.j)) l.invariant.2.filled
             ∙ row-filled a.n a.process_limit s a.rows.now l.j h room
-            ∙ ap (filledTo a.n a.process_limit s a.rows.now) (sym (add-one l.j));
+            ∙ ap (filled_to a.n a.process_limit s a.rows.now) (sym (add-one l.j));
         tables = c.note_row.ensures;
       },
     )
@@ -96,5 +96,5 @@ returns c =
     let size = c.clear_counts.auto.counts in
     let end : l.j ≡ a.n = omega (arith, l.invariant.2.low, c.loop-j-test.false) in
     left-filled a.n a.process_limit a.rows.now a.counts.now (sym c.ask_rows-no.ensures ∙ c.if-no-ne0.false)
-    (l.invariant.2.filled ∙ (λ i. filledTo a.n a.process_limit (size i) a.rows.now (end i))
+    (l.invariant.2.filled ∙ (λ i. filled_to a.n a.process_limit (size i) a.rows.now (end i))
     ∙ all-filled a.n a.process_limit (length a.counts.now) a.rows.now) in record { answer = both.0; left = both.1 }

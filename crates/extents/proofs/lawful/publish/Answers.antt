@@ -1,6 +1,6 @@
 -- `extents::lawful::publish` meets its contract.
 use Rattle.extents.proofs.Doubles.{publish-enough, publish-short, publish-full, share-fits, publish-done}
-use Rattle.extents.specs.Entries.{publishedMaps}
+use Rattle.extents.specs.Entries.{published_maps}
 use Rattle.extents.proofs.Entering.{refused}
 use Rattle.extents.specs.declared.Answer.TheVariants.{Done}
 use mathlib.Core.Path.{refl}
@@ -22,7 +22,7 @@ fits-requires c = record { maps_value = c.requires; mode_value = (refl, omega ar
 pub returns-then-not-fits : goal.returns-then-not-fits
 returns-then-not-fits c =
     let a = c.args in
-    refused 16 Done (publishedMaps a.space a.view a.below a.maps.now) a.maps.now (publish-full a.space a.view a.below
+    refused 16 Done (published_maps a.space a.view a.below a.maps.now) a.maps.now (publish-full a.space a.view a.below
     a.maps.now c.requires (publish-short
     a.space a.view a.below a.maps.now c.fits.ensures (ap not c.if-not-fits.true))) (omega arith)
 

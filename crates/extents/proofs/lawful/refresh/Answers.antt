@@ -1,6 +1,6 @@
 -- `extents::lawful::refresh` meets its contract.
 use Rattle.extents.proofs.Doubles.{refresh-enough, refresh-short, refresh-full, refresh-done}
-use Rattle.extents.specs.Entries.{refreshedMaps}
+use Rattle.extents.specs.Entries.{refreshed_maps}
 use Rattle.extents.proofs.Entering.{refused}
 use Rattle.extents.specs.declared.Answer.TheVariants.{Done}
 use mathlib.Core.Path.{refl}
@@ -22,7 +22,7 @@ fits-requires c = record { maps_value = c.requires; mode_value = (refl, omega ar
 pub returns-then-not-fits : goal.returns-then-not-fits
 returns-then-not-fits c =
     let a = c.args in
-    refused 16 Done (refreshedMaps a.space a.view a.below a.maps.now) a.maps.now (refresh-full a.space a.view a.below
+    refused 16 Done (refreshed_maps a.space a.view a.below a.maps.now) a.maps.now (refresh-full a.space a.view a.below
     a.maps.now c.requires (refresh-short
     a.space a.view a.below a.maps.now c.fits.ensures (ap not c.if-not-fits.true))) (omega arith)
 

@@ -1,7 +1,7 @@
 -- `extents::lawful::sync` meets its contract.
 use Rattle.extents.proofs.Doubles.{publish-enough, publish-short, sync-full, share-fits, sync-done}
 use Rattle.extents_refresh.proofs.Viewing.{copy_ready}
-use Rattle.extents.specs.Entries.{syncedMaps}
+use Rattle.extents.specs.Entries.{synced_maps}
 use Rattle.extents.proofs.Entering.{refused}
 use Rattle.extents.specs.declared.Answer.TheVariants.{Done}
 use mathlib.Core.Path.{refl}
@@ -23,7 +23,7 @@ fits-requires c = record { maps_value = c.requires; mode_value = (refl, omega ar
 pub returns-then-not-fits : goal.returns-then-not-fits
 returns-then-not-fits c =
     let a = c.args in
-    refused 16 Done (syncedMaps a.space a.view a.below a.maps.now) a.maps.now (sync-full a.space a.view a.below a.maps.now c.requires (publish-short
+    refused 16 Done (synced_maps a.space a.view a.below a.maps.now) a.maps.now (sync-full a.space a.view a.below a.maps.now c.requires (publish-short
     a.space a.view a.below a.maps.now c.fits.ensures (ap not c.if-not-fits.true))) (omega arith)
 
 pub share-requires : goal.share-requires

@@ -1,7 +1,7 @@
 -- `extents::lawful::write_through` meets its contract.
 use Rattle.extents.proofs.Doubles.{view-in-as-published, view-law-as-published, write-through-lay, write-through-done, write-through-empty, write-through-enough, write-through-short, mark-published-enough, mark-published-short, cell-zero, write-through-low, write-through-high, write-through-past, write-through-full, write-through-view-full, write-through-share}
 use Rattle.extents.proofs.Entering.{cell-fine, refused}
-use Rattle.extents.specs.Entries.{writtenThroughMaps}
+use Rattle.extents.specs.Entries.{written_through_maps}
 use mathlib.Core.Bool.{false}
 use Rattle.extents.specs.declared.Answer.TheVariants.{Done}
 use mathlib.Core.Path.{refl}
@@ -14,21 +14,21 @@ use Rattle.extents.proofs.lawful.write_through.Goals as goal
 pub returns-then-number-lt1 : goal.returns-then-number-lt1
 returns-then-number-lt1 c =
     let a = c.args in
-    refused 14 Done (writtenThroughMaps a.space a.view a.below a.maps.now a.start a.length a.number) a.maps.now (write-through-low
+    refused 14 Done (written_through_maps a.space a.view a.below a.maps.now a.start a.length a.number) a.maps.now (write-through-low
     a.space a.view a.below a.maps.now a.start a.length a.number (omega arith) (omega arith) c.requires c.if-number-lt1.true) (omega
     arith)
 
 pub returns-then-number-gt-ROWS : goal.returns-then-number-gt-ROWS
 returns-then-number-gt-ROWS c =
     let a = c.args in
-    refused 14 Done (writtenThroughMaps a.space a.view a.below a.maps.now a.start a.length a.number) a.maps.now (write-through-high
+    refused 14 Done (written_through_maps a.space a.view a.below a.maps.now a.start a.length a.number) a.maps.now (write-through-high
     a.space a.view a.below a.maps.now a.start a.length a.number (omega arith) (omega arith) c.requires c.if-number-gt-ROWS.true) (omega
     arith)
 
 pub returns-then-start-length : goal.returns-then-start-length
 returns-then-start-length c =
     let a = c.args in
-    refused 11 Done (writtenThroughMaps a.space a.view a.below a.maps.now a.start a.length a.number) a.maps.now (write-through-past
+    refused 11 Done (written_through_maps a.space a.view a.below a.maps.now a.start a.length a.number) a.maps.now (write-through-past
     a.space a.view a.below a.maps.now a.start a.length a.number (omega arith) (omega arith) c.requires (omega (
       arith,
       c.if-number-lt1.false,
@@ -53,7 +53,7 @@ fits-requires c = record { maps_value = c.requires; mode_value = (refl, omega ar
 pub returns-then-not-fits : goal.returns-then-not-fits
 returns-then-not-fits c =
     let a = c.args in
-    refused 16 Done (writtenThroughMaps a.space a.view a.below a.maps.now a.start a.length a.number) a.maps.now (write-through-full
+    refused 16 Done (written_through_maps a.space a.view a.below a.maps.now a.start a.length a.number) a.maps.now (write-through-full
     a.space a.view a.below a.maps.now a.start a.length a.number (omega arith) (omega arith) c.requires (omega (
       arith,
       c.if-number-lt1.false,
@@ -67,7 +67,7 @@ fits-requires-2 c = record { maps_value = c.requires; mode_value = (refl, omega 
 pub returns-then-not-fits-2 : goal.returns-then-not-fits-2
 returns-then-not-fits-2 c =
     let a = c.args in
-    refused 16 Done (writtenThroughMaps a.space a.view a.below a.maps.now a.start a.length a.number) a.maps.now (write-through-view-full
+    refused 16 Done (written_through_maps a.space a.view a.below a.maps.now a.start a.length a.number) a.maps.now (write-through-view-full
     a.space a.view a.below a.maps.now a.start a.length a.number (omega arith) (omega arith) c.requires (omega (
       arith,
       c.if-number-lt1.false,
