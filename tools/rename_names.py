@@ -25,14 +25,14 @@ INNER = re.compile(r"^\s+(?:pub )?(" + ID + r") :\s")
 # Names that the rules alone would make unreadable, or that would hide a word beside them: a field that says what a call leaves, or that numbers fit.
 # The lemmas among them would have the name of a definition of a module block.
 CHOSEN = {
-    "below_in": "below_in_lem",
+    "below_in": "below_within",
     "best-chain": "best_chain_lem",
     "inOrder": "is_in_order",
     "map_first": "map_first_lem",
     "publish-at": "publish_at_lem",
     "put_last": "put_last_lem",
     "refresh-at": "refresh_at_lem",
-    "view_in": "view_in_lem",
+    "view_in": "view_within",
     "rows_left": "rows_after",
     "counts-left": "counts_after",
     "list_left": "list_after",

@@ -1,4 +1,6 @@
 // The whole call on the text of a trace, the list of its races, and the report that the program `verdict` prints of a trace.
+#![tactic(auto)]
+
 ghost use Rattle.std.specs.Prelude.{◌+◌, ◌≤◌, ◌<◌, ◌≡◌, length, take};
 ghost use Rattle.rows.specs.Rows.{rows_in};
 ghost use Rattle.trace.specs.Questions.{check_trace, accepted};

@@ -84,13 +84,13 @@ module _ (space view below : ℕ) (xs : List ℕ) where
     view-fits =
         let m = lawful-map (map_at space view xs) told.view-law in
         let e : length (runs_of own) ≡ length (runs (map_at space view xs)) = ap (λ (l : List Run). length l) (runs-back (runs (map_at space view xs)) m.lawful-runs) in
-        omega (arith, e, m.fit, map_space space view xs told.view_in)
+        omega (arith, e, m.fit, map_space space view xs told.view_within)
 
     below-fits : length (runs_of base) ≤ space
     below-fits =
         let m = lawful-map (map_at space below xs) told.below-law in
         let e : length (runs_of base) ≡ length (runs (map_at space below xs)) = ap (λ (l : List Run). length l) (runs-back (runs (map_at space below xs)) m.lawful-runs) in
-        omega (arith, e, m.fit, map_space space below xs told.below_in)
+        omega (arith, e, m.fit, map_space space below xs told.below_within)
 
     -- marked published, a view fits too
     pub as-published-fits : length (runs_of (as_published own)) ≤ space
@@ -98,15 +98,15 @@ module _ (space view below : ℕ) (xs : List ℕ) where
 
     -- the published map is what its bytes write
     pub below-whole : map_for space base ≡ map_at space below xs
-    below-whole = map_whole space below xs told.below_in told.below-law
+    below-whole = map_whole space below xs told.below_within told.below-law
 
     -- maps put at both places, the view's last
     pub both-last : (v w : Bytes) → length (runs_of v) ≤ space → length (runs_of w) ≤ space →
         with_map space view (map_for space v) (with_map space below (map_for space w) xs) ≡ both_maps space view below xs v w
     unfolding both_maps
     both-last v w a b =
-        with_comm space view below (map_for space v) (map_for space w) xs apart (length-map space (runs_of v) a) (length-map space (runs_of w) b) told.view_in
-        told.below_in
+        with_comm space view below (map_for space v) (map_for space w) xs apart (length-map space (runs_of v) a) (length-map space (runs_of w) b) told.view_within
+        told.below_within
 
     -- maps put at the view's place alone
     pub view-alone : (v : Bytes) → length (runs_of v) ≤ space → with_map space view (map_for space v) xs ≡ both_maps space view below xs v base
@@ -114,8 +114,8 @@ module _ (space view below : ℕ) (xs : List ℕ) where
     view-alone v a =
         let ys = with_map space view (map_for space v) xs in
         let size = length-map space (runs_of v) a in
-        let there : map_at space below ys ≡ map_for space base = at_other space view (map_for space v) xs size told.view_in below (λ q. apart (sym q)) ∙ sym below-whole in
-        sym (with_same space below ys (omega (arith, told.below_in, with_length space view (map_for space v) xs size told.view_in)))
+        let there : map_at space below ys ≡ map_for space base = at_other space view (map_for space v) xs size told.view_within below (λ q. apart (sym q)) ∙ sym below-whole in
+        sym (with_same space below ys (omega (arith, told.below_within, with_length space view (map_for space v) xs size told.view_within)))
         ∙ ap (λ (m : List ℕ). with_map space below m ys) there
 
     -- where the other map was put, the view's map is as it was
@@ -124,13 +124,13 @@ module _ (space view below : ℕ) (xs : List ℕ) where
       shared = with_map space below (map_for space w) xs
 
       pub shared-length : length shared ≡ length xs
-      shared-length = with_length space below (map_for space w) xs (length-map space (runs_of w) b) told.below_in
+      shared-length = with_length space below (map_for space w) xs (length-map space (runs_of w) b) told.below_within
 
       pub shared_view : map_at space view shared ≡ map_at space view xs
-      shared_view = at_other space below (map_for space w) xs (length-map space (runs_of w) b) told.below_in view apart
+      shared_view = at_other space below (map_for space w) xs (length-map space (runs_of w) b) told.below_within view apart
 
       pub shared-below : map_at space below shared ≡ map_for space w
-      shared-below = at_same space below (map_for space w) xs (length-map space (runs_of w) b) told.below_in
+      shared-below = at_same space below (map_for space w) xs (length-map space (runs_of w) b) told.below_within
 
   -- ---- Publishing
 
@@ -267,15 +267,15 @@ module _ (space view below : ℕ) (xs : List ℕ) where
         view-in-fresh =
             omega (
               arith,
-              (told two).view_in,
+              (told two).view_within,
               ap length y,
-              with_length space view (map_for space (refreshed own base)) xs (length-map space (runs_of (refreshed own base)) fit) (told two).view_in,
+              with_length space view (map_for space (refreshed own base)) xs (length-map space (runs_of (refreshed own base)) fit) (told two).view_within,
             )
 
         view-fresh : map_at space view ys ≡ map_for space (refreshed own base)
         view-fresh =
             ap (map_at space view) y
-            ∙ at_same space view (map_for space (refreshed own base)) xs (length-map space (runs_of (refreshed own base)) fit) (told two).view_in
+            ∙ at_same space view (map_for space (refreshed own base)) xs (length-map space (runs_of (refreshed own base)) fit) (told two).view_within
 
         fresh-lawful : Lawful (runs_of (refreshed own base))
         fresh-lawful = runs-lawful (refreshed own base) (λ b l. go b (unpublished (own b)))
@@ -487,7 +487,7 @@ module _ (space view below : ℕ) (xs : List ℕ) where
                   own-size = length-map space (runs_of (as_published own)) (as-published-fits two)
 
                   view-in-shared : (view + 1) * (4 * space) ≤ length (shared two (published wrote base) fit)
-                  view-in-shared = omega (arith, (told two).view_in, shared-length two (published wrote base) fit)
+                  view-in-shared = omega (arith, (told two).view_within, shared-length two (published wrote base) fit)
 
                   -- nothing to lay: the range is empty
                   pub write-through-empty : start + n ≤ start → WriteThroughEntry space view below xs start n number Done zs

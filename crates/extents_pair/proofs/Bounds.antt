@@ -145,4 +145,4 @@ pub marked-room : (space view below : ℕ) (xs : List ℕ) → two_maps space vi
     k ≡ length (marked (runs (map_at space view xs))) → k ≤ space
 marked-room space view below xs two e =
     let t = two-told space view below xs two in
-    omega (arith, e, marked-fewer (runs (map_at space view xs)), map-few space view xs t.view_in t.view-law)
+    omega (arith, e, marked-fewer (runs (map_at space view xs)), map-few space view xs t.view_within t.view-law)

@@ -41,8 +41,8 @@ room-count space k n h =
 
 -- Two maps stand inside a slice, and both are lawful.
 pub record Told (space view below : ℕ) (xs : List ℕ) : Type 0 where
-  pub view_in_lem : (view + 1) * (4 * space) ≤ length xs
-  pub below_in_lem : (below + 1) * (4 * space) ≤ length xs
+  pub view_within : (view + 1) * (4 * space) ≤ length xs
+  pub below_within : (below + 1) * (4 * space) ≤ length xs
   pub view-law : lawful (map_at space view xs) ≡ true
   pub below-law : lawful (map_at space below xs) ≡ true
 
@@ -55,8 +55,8 @@ module _ (space view below : ℕ) (xs : List ℕ) where
       let e3 = and_out (leb ((below + 1) * (4 * space)) (length xs)) _ e2.1 in
       let e4 = and_out (lawful (map_at space view xs)) _ e3.1 in
       record {
-        view_in_lem = leb-true ((view + 1) * (4 * space)) (length xs) e2.0;
-        below_in_lem = leb-true ((below + 1) * (4 * space)) (length xs) e3.0;
+        view_within = leb-true ((view + 1) * (4 * space)) (length xs) e2.0;
+        below_within = leb-true ((below + 1) * (4 * space)) (length xs) e3.0;
         view-law = e4.0;
         below-law = (and_out (lawful (map_at space below xs)) _ e4.1).0;
       }

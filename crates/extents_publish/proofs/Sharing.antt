@@ -110,8 +110,8 @@ module _ {pair : Pair} {start end number : ℕ} {xs : List ℕ} (s : Shared pair
   decides ys n e =
       let t = two-told pair.space pair.view pair.below xs s.two in
       last-law pair.space pair.view pair.below ys (two-apart pair.space pair.view pair.below xs s.two)
-      (le-leb ((pair.view + 1) * size) (length ys) (omega (arith, t.view_in, n)))
-      (le-leb ((pair.below + 1) * size) (length ys) (omega (arith, t.below_in, n))) (ap lawful e ∙ t.view-law)
+      (le-leb ((pair.view + 1) * size) (length ys) (omega (arith, t.view_within, n)))
+      (le-leb ((pair.below + 1) * size) (length ys) (omega (arith, t.below_within, n))) (ap lawful e ∙ t.view-law)
 
   -- The view is as it was.
   view-kept : {P : ℕ → ℕ → Type 0} {ys : List ℕ} → Below size w P xs ys → map_at pair.space pair.view ys ≡ map_at pair.space pair.view xs

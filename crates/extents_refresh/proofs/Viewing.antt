@@ -33,7 +33,7 @@ module _ (space view below : ℕ) (xs : List ℕ) (two : two_maps space view bel
   pub copy_ready : CopyReady space below view xs
   copy_ready =
       let t = two-told space view below xs two in
-      ((t.below_in, t.view_in, λ q. two-apart space view below xs two (sym q)), (t.below-law, t.view-law))
+      ((t.below_within, t.view_within, λ q. two-apart space view below xs two (sym q)), (t.below-law, t.view-law))
 
   -- The slice with the copy is what a refresh leaves.
   pub view-copied : {own : ℕ} → own ≡ length (marked (runs (map_at space view xs))) → own ≡ 0 → {zs : List ℕ} →
@@ -44,7 +44,7 @@ module _ (space view below : ℕ) (xs : List ℕ) (two : two_maps space view bel
       let law = (lawful-map (map_at space view xs) u.view-law).lawful-runs in
       let same : runs_of (refreshed (view_of space view below xs) (below_of space view below xs)) ≡ runs_of (below_of space view below xs) =
       runs_same _ _ (λ b _. refreshed-none (runs (map_at space view xs)) law (sym e ∙ z) (below_of space view below xs) b) in
-      q ∙ ap (λ (m : List ℕ). with_map space view m xs) (sym (ap (map_of space) same ∙ map_whole space below xs u.below_in u.below-law))
+      q ∙ ap (λ (m : List ℕ). with_map space view m xs) (sym (ap (map_of space) same ∙ map_whole space below xs u.below_within u.below-law))
 
 -- ---- A view marked published
 
@@ -70,28 +70,28 @@ module _ {space view below : ℕ} {xs : List ℕ} {left : ℕ} {end : List ℕ} 
   ys_is = home (view * (4 * space)) (4 * space) xs end
 
   end-size : length end ≡ 4 * space
-  end-size = k.marks.same ∙ ap length (map_lent space view xs) ∙ map_length space view xs told.view_in
+  end-size = k.marks.same ∙ ap length (map_lent space view xs) ∙ map_length space view xs told.view_within
 
   -- the slice is as long as it was, and has the cleared view
   pub cleared-length : length ys ≡ length xs
-  cleared-length = ap length ys_is ∙ with_length space view end xs end-size told.view_in
+  cleared-length = ap length ys_is ∙ with_length space view end xs end-size told.view_within
 
   view-is : map_at space view ys ≡ end
-  view-is = ap (map_at space view) ys_is ∙ at_same space view end xs end-size told.view_in
+  view-is = ap (map_at space view) ys_is ∙ at_same space view end xs end-size told.view_within
 
   -- no mark is left
   pub cleared-end : left ≡ 0 → ys ≡ with_map space view (map_for space (as_published (view_of space view below xs))) xs
-  cleared-end z = made-home space view xs told.view_in as_published (cleared-all k.marks z)
+  cleared-end z = made-home space view xs told.view_within as_published (cleared-all k.marks z)
 
   -- Both maps are lawful still.
   pub cleared-two : two_maps space view below ys ≡ true
   cleared-two =
       let apart = two-apart space view below xs k.two in
       let room : (n : ℕ) → n ≤ length xs → leb n (length ys) ≡ true = λ n h. le-leb n (length ys) (omega (arith, cleared-length)) in
-      sym (last-law space view below ys apart (room _ told.view_in) (room _ told.below_in) (ap lawful view-is ∙ k.marks.law))
+      sym (last-law space view below ys apart (room _ told.view_within) (room _ told.below_within) (ap lawful view-is ∙ k.marks.law))
       ∙ ap (λ (l : List ℕ). lawful_published (map_at space below l)) ys_is
-      ∙ ap lawful_published (at_other space view end xs end-size told.view_in below (λ q. apart (sym q)))
-      ∙ last-law space view below xs apart (le-leb _ _ told.view_in) (le-leb _ _ told.below_in) told.view-law
+      ∙ ap lawful_published (at_other space view end xs end-size told.view_within below (λ q. apart (sym q)))
+      ∙ last-law space view below xs apart (le-leb _ _ told.view_within) (le-leb _ _ told.below_within) told.view-law
       ∙ k.two
 
   -- The marks that are left are counted.
@@ -104,7 +104,7 @@ module _ {space view below : ℕ} {xs : List ℕ} {left : ℕ} {end : List ℕ} 
       let t = two-told space view below ys cleared-two in
       let v = view_of space view below ys in
       let few = (bytes_fit (map_at space view ys) t.view-law).few in
-      omega (arith, ap length (marks-are v (below_of space view below ys)), runs_by cleared refl v, few, map_space space view ys t.view_in)
+      omega (arith, ap length (marks-are v (below_of space view below ys)), runs_by cleared refl v, few, map_space space view ys t.view_within)
 
   -- Rewritten, it is the view marked published.
   pub cleared-woven : {zs : List ℕ} →
@@ -117,5 +117,5 @@ module _ {space view below : ℕ} {xs : List ℕ} {left : ℕ} {end : List ℕ} 
       λ b. ap (λ (m : List ℕ). as_published (bytes_of m) b) view-is ∙ k.marks.mean b ∙ ap (λ (m : List ℕ). as_published (bytes_of m) b) (map_lent space view xs) in
       q
       ∙ ap (with_map space view new) ys_is
-      ∙ with_over space view new end xs (length-map space _ cleared-fits) end-size told.view_in
+      ∙ with_over space view new end xs (length-map space _ cleared-fits) end-size told.view_within
       ∙ ap (λ (l : List ℕ). with_map space view l xs) (ap (map_of space) (marks-are v (below_of space view below ys) ∙ runs_same _ _ (λ b _. same b)))

@@ -33,7 +33,7 @@ module _ (pair : Pair) (mix : Mix) (xs : List ℕ) (two : two_maps_in pair xs �
   pub maps-in : (v + size ≤ length xs) × (w + size ≤ length xs)
   maps-in =
       let t = two-told pair.space pair.view pair.below xs two in
-      (omega (arith, t.view_in, next pair.view), omega (arith, t.below_in, next pair.below))
+      (omega (arith, t.view_within, next pair.view), omega (arith, t.below_within, next pair.below))
     where
       next : (k : ℕ) → (k + 1) * size ≡ k * size + size
       next k = add-mul k 1 size ∙ ap (λ (n : ℕ). k * size + n) (one-mul size)

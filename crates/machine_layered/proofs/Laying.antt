@@ -182,13 +182,13 @@ module _ {h : Header} {xs : List ℕ} {r : Row} {number : ℕ} (k : Ready h xs r
   shared-fits : plain_fits h old.shared ≡ true
   shared-fits =
       let t = two-told h.space (suc r.process) 0 xs two in
-      le-leb _ _ (here-fit h.space 0 xs t.below-law t.below_in)
+      le-leb _ _ (here-fit h.space 0 xs t.below-law t.below_within)
 
   -- The view fits its space.
   own-fits : plain_fits h own ≡ true
   own-fits =
       let t = two-told h.space (suc r.process) 0 xs two in
-      le-leb _ _ (here-fit h.space (suc r.process) xs t.view-law t.view_in)
+      le-leb _ _ (here-fit h.space (suc r.process) xs t.view-law t.view_within)
 
   -- A state that keeps both maps is as it was.
   still_to : layers_to h (anew h xs k.lawful r.process (ready-process k) own old.shared) xs ≡ xs

@@ -60,10 +60,10 @@ in_both k (c ∷ l) m (inl (inr i)) = inr (in_both k l m (inl i))
 in_both k (c ∷ l) m (inr i) = inr (in_both k l m (inr i))
 
 -- Each place below a bound is among the places below it.
-below_in_lem : (n k : ℕ) → k < n → In k (places_below n)
+below_within : (n k : ℕ) → k < n → In k (places_below n)
 unfolding places_below
-below_in_lem zero k h = absurd (omega arith)
-below_in_lem (suc n) k h = in_both k (places_below n) (n ∷ []) (go (dec_lt k n) (below_in_lem n k))
+below_within zero k h = absurd (omega arith)
+below_within (suc n) k h = in_both k (places_below n) (n ∷ []) (go (dec_lt k n) (below_within n k))
   where
     go : Dec (k < n) → (k < n → In k (places_below n)) → In k (places_below n) ⊎ In k (n ∷ [])
     go (yes l) ih = inl (ih l)
@@ -100,14 +100,14 @@ renumbered-whole {rows} {rows'} {to} {from} r =
     order = trace_order_lem rows
 
     all : (k : ℕ) → k < length rows' → In k (map to places)
-    all k h = rw (r.same.to_from k h) at (named_in to places (from k) (below_in_lem (length rows) (from k) (r.same.from_within k h)))
+    all k h = rw (r.same.to_from k h) at (named_in to places (from k) (below_within (length rows) (from k) (r.same.from_within k h)))
 
     stands : (i j : ℕ) → edge rows' i j ≡ true → Stands i j (map to places)
     stands i j e =
         let f = edge-out rows' i j e in
         let h : i < length rows' = omega (arith, f.0, f.1) in
-        let a = below_in_lem (length rows) (from i) (r.same.from_within i h) in
-        let b = below_in_lem (length rows) (from j) (r.same.from_within j f.1) in
+        let a = below_within (length rows) (from i) (r.same.from_within i h) in
+        let b = below_within (length rows) (from j) (r.same.from_within j f.1) in
         rw (r.same.to_from i h, r.same.to_from j f.1) at (named-stands to (from i) (from j) places (order.in_order (from i) (from j) (r.edge_from i j e) a b))
 
 -- The rows at the new places of old places are the rows at the old ones.

@@ -10,10 +10,10 @@ told : (c : Start) → let a = c.args in Told a.pair.space a.pair.view a.pair.be
 told c = let a = c.args in two-told a.pair.space a.pair.view a.pair.below a.maps.now c.requires.maps_value
 
 pub map_at-view-requires : goal.map_at-view-requires
-map_at-view-requires c = (told (goal.at.map_at-view-requires c).Start).view_in
+map_at-view-requires c = (told (goal.at.map_at-view-requires c).Start).view_within
 
 pub map_at-below-requires : goal.map_at-below-requires
-map_at-below-requires c = (told (goal.at.map_at-below-requires c).Start).below_in
+map_at-below-requires c = (told (goal.at.map_at-below-requires c).Start).below_within
 
 pub count-requires : goal.count-requires
 count-requires c = record { map_value = (ap lawful c.map_at-view.ensures ∙ (told (goal.at.count-requires c).Start).view-law, ap lawful c.map_at-below.ensures ∙ (told (goal.at.count-requires c).Start).below-law); from_le_to = c.requires.from_le_to }

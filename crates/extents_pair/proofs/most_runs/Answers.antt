@@ -15,7 +15,7 @@ pub is_mark_published-requires : goal.is_mark_published-requires
 is_mark_published-requires c = tt
 
 pub map_at-requires : goal.map_at-requires
-map_at-requires c = (told (goal.at.map_at-requires c).Start).view_in
+map_at-requires c = (told (goal.at.map_at-requires c).Start).view_within
 
 pub runs_in-requires : goal.runs_in-requires
 runs_in-requires c = ap lawful c.map_at.ensures ∙ (told (goal.at.runs_in-requires c).Start).view-law
@@ -25,7 +25,7 @@ overflow_add-result c =
     let a = c.args in
     let t = told (goal.at.overflow_add-result c).Start in
     let e = rw c.map_at.ensures at c.runs_in.ensures in
-    omega (arith, e, t.view_in, c.well_formed, map-few a.pair.space a.pair.view a.maps.now t.view_in t.view-law)
+    omega (arith, e, t.view_within, c.well_formed, map-few a.pair.space a.pair.view a.maps.now t.view_within t.view-law)
 
 pub returns-then-is_mark_published : goal.returns-then-is_mark_published
 returns-then-is_mark_published c =
@@ -34,7 +34,7 @@ returns-then-is_mark_published c =
     λ start n cell. omega (arith, e, rw q at (most _ _ (told (goal.at.returns-then-is_mark_published c).Start).view-law (told (goal.at.returns-then-is_mark_published c).Start).below-law start n cell c.args.mode c.requires.1))
 
 pub map_at-requires-2 : goal.map_at-requires-2
-map_at-requires-2 c = (told (goal.at.map_at-requires-2 c).Start).below_in
+map_at-requires-2 c = (told (goal.at.map_at-requires-2 c).Start).below_within
 
 pub runs_in-requires-2 : goal.runs_in-requires-2
 runs_in-requires-2 c = ap lawful c.map_at-2.ensures ∙ (told (goal.at.runs_in-requires-2 c).Start).below-law
@@ -45,9 +45,9 @@ overflow_add-result-3 c =
     let p = a.pair in
     let t = told (goal.at.overflow_add-result-3 c).Start in
     let e = rw c.map_at-2.ensures at c.runs_in-2.ensures in
-    let k = map-few p.space p.below a.maps.now t.below_in t.below-law in
+    let k = map-few p.space p.below a.maps.now t.below_within t.below-law in
     let u = marked-room p.space p.view p.below a.maps.now c.requires.0 c.requires.2 in
-    omega (arith, e, k, u, t.view_in, c.well_formed)
+    omega (arith, e, k, u, t.view_within, c.well_formed)
 
 pub overflow_mul-result : goal.overflow_mul-result
 overflow_mul-result c =
@@ -55,9 +55,9 @@ overflow_mul-result c =
     let p = a.pair in
     let t = told (goal.at.overflow_mul-result c).Start in
     let e = rw c.map_at-2.ensures at c.runs_in-2.ensures in
-    let k = map-few p.space p.below a.maps.now t.below_in t.below-law in
+    let k = map-few p.space p.below a.maps.now t.below_within t.below-law in
     let u = marked-room p.space p.view p.below a.maps.now c.requires.0 c.requires.2 in
-    omega (arith, e, k, u, t.view_in, c.well_formed)
+    omega (arith, e, k, u, t.view_within, c.well_formed)
 
 pub overflow_add-result-2 : goal.overflow_add-result-2
 overflow_add-result-2 c =
@@ -65,9 +65,9 @@ overflow_add-result-2 c =
     let p = a.pair in
     let t = told (goal.at.overflow_add-result-2 c).Start in
     let e = rw c.map_at-2.ensures at c.runs_in-2.ensures in
-    let k = map-few p.space p.below a.maps.now t.below_in t.below-law in
+    let k = map-few p.space p.below a.maps.now t.below_within t.below-law in
     let u = marked-room p.space p.view p.below a.maps.now c.requires.0 c.requires.2 in
-    omega (arith, e, k, u, t.view_in, c.well_formed)
+    omega (arith, e, k, u, t.view_within, c.well_formed)
 
 pub returns : goal.returns
 returns c =

@@ -21,19 +21,19 @@ part : (c : After-clear_marks-left) → let a = c.args in let p = a.pair in
 part c = record { two = c.requires.0; marks = c.clear_marks-left.ensures }
 
 pub overflow_mul-size : goal.overflow_mul-size
-overflow_mul-size c = omega (arith, (told (goal.at.overflow_mul-size c).Start).view_in, c.well_formed)
+overflow_mul-size c = omega (arith, (told (goal.at.overflow_mul-size c).Start).view_within, c.well_formed)
 
 pub overflow_mul-v : goal.overflow_mul-v
-overflow_mul-v c = omega (arith, (told (goal.at.overflow_mul-v c).Start).view_in, c.well_formed)
+overflow_mul-v c = omega (arith, (told (goal.at.overflow_mul-v c).Start).view_within, c.well_formed)
 
 pub overflow_add-v : goal.overflow_add-v
-overflow_add-v c = omega (arith, (told (goal.at.overflow_add-v c).Start).view_in, c.well_formed)
+overflow_add-v c = omega (arith, (told (goal.at.overflow_add-v c).Start).view_within, c.well_formed)
 
 pub offset_bounds-maps-v : goal.offset_bounds-maps-v
-offset_bounds-maps-v c = omega (arith, (told (goal.at.offset_bounds-maps-v c).Start).view_in, c.well_formed)
+offset_bounds-maps-v c = omega (arith, (told (goal.at.offset_bounds-maps-v c).Start).view_within, c.well_formed)
 
 pub slice_bounds-clear_marks-end : goal.slice_bounds-clear_marks-end
-slice_bounds-clear_marks-end c = omega (arith, (told (goal.at.slice_bounds-clear_marks-end c).Start).view_in, c.well_formed)
+slice_bounds-clear_marks-end c = omega (arith, (told (goal.at.slice_bounds-clear_marks-end c).Start).view_within, c.well_formed)
 
 pub clear_marks-left-requires : goal.clear_marks-left-requires
 clear_marks-left-requires c =

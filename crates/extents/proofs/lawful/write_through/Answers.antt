@@ -45,7 +45,7 @@ pub own_runs-own-requires : goal.own_runs-own-requires
 own_runs-own-requires c =
     let a = c.args in
     let t = two-told a.space a.view a.below a.maps.now c.requires in
-    record { space_in_bounds = t.view_in; maps_value = t.view-law }
+    record { space_in_bounds = t.view_within; maps_value = t.view-law }
 
 pub fits-requires : goal.fits-requires
 fits-requires c = record { maps_value = c.requires; mode_value = (refl, omega arith, c.own_runs-own.ensures) }
