@@ -1,4 +1,6 @@
 // The whole call on the traces of two controllers: the joined rows, their counts, where their records stand, and the verdict.
+#![tactic(auto)]
+
 ghost use Rattle.std.specs.Prelude.{◌≡◌, length};
 ghost use Rattle.join_meaning.specs.Joining.{join_traces};
 ghost use Rattle.join_checker.specs.Judging.{Decides};
