@@ -1,4 +1,6 @@
 // The library for C and Rust. Numbers pass as themselves, and a slice as a pointer and then its length.
+#![tactic(auto)]
+
 ghost use Rattle.std.specs.Prelude.{◌≡◌, ◌+◌, ◌*◌, length};
 ghost use Rattle.trace.specs.Questions.{check_trace};
 ghost use Rattle.happens_before.specs.Filling.{fill_questions};

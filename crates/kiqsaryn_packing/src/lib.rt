@@ -1,5 +1,7 @@
 // Packs the answers of a check, of a whole call on one trace or on two files, of a verdict, of a list of races, of writing and of a lookup into one
 // number each, for C.
+#![tactic(auto)]
+
 ghost use Rattle.std.specs.Prelude.{◌≡◌, ◌%◌};
 ghost use Rattle.kiqsaryn_packing.specs.Packing.{WORD, packed, packed_words, packed_join_words, packed_found, packed_listed, packed_written, packed_lookup_words};
 
