@@ -1,14 +1,10 @@
 -- Flags of processes: what rows more flag, and how many are flagged.
-use Prim.Native.Nat.{ℕ, zero, suc, ◌<◌}
-use native.Mathlib.Omega.{arith}
+use Rattle.std.proofs.Common.{ℕ, zero, suc, ◌<◌, arith, ◌≡◌, refl, sym, ap, subst, ◌∙◌, Bool, true, false, ◌||◌, List, [], ◌∷◌, ◌++◌, append-nil, length, replicate, length-set, get_or-set_same, get_or-set_other, eq-eqb, ne_eqb}
 use native.Mathlib.Decide.{ℕ_discrete}
-use mathlib.Core.Path.{◌≡◌, refl, sym, ap, subst, ◌∙◌}
-use mathlib.Core.Bool.{Bool, true, false, ◌||◌, or-false, or-true}
-use mathlib.Core.List.{List, [], ◌∷◌, ◌++◌, append-nil}
-use lib.ListN.{length, get_or, set, replicate, length-replicate, length-set}
-use lib.Seq.{get_or-set_same, get_or-set_other, append_snoc}
+use mathlib.Core.Bool.{or-false, or-true}
+use lib.ListN.{get_or, set, length-replicate}
+use lib.Seq.{append_snoc}
 use lib.Dec.{eqb}
-use borrow.Author.Tests.{eq-eqb, ne_eqb}
 use Rattle.rows.specs.declared.Row.{Row}
 use Rattle.rows.specs.Limits.{PROCESSES}
 use Rattle.rows.specs.Counting.{count_below}

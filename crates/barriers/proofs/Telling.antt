@@ -1,15 +1,11 @@
 -- What the tables tell of the rows noted in them: at which barrier each process stands, how many rows a barrier has, and so which rows are out of turn.
-use Prim.Native.Nat.{ℕ, zero, suc, ◌+◌, ◌≤◌, ◌<◌, min}
-use native.Mathlib.Omega.{arith}
+use Rattle.std.proofs.Common.{ℕ, zero, suc, ◌+◌, ◌≤◌, ◌<◌, min, arith, ◌≡◌, refl, sym, ap, subst, ◌∙◌, ◌⊎◌, inl, inr, Bool, true, false, cond, not, ◌&&◌, ◌||◌, List, [], ◌∷◌, ◌++◌, append-nil, length, replicate, length-set, length-append, get_or-set_same, get_or-set_other, eq-eqb, ne_eqb, eqb-true, lt-ltb, le-ltb, le-leb, leb-true}
 use native.Mathlib.Decide.{dec_lt, ℕ_discrete}
-use mathlib.Core.Path.{◌≡◌, refl, sym, ap, subst, ◌∙◌}
-use mathlib.Core.Logic.{◌⊎◌, inl, inr}
-use mathlib.Core.Bool.{Bool, true, false, cond, not, ◌&&◌, ◌||◌, false≢true, or-false}
-use mathlib.Core.List.{List, [], ◌∷◌, ◌++◌, append-nil}
-use lib.ListN.{length, get_or, set, replicate, length-set, length-replicate, length-append, get_or-append}
-use lib.Seq.{get_or-set_same, get_or-set_other, get_or_at, append_snoc}
+use mathlib.Core.Bool.{false≢true, or-false}
+use lib.ListN.{get_or, set, length-replicate, get_or-append}
+use lib.Seq.{get_or_at, append_snoc}
 use lib.Dec.{leb, ltb, eqb}
-use borrow.Author.Tests.{eq-eqb, ne_eqb, eqb-true, eqb-false, lt-ltb, le-ltb, le-leb, lt-leb, leb-true, not-true}
+use borrow.Author.Tests.{eqb-false, lt-leb, not-true}
 use Rattle.rows.specs.declared.Row.{Row}
 use Rattle.rows.specs.Kinds.{BARRIER}
 use Rattle.rows.specs.Limits.{PROCESSES, MESSAGES}

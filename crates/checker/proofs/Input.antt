@@ -1,12 +1,6 @@
 -- The program's input buffer: the report of a text is the report of the bytes that the buffer holds.
-use Prim.Native.Nat.{ℕ, ◌*◌, ◌≤◌, ◌<◌}
-use native.Mathlib.Omega.{arith}
-use mathlib.Core.Path.{◌≡◌, sym, ap, subst}
-use mathlib.Core.Bool.{cond}
-use mathlib.Core.List.{List}
-use lib.ListN.{length, take}
-use lib.Seq.{length-take-le, take_all}
-use lib.Dec.{eqb, lit<}
+use Rattle.std.proofs.Common.{ℕ, ◌*◌, ◌≤◌, ◌<◌, arith, ◌≡◌, sym, ap, subst, cond, List, length, take, length-take-le, take_all, lit<}
+use lib.Dec.{eqb}
 use Rattle.csv_records.proofs.Cutting.{records-cut}
 use Rattle.models.specs.Models.{POSIX}
 use Rattle.trace.specs.Questions.{call_questions, read_trace, check_trace, refused}

@@ -1,9 +1,5 @@
 -- Lines laid one behind the other, and their lengths.
-use Prim.Native.Nat.{ℕ, ◌+◌, ◌≤◌}
-use native.Mathlib.Omega.{arith}
-use mathlib.Core.Path.{◌≡◌}
-use mathlib.Core.List.{List, [], ◌∷◌, ◌++◌}
-use lib.ListN.{length, length-append}
+use Rattle.std.proofs.Common.{ℕ, ◌+◌, ◌≤◌, arith, ◌≡◌, List, [], ◌∷◌, ◌++◌, length, length-append}
 use Rattle.print.specs.Decimal.{decimal_of}
 use Rattle.print.specs.Puts.{lay, put_in, put_end}
 use Rattle.print.proofs.Parts.{number-most, put-laid, laid-length, then}

@@ -1,12 +1,6 @@
 -- The report, line after line.
-use Prim.Native.Nat.{ℕ, ◌+◌, ◌≤◌, ◌<◌}
-use native.Mathlib.Omega.{arith}
-use native.Mathlib.Nat.{zero-add}
-use mathlib.Core.Path.{◌≡◌, refl, sym, ap, ◌∙◌}
-use mathlib.Core.List.{List, ◌++◌, append_assoc}
-use lib.ListN.{length, take, drop, length-append}
-use lib.Seq.{length-take-le}
-use borrow.Author.Tests.{le-leb, lt-leb}
+use Rattle.std.proofs.Common.{ℕ, ◌+◌, ◌≤◌, ◌<◌, arith, zero-add, ◌≡◌, refl, sym, ap, ◌∙◌, List, ◌++◌, append_assoc, length, take, drop, length-append, length-take-le, le-leb}
+use borrow.Author.Tests.{lt-leb}
 use Rattle.print.specs.Puts.{lay, put_in, put_end}
 use Rattle.print.proofs.Laying.{lay-length}
 use Rattle.rows.specs.Rows.{rows_in}

@@ -1,10 +1,6 @@
 -- The whole call and the list of races: an accepted trace passes the questions of the verdict, and the answer on its rows is the call's.
-use Prim.Native.Nat.{ℕ, ◌*◌, ◌-◌, ◌≤◌, ◌<◌}
-use native.Mathlib.Omega.{arith}
-use native.Mathlib.Nat.{mul-le-mul_right}
-use mathlib.Core.Path.{◌≡◌, refl, sym, ap, ◌∙◌}
-use mathlib.Core.List.{List, ◌++◌}
-use lib.ListN.{length, replicate, length-replicate}
+use Rattle.std.proofs.Common.{ℕ, ◌*◌, ◌-◌, ◌≤◌, ◌<◌, arith, mul-le-mul_right, ◌≡◌, refl, sym, ap, ◌∙◌, List, ◌++◌, length, replicate}
+use lib.ListN.{length-replicate}
 use Rattle.rows.specs.Limits.{MODELS, ROWS}
 use Rattle.csv_records.specs.Reading.{records}
 use Rattle.rows.specs.declared.Row.{Row}

@@ -148,9 +148,9 @@ pub fn report_input(input: &[u8; INPUT], n: usize, out: &mut [u8]) -> usize
 
 // Puts the heading and the four models' lines.
 fn put_models(out: &mut [u8], rows: &[u32], n: u32, counts: &mut [u16]) -> usize
-    requires in_bounds { 256 ≤ length out.old }
-    requires counts_value { first_no (judge_questions n 8 0 rows.now (length counts.old)) ≡ 0 }
-    ensures value { result ≡ length (report_of (accepted (rows_in n rows.now))) }
+    requires report_room { 256 ≤ length out.old }
+    requires asked { first_no (judge_questions n 8 0 rows.now (length counts.old)) ≡ 0 }
+    ensures answer { result ≡ length (report_of (accepted (rows_in n rows.now))) }
     ensures out_after { out.new ≡ lay out.old 0 (report_of (accepted (rows_in n rows.now))) }
 {
     let first = print::put(out, 0, b"model,verdict,earlier,later\r\n");
@@ -170,9 +170,9 @@ fn put_model(
     model: u32,
     counts: &mut [u16],
 ) -> usize
-    requires at_in_bounds { (at + 40 ≤ length out.old) × (length name.now ≤ 8) }
-    requires counts_value { first_no (judge_questions n 8 model rows.now (length counts.old)) ≡ 0 }
-    ensures value { result ≡ at + length (model_line name.now (verdict_of (rows_in n rows.now) model)) }
+    requires line_room { (at + 40 ≤ length out.old) × (length name.now ≤ 8) }
+    requires asked { first_no (judge_questions n 8 model rows.now (length counts.old)) ≡ 0 }
+    ensures answer { result ≡ at + length (model_line name.now (verdict_of (rows_in n rows.now) model)) }
     ensures out_after { out.new ≡ lay out.old at (model_line name.now (verdict_of (rows_in n rows.now) model)) }
 {
     let behind = print::put(out, at, name);
@@ -189,7 +189,7 @@ fn put_model(
 // Puts two numbers and the end of a line at a place, and answers the place behind them.
 fn put_pair(out: &mut [u8], at: usize, a: u32, b: u32) -> usize
     requires { at + 23 ≤ length out.old }
-    ensures value { result ≡ at + length (pair a b) }
+    ensures answer { result ≡ at + length (pair a b) }
     ensures out_after { out.new ≡ lay out.old at (pair a b) }
 {
     let first = print::put_number(out, at, a);

@@ -1,13 +1,6 @@
 -- What two files answer to a row is the same exactly when a read finds the same row numbers.
-use Prim.Native.Nat.{ℕ}
-use native.Mathlib.Omega.{arith}
-use mathlib.Core.Path.{◌≡◌, refl}
-use mathlib.Core.Logic.{◌↔◌}
-use mathlib.Core.Bool.{Bool, true, false, cond}
-use mathlib.Core.List.{List, [], ◌++◌}
-use lib.ListN.{length, drop}
+use Rattle.std.proofs.Common.{ℕ, arith, ◌≡◌, refl, ◌↔◌, Bool, true, false, cond, List, [], ◌++◌, length, drop, leb-true, ltb-true}
 use lib.Dec.{leb, eqb}
-use borrow.Author.Tests.{leb-true, ltb-true}
 use Rattle.rows.specs.Kinds.{READ}
 use Rattle.rows.specs.declared.Row.{Row}
 use Rattle.rows.proofs.Bools.{and_out}

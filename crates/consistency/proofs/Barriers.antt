@@ -1,10 +1,6 @@
 -- The barriers of an accepted trace: every process has one row of each, a row of a barrier happens before every row that follows a row of that
 -- barrier in any process, and an allowed order lets no process pass before all have arrived.
-use Prim.Native.Nat.{ℕ, ◌<◌}
-use mathlib.Core.Path.{◌≡◌}
-use mathlib.Core.Logic.{◌↔◌}
-use mathlib.Core.List.{List}
-use lib.ListN.{length}
+use Rattle.std.proofs.Common.{ℕ, ◌<◌, ◌≡◌, ◌↔◌, List, length}
 use Rattle.rows.specs.declared.Row.{Row}
 use Rattle.rows.specs.Kinds.{BARRIER}
 use Rattle.rows.specs.Lists.{In}

@@ -1,7 +1,5 @@
 -- The bench traces A to J and L, B also with a wait, from their texts to their verdicts in all models, by the definitions.
-use Prim.Native.Nat.{ℕ}
-use mathlib.Core.Path.{◌≡◌, refl}
-use mathlib.Core.List.{List, [], ◌∷◌, ◌++◌, map}
+use Rattle.std.proofs.Common.{ℕ, ◌≡◌, refl, List, [], ◌∷◌, ◌++◌, map}
 use Rattle.csv_field.specs.FieldReading.{field_at, quoted_to, quotes, after_quote, after_cr, stop_of, text_length, is_text, is_quoted}
 use Rattle.csv_content.specs.Content.{content_of, undouble, same_bytes}
 use Rattle.csv_records.specs.Reading.{records, records_from, on_found, read_at, fields_from, on_stop, prepend}

@@ -1,9 +1,6 @@
 -- Bench trace K: what is published and what is plain after its rows in trace order.
-use Prim.Native.Nat.{ℕ, ◌*◌, ◌<◌}
-use native.Mathlib.Omega.{arith}
+use Rattle.std.proofs.Common.{ℕ, ◌*◌, ◌<◌, arith, ◌≡◌, refl, sym, ap, ◌∙◌, map, List, [], ◌∷◌, ◌++◌}
 use native.Mathlib.Decide.{dec_lt}
-use mathlib.Core.Path.{◌≡◌, refl, sym, ap, ◌∙◌}
-use mathlib.Core.List.{map, List, [], ◌∷◌, ◌++◌}
 use Rattle.rows.specs.Kinds.{WRITE, COMMIT}
 use Rattle.models.specs.Models.{COMMIT_MODEL}
 use Rattle.models.specs.Table.{publishes, refreshes}

@@ -1,14 +1,10 @@
 -- Allowed orders and races of a trace, as one byte of one file sees them.
-use Prim.Native.Nat.{ℕ, zero, suc, ◌<◌}
-use native.Mathlib.Omega.{arith}
+use Rattle.std.proofs.Common.{ℕ, zero, suc, ◌<◌, arith, ◌≡◌, refl, sym, ◌∙◌, ◌↔◌, ◌⊎◌, inl, inr, Bool, true, false, not, List, [], ◌∷◌, ◌++◌, reverse, length, lt-ltb, ne_eqb, eqb-true}
 use native.Mathlib.Decide.{ℕ_discrete}
-use mathlib.Core.Path.{◌≡◌, refl, sym, ◌∙◌}
-use mathlib.Core.Logic.{◌↔◌, ◌⊎◌, inl, inr}
-use mathlib.Core.Bool.{Bool, true, false, not, false≢true, or-false, and-false}
-use mathlib.Core.List.{List, [], ◌∷◌, ◌++◌, reverse, reverse-cons}
-use lib.ListN.{length}
+use mathlib.Core.Bool.{false≢true, or-false, and-false}
+use mathlib.Core.List.{reverse-cons}
 use lib.Dec.{ltb, eqb}
-use borrow.Author.Tests.{lt-ltb, ne_eqb, eqb-true, eqb-false, not-true}
+use borrow.Author.Tests.{eqb-false, not-true}
 use Rattle.rows.specs.Limits.{MODELS}
 use Rattle.rows.specs.Kinds.{READ, WRITE, COMMIT, SEND}
 use Rattle.models.specs.Models.{COMMIT_MODEL}

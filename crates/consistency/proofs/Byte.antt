@@ -1,6 +1,5 @@
 -- One byte of the layered file: a published row number and, for each process, a view: a row number and whether it is unpublished.
-use Prim.Native.Nat.{ℕ}
-use mathlib.Core.Bool.{Bool, true, false, cond}
+use Rattle.std.proofs.Common.{ℕ, Bool, true, false, cond}
 use lib.Dec.{eqb}
 
 pub record Byte : Type 0 where

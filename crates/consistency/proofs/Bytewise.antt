@@ -1,12 +1,8 @@
 -- Runs by the bytes are, at each byte, the runs of that byte's rows.
-use Prim.Native.Nat.{ℕ, suc}
-use native.Mathlib.Omega.{arith}
-use mathlib.Core.Path.{◌≡◌, refl, sym, ap, ◌∙◌}
-use mathlib.Core.Logic.{◌↔◌}
-use mathlib.Core.Bool.{Bool, true, false, cond, ◌&&◌, and-false, false≢true}
-use mathlib.Core.List.{List, [], ◌∷◌, ◌++◌, reverse, reverse_aux}
+use Rattle.std.proofs.Common.{ℕ, suc, arith, ◌≡◌, refl, sym, ap, ◌∙◌, ◌↔◌, Bool, true, false, cond, ◌&&◌, List, [], ◌∷◌, ◌++◌, reverse, ne_eqb, eqb-true}
+use mathlib.Core.Bool.{and-false, false≢true}
+use mathlib.Core.List.{reverse_aux}
 use lib.Dec.{eqb}
-use borrow.Author.Tests.{ne_eqb, eqb-true}
 use Rattle.rows.specs.Kinds.{READ, WRITE, COMMIT}
 use Rattle.models.specs.Models.{COMMIT_MODEL}
 use Rattle.models.specs.Table.{publishes, refreshes}

@@ -1,13 +1,9 @@
 -- Where no pair races, every read is the plain file's, and so is what is published in the end. A process with an unpublished number has a
 -- write that no row publishes yet (`waiting`, in any run). Where no pair races, no other process is unpublished when a process writes
 -- (`alone`), and the process of the last write, or one that refreshes after its publishing, holds the plain byte (`holds`).
-use Prim.Native.Nat.{ℕ, zero, suc, ◌<◌}
-use native.Mathlib.Omega.{arith}
+use Rattle.std.proofs.Common.{ℕ, zero, suc, ◌<◌, arith, ◌≡◌, refl, sym, ap, ◌∙◌, ◌⊎◌, inl, inr, Bool, true, false, cond, List, [], ◌∷◌}
 use native.Mathlib.Decide.{dec_lt, ℕ_discrete}
-use mathlib.Core.Path.{◌≡◌, refl, sym, ap, ◌∙◌}
-use mathlib.Core.Logic.{◌⊎◌, inl, inr}
-use mathlib.Core.Bool.{Bool, true, false, cond, false≢true}
-use mathlib.Core.List.{List, [], ◌∷◌}
+use mathlib.Core.Bool.{false≢true}
 use Rattle.consistency.proofs.Byte.{Byte, fresh_byte, write_byte, step_byte}
 use Rattle.happens_before.specs.Order.{HB, one, more}
 use Rattle.rows.proofs.Bools.{not_passed}

@@ -1,11 +1,7 @@
 -- The layered byte by itself: who is unpublished, and who holds a number whatever is published and refreshed.
-use Prim.Native.Nat.{ℕ}
+use Rattle.std.proofs.Common.{ℕ, ◌≡◌, refl, sym, ◌∙◌, ◌⊎◌, inl, inr, Bool, true, false, cond, List, [], ◌∷◌, eq-eqb, ne_eqb}
 use native.Mathlib.Decide.{ℕ_discrete}
-use mathlib.Core.Path.{◌≡◌, refl, sym, ◌∙◌}
-use mathlib.Core.Logic.{◌⊎◌, inl, inr}
-use mathlib.Core.Bool.{Bool, true, false, cond, false≢true}
-use mathlib.Core.List.{List, [], ◌∷◌}
-use borrow.Author.Tests.{eq-eqb, ne_eqb}
+use mathlib.Core.Bool.{false≢true}
 use Rattle.consistency.proofs.Byte.{Byte, put, write_byte, publish_byte, refresh_byte}
 use Rattle.rows.specs.Lists.{In}
 use Rattle.consistency.proofs.Core.{publish_all}

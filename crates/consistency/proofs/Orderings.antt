@@ -1,11 +1,6 @@
 -- Allowed orders of a trace are those that one byte of one file sees, latest row first.
-use Prim.Native.Nat.{ℕ, zero, suc}
-use native.Mathlib.Omega.{arith}
-use mathlib.Core.Path.{◌≡◌, refl, ap, ◌∙◌}
-use mathlib.Core.Logic.{◌⊎◌, inl, inr}
-use mathlib.Core.Bool.{true}
-use mathlib.Core.List.{List, [], ◌∷◌, ◌++◌, reverse_aux, reverse, reverse-cons, reverse_aux-append, reverse-reverse}
-use lib.ListN.{length}
+use Rattle.std.proofs.Common.{ℕ, zero, suc, arith, ◌≡◌, refl, ap, ◌∙◌, ◌⊎◌, inl, inr, true, List, [], ◌∷◌, ◌++◌, reverse, length}
+use mathlib.Core.List.{reverse_aux, reverse-cons, reverse_aux-append, reverse-reverse}
 use Rattle.rows.specs.declared.Row.{Row}
 use Rattle.happens_before.specs.Order.{edge, HB, one}
 use Rattle.consistency.specs.Orders.{Stands, Allowed, places_below, trace_order}

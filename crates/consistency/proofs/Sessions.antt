@@ -1,12 +1,7 @@
 -- The trace whose race under session no order shows.
-use Prim.Native.Nat.{ℕ, zero, suc, ◌<◌}
-use native.Mathlib.Omega.{arith}
-use mathlib.Core.Path.{◌≡◌, refl, sym, ap, subst, ◌∙◌}
-use mathlib.Core.Logic.{◌⊎◌, inl, inr}
-use mathlib.Core.Bool.{Bool, true, false, cond, ◌&&◌, false≢true}
-use mathlib.Core.List.{List, [], ◌∷◌, ◌++◌}
+use Rattle.std.proofs.Common.{ℕ, zero, suc, ◌<◌, arith, ◌≡◌, refl, sym, ap, subst, ◌∙◌, ◌⊎◌, inl, inr, Bool, true, false, cond, ◌&&◌, List, [], ◌∷◌, ◌++◌, eq-eqb}
+use mathlib.Core.Bool.{false≢true}
 use lib.Dec.{eqb}
-use borrow.Author.Tests.{eq-eqb}
 use Rattle.rows.specs.Limits.{FILES}
 use Rattle.rows.specs.Kinds.{WRITE, COMMIT, CLOSE, SEND, RECV, WAIT, ARRIVAL, BARRIER}
 use Rattle.models.specs.Models.{COMMIT_MODEL, SESSION}

@@ -1,13 +1,8 @@
 -- Demands 2 and 3 about whole runs of the layered and the plain file.
-use Prim.Native.Nat.{ℕ, zero, suc, ◌+◌, ◌*◌, ◌≤◌, ◌<◌}
-use native.Mathlib.Omega.{arith}
-use mathlib.Core.Path.{◌≡◌, refl, sym, ap, subst, ◌∙◌}
-use mathlib.Core.Logic.{◌↔◌, inl, inr}
-use mathlib.Core.Bool.{Bool, true, false, cond}
-use mathlib.Core.List.{List, [], ◌∷◌, ◌++◌, append_assoc, reverse, reverse-cons, reverse-append, reverse-reverse}
-use lib.ListN.{length, replicate, length-replicate}
+use Rattle.std.proofs.Common.{ℕ, zero, suc, ◌+◌, ◌*◌, ◌≤◌, ◌<◌, arith, ◌≡◌, refl, sym, ap, subst, ◌∙◌, ◌↔◌, inl, inr, Bool, true, false, cond, List, [], ◌∷◌, ◌++◌, append_assoc, reverse, length, replicate, eq-eqb, ltb-true, lt-ltb}
+use mathlib.Core.List.{reverse-cons, reverse-append, reverse-reverse}
+use lib.ListN.{length-replicate}
 use lib.Dec.{ltb, leb, eqb}
-use borrow.Author.Tests.{eq-eqb, ltb-true, lt-ltb}
 use Rattle.rows.specs.Limits.{MODELS, PROCESSES, ROWS, FILES, OFFSET_MAX}
 use Rattle.rows.specs.Kinds.{WRITE, COMMIT, SEND}
 use Rattle.models.specs.Models.{COMMIT_MODEL}

@@ -1,10 +1,6 @@
 -- What the cells and the views of a layered file show.
-use Prim.Native.Nat.{ℕ}
-use native.Mathlib.Omega.{arith}
-use mathlib.Core.Path.{◌≡◌, refl, sym, ap, ◌∙◌}
-use mathlib.Core.Bool.{Bool, true, false, cond}
+use Rattle.std.proofs.Common.{ℕ, arith, ◌≡◌, refl, sym, ap, ◌∙◌, Bool, true, false, cond, eq-eqb, ne_eqb, eqb-true}
 use lib.Dec.{eqb}
-use borrow.Author.Tests.{eq-eqb, ne_eqb, eqb-true}
 use Rattle.extents_meaning.specs.Cells.{Bytes, cell_of, number_in, mark_in, unpublished, cleared}
 use Rattle.machine_meaning.specs.Layers.{with_view}
 use Rattle.consistency.proofs.Byte.{put}

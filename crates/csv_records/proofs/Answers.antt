@@ -1,9 +1,5 @@
 -- What a caller learns from the status of a reading.
-use Prim.Native.Nat.{ℕ}
-use mathlib.Core.Path.{◌≡◌, refl, sym, ap, subst, ◌∙◌}
-use mathlib.Core.List.{List}
-use lib.ListN.{length, replicate}
-use lib.Seq.{take_at}
+use Rattle.std.proofs.Common.{ℕ, ◌≡◌, refl, sym, ap, subst, ◌∙◌, List, length, replicate, take_at}
 use Rattle.csv_field.specs.FieldReading.{no_span}
 use Rattle.csv_records.specs.Reading.{Finding, nothing, malformed, past-limit, found, reading_of, first_six}
 use Rattle.csv_field.specs.declared.Span.{Span}

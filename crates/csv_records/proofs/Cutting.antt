@@ -1,12 +1,6 @@
 -- A reader with a limit needs no more bytes than one more than the limit: the bytes behind those change no record.
-use Prim.Native.Nat.{ℕ, suc, zero, ◌+◌, ◌-◌, ◌≤◌, ◌<◌}
-use native.Mathlib.Omega.{arith}
+use Rattle.std.proofs.Common.{ℕ, suc, zero, ◌+◌, ◌-◌, ◌≤◌, ◌<◌, arith, ◌≡◌, refl, sym, ap, subst, ◌∙◌, Bool, true, List, [], ◌∷◌, map, length, take, length-take-le, take-take, take_all}
 use native.Mathlib.Decide.{dec_lt}
-use mathlib.Core.Path.{◌≡◌, refl, sym, ap, subst, ◌∙◌}
-use mathlib.Core.Bool.{Bool, true}
-use mathlib.Core.List.{List, [], ◌∷◌, map}
-use lib.ListN.{length, take}
-use lib.Seq.{length-take-le, take-take, take_all}
 use Rattle.csv_field.specs.FieldReading.{field_at}
 use Rattle.csv_content.specs.Content.{content_of}
 use Rattle.csv_records.specs.Reading.{prepend, on_stop, fields_from, record_in, read_at, on_found, records_from, records, Records, Finding, nothing, malformed, past-limit, found}

@@ -1,7 +1,5 @@
 -- The examples of RFC 4180, section 2, read by the definitions.
-use Prim.Native.Nat.{ℕ}
-use mathlib.Core.Path.{◌≡◌, refl}
-use mathlib.Core.List.{List, [], ◌∷◌}
+use Rattle.std.proofs.Common.{ℕ, ◌≡◌, refl, List, [], ◌∷◌}
 use Rattle.csv_field.specs.FieldReading.{field_at, quoted_to, quotes, after_quote, after_cr, stop_of, text_length, is_text, is_quoted}
 use Rattle.csv_content.specs.Content.{content_of, undouble}
 use Rattle.csv_records.specs.Reading.{Records, all_read, records, records_from, on_found, read_at, fields_from, on_stop, prepend}

@@ -1,11 +1,6 @@
 -- The loop of read_fields: what holds after some fields, and what each answer of field_at adds.
-use Prim.Native.Nat.{ℕ, zero, suc, ◌+◌, ◌-◌, ◌≤◌, ◌<◌}
-use native.Mathlib.Omega.{arith}
-use mathlib.Core.Path.{◌≡◌, refl, sym, ap, ◌∙◌}
-use mathlib.Core.Logic.{◌⊎◌, inl, inr}
-use mathlib.Core.Bool.{Bool}
-use mathlib.Core.List.{List, [], ◌∷◌, ◌++◌}
-use lib.ListN.{length, take, set, replicate, length-append, length-take}
+use Rattle.std.proofs.Common.{ℕ, zero, suc, ◌+◌, ◌-◌, ◌≤◌, ◌<◌, arith, ◌≡◌, refl, sym, ap, ◌∙◌, ◌⊎◌, inl, inr, Bool, List, [], ◌∷◌, ◌++◌, length, take, replicate, length-append, length-take}
+use lib.ListN.{set}
 use lib.Seq.{set_out}
 use Rattle.csv_field.specs.FieldReading.{field_at, no_span}
 use Rattle.csv_records.specs.Reading.{Finding, malformed, past-limit, found, prepend, on_stop, fields_from, record_in, first_six, reading_of, without}

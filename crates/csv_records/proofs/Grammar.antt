@@ -1,16 +1,8 @@
 -- A reader finds a record with these contents exactly where the grammar of RFC 4180 derives one, and the grammar is unambiguous.
-use Prim.Native.Nat.{ℕ, suc, zero, ◌+◌, ◌-◌, ◌≤◌, ◌<◌}
-use native.Mathlib.Omega.{arith}
-use native.Mathlib.Nat.{le_refl}
+use Rattle.std.proofs.Common.{ℕ, suc, zero, ◌+◌, ◌-◌, ◌≤◌, ◌<◌, arith, le_refl, ◌≡◌, refl, sym, ap, ◌∙◌, ◌↔◌, Bool, true, false, cond, List, [], ◌∷◌, ◌++◌, map, append_assoc, append-nil, length, take, drop, length-append, length-drop, take-append-drop, drop_of_length-le, take_all, drop_at, lt-ltb, le-ltb, ltb-true, ltb-false}
 use native.Mathlib.Decide.{dec_lt}
-use mathlib.Core.Path.{◌≡◌, refl, sym, ap, ◌∙◌}
-use mathlib.Core.Logic.{◌↔◌}
-use mathlib.Core.Bool.{Bool, true, false, cond}
-use mathlib.Core.List.{List, [], ◌∷◌, ◌++◌, map, append_assoc, append-nil}
-use lib.ListN.{length, take, drop, length-append, length-drop, take-append-drop, drop_of_length-le}
-use lib.Seq.{take_all, take-length, take-append_seam, drop_at, drop-append-le}
+use lib.Seq.{take-length, take-append_seam, drop-append-le}
 use lib.Dec.{ltb}
-use borrow.Author.Tests.{lt-ltb, le-ltb, ltb-true, ltb-false}
 use Rattle.csv_field.specs.FieldGrammar.{CRLF}
 use Rattle.csv_records.specs.Grammar.{Record, Line, ended, last, Text}
 use Rattle.csv_content.specs.Content.{content_of}

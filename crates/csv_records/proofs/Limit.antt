@@ -1,14 +1,6 @@
 -- What a byte limit changes, and why a reader that reads record after record ends.
-use Prim.Native.Nat.{ℕ, suc, zero, ◌+◌, ◌-◌, ◌≤◌, ◌<◌}
-use native.Mathlib.Omega.{arith}
+use Rattle.std.proofs.Common.{ℕ, suc, zero, ◌+◌, ◌-◌, ◌≤◌, ◌<◌, arith, ◌≡◌, refl, sym, ap, ◌∙◌, Bool, true, false, List, [], ◌∷◌, ◌++◌, ◌⊎◌, inl, inr, length, take, drop, length-take, length-append, take-append-drop, take_all, lt-ltb, le-ltb}
 use native.Mathlib.Decide.{dec_le, dec_lt}
-use mathlib.Core.Path.{◌≡◌, refl, sym, ap, ◌∙◌}
-use mathlib.Core.Bool.{Bool, true, false}
-use mathlib.Core.List.{List, [], ◌∷◌, ◌++◌}
-use mathlib.Core.Logic.{◌⊎◌, inl, inr}
-use lib.ListN.{length, take, drop, length-take, length-append, take-append-drop}
-use lib.Seq.{take_all}
-use borrow.Author.Tests.{lt-ltb, le-ltb}
 use Rattle.csv_field.specs.FieldReading.{field_at}
 use Rattle.csv_records.specs.Reading.{prepend, on_stop, fields_from, record_in, read_at, Records, on_found, records_from, Finding, nothing, malformed, past-limit, found}
 use Rattle.csv_field.specs.declared.Span.{Span}

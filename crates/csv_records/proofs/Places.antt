@@ -1,13 +1,7 @@
 -- Where records end: within the text, and after their start.
-use Prim.Native.Nat.{ℕ, suc, zero, ◌+◌, ◌≤◌, ◌<◌}
-use native.Mathlib.Omega.{arith}
+use Rattle.std.proofs.Common.{ℕ, suc, zero, ◌+◌, ◌≤◌, ◌<◌, arith, ◌≡◌, refl, ◌∙◌, Bool, true, false, cond, List, length, take, drop, length-take, drop_of_length-le, ltb-true, ltb-false}
 use native.Mathlib.Decide.{dec_le}
-use mathlib.Core.Path.{◌≡◌, refl, ◌∙◌}
-use mathlib.Core.Bool.{Bool, true, false, cond}
-use mathlib.Core.List.{List}
-use lib.ListN.{length, take, drop, length-take, drop_of_length-le}
 use lib.Dec.{ltb}
-use borrow.Author.Tests.{ltb-true, ltb-false}
 use Rattle.csv_field.specs.FieldReading.{text_length, stop_of, field_at}
 use Rattle.csv_records.specs.Reading.{prepend, on_stop, fields_from, record_in, read_at, Finding, nothing, malformed, past-limit, found}
 use Rattle.csv_field.specs.declared.Span.{Span}

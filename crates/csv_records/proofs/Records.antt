@@ -1,10 +1,5 @@
 -- The reader finds a record exactly where the grammar derives one before CR LF or the end of the text, and with the same fields.
-use Prim.Native.Nat.{ℕ, suc, zero, ◌+◌, ◌<◌}
-use native.Mathlib.Omega.{arith}
-use mathlib.Core.Path.{◌≡◌, refl, sym, ap, ◌∙◌}
-use mathlib.Core.Bool.{Bool, false}
-use mathlib.Core.List.{List, [], ◌∷◌, ◌++◌, map, append_assoc}
-use lib.ListN.{length, drop, length-append}
+use Rattle.std.proofs.Common.{ℕ, suc, zero, ◌+◌, ◌<◌, arith, ◌≡◌, refl, sym, ap, ◌∙◌, Bool, false, List, [], ◌∷◌, ◌++◌, map, append_assoc, length, drop, length-append}
 use Rattle.csv_field.specs.FieldGrammar.{COMMA, CRLF, Field}
 use Rattle.csv_records.specs.Grammar.{Record}
 use Rattle.csv_field.specs.FieldReading.{after_cr, stop_of, field_at}

@@ -1,14 +1,9 @@
 -- What the entries answer and leave, from what they test.
-use Prim.Native.Nat.{ℕ, suc, ◌+◌, ◌*◌, ◌-◌, ◌≤◌, ◌<◌}
-use native.Mathlib.Omega.{arith}
+use Rattle.std.proofs.Common.{ℕ, suc, ◌+◌, ◌*◌, ◌-◌, ◌≤◌, ◌<◌, arith, ◌≡◌, refl, sym, ap, ◌∙◌, ◌⊎◌, inr, Bool, true, false, cond, ◌&&◌, List, length, le-leb, ne_eqb}
 use native.Mathlib.Decide.{dec_lt}
-use mathlib.Core.Path.{◌≡◌, refl, sym, ap, ◌∙◌}
-use mathlib.Core.Logic.{◌⊎◌, inr}
-use mathlib.Core.Bool.{Bool, true, false, cond, ◌&&◌, and-false}
-use mathlib.Core.List.{List}
-use lib.ListN.{length}
+use mathlib.Core.Bool.{and-false}
 use lib.Dec.{leb}
-use borrow.Author.Tests.{le-leb, lt-leb, ne_eqb}
+use borrow.Author.Tests.{lt-leb}
 use Rattle.rows.specs.Limits.{ROWS, OFFSET_MAX}
 use Rattle.rows.specs.Questions.{first_no}
 use Rattle.extents_meaning.specs.Cells.{Bytes, cell_of, number_in, mark_in, overwrite}

@@ -1,12 +1,7 @@
 -- How large the numbers of a lookup's answer can be.
-use Prim.Native.Nat.{ℕ, ◌+◌, ◌≤◌, ◌<◌}
-use native.Mathlib.Omega.{arith}
-use mathlib.Core.Path.{◌≡◌, refl}
-use mathlib.Core.Logic.{inl, inr}
-use mathlib.Core.Bool.{Bool, true, false, cond, ◌&&◌}
-use mathlib.Core.List.{List, ◌∷◌}
+use Rattle.std.proofs.Common.{ℕ, ◌+◌, ◌≤◌, ◌<◌, arith, ◌≡◌, refl, inl, inr, Bool, true, false, cond, ◌&&◌, List, ◌∷◌, eqb-true, leb-true}
 use lib.Dec.{leb, eqb}
-use borrow.Author.Tests.{eqb-true, eqb-false, leb-true}
+use borrow.Author.Tests.{eqb-false}
 use Rattle.rows.specs.Limits.{ROWS, OFFSET_MAX}
 use Rattle.rows.specs.Questions.{first_no}
 use Rattle.rows.proofs.Asking.{all_yes}

@@ -1,12 +1,9 @@
 -- Runs put into a map, and numbers moved within it.
-use Prim.Native.Nat.{ℕ, suc, ◌+◌, ◌*◌, ◌-◌, ◌/◌, ◌%◌, ◌≤◌, ◌<◌, min}
+use Rattle.std.proofs.Common.{ℕ, suc, ◌+◌, ◌*◌, ◌-◌, ◌/◌, ◌%◌, ◌≤◌, ◌<◌, min, add-one, arith, ◌≡◌, refl, sym, ap, ◌∙◌, List, [], ◌∷◌, ◌++◌, append_assoc, append-nil, length, take, drop, replicate, length-append, length-drop, length-set, take-append-drop, length-take-le, take-suc, get_or-take, get_or-drop, drop-drop, take-add, take_at, drop_at}
 use native.Mathlib.Decide.{dec_lt}
-use native.Mathlib.Numerals.{add-one, add-two, add-three}
-use native.Mathlib.Omega.{arith}
-use mathlib.Core.Path.{◌≡◌, refl, sym, ap, ◌∙◌}
-use mathlib.Core.List.{List, [], ◌∷◌, ◌++◌, append_assoc, append-nil}
-use lib.ListN.{length, get_or, take, drop, set, replicate, length-append, length-drop, length-set, length-replicate, take-append-drop, replicate-append-replicate, get_or-append}
-use lib.Seq.{length-take-le, take-suc, append_snoc, get_or-take, get_or-drop, drop-drop, take-add, set_at, take_at, drop_at, sets-eq, paste, paste-zero, paste-suc, take-paste, drop-paste, slice, slice_empty, slice-cons}
+use native.Mathlib.Numerals.{add-two, add-three}
+use lib.ListN.{get_or, set, length-replicate, replicate-append-replicate, get_or-append}
+use lib.Seq.{append_snoc, set_at, sets-eq, paste, paste-zero, paste-suc, take-paste, drop-paste, slice, slice_empty, slice-cons}
 use borrow.Rule.Slice.PartMut.{put_mid}
 use Rattle.extents_meaning.specs.Runs.{Run, run_of}
 use Rattle.extents_meaning.specs.Maps.{fours}

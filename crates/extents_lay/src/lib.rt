@@ -15,9 +15,9 @@ use extents_map::locate::Side;
 
 // Gives a range a cell, 0 to clear the range, where the new map fits its space. Answers whether the new map fits.
 pub fn lay(map: &mut [u32], start: u32, end: u32, cell: u32) -> bool
-    requires map_value { (lawful map.old ≡ true) × (start < end) }
-    requires fact { (cell ≡ 0) ⊎ ((1 ≤ number_in cell) × (number_in cell ≤ ROWS)) }
-    ensures value { result ≡ leb (length (runs_of (overwrite start (end - start) cell (bytes_of map.old)))) (space_in map.old) }
+    requires lawful_map { (lawful map.old ≡ true) × (start < end) }
+    requires legal_cell { (cell ≡ 0) ⊎ ((1 ≤ number_in cell) × (number_in cell ≤ ROWS)) }
+    ensures answer { result ≡ leb (length (runs_of (overwrite start (end - start) cell (bytes_of map.old)))) (space_in map.old) }
     ensures map_after { map.new ≡ cond result (map_for (space_in map.old) (overwrite start (end - start) cell (bytes_of map.old))) map.old }
 {
     let all = locate::runs_in(map);
@@ -154,8 +154,8 @@ fn right_side(map: &[u32], first: usize, behind: usize, end: u32, cell: u32) -> 
 // A range of cell 0 leaves no run.
 fn middle_length(from: u32, to: u32, cell: u32) -> u32
     requires { from ≤ to }
-    ensures value { cell ≡ 0 → result ≡ 0 }
-    ensures value_2 { 1 ≤ cell → result ≡ to - from }
+    ensures cleared { cell ≡ 0 → result ≡ 0 }
+    ensures covered { 1 ≤ cell → result ≡ to - from }
 {
     if cell == 0 {
         return 0;
@@ -182,8 +182,8 @@ fn count_parts(left: Side, middle: u32, right: Side) -> usize
 
 // Moves the numbers from `from` to `end` to the place `to`, and puts 0 behind them as far as numbers stood. Behind `end` all is 0.
 fn move_to(map: &mut [u32], from: usize, end: usize, to: usize)
-    requires from_le_end { (from ≤ end) × (end ≤ length map.old) × (to + (end - from) ≤ length map.old) }
-    requires map_value { drop end map.old ≡ replicate (length map.old - end) 0 }
+    requires move_inside { (from ≤ end) × (end ≤ length map.old) × (to + (end - from) ≤ length map.old) }
+    requires zeros_behind { drop end map.old ≡ replicate (length map.old - end) 0 }
     ensures { map.new ≡ take to map.old
         ++ (take (end - from) (drop from map.old) ++ replicate (length map.old - to - (end - from)) 0) }
 {
@@ -226,8 +226,8 @@ pub fn clear_between(map: &mut [u32], from: usize, to: usize)
 // Puts a run behind the first i runs, if the run has a length, and answers the place behind.
 fn put_part(map: &mut [u32], i: usize, start: u32, length: u32, cell: u32) -> usize
     requires { 4 * (i + min length 1) ≤ size_of map.old }
-    ensures value { result ≡ i + min length 1 }
-    ensures by_index { ((ps : List Run) → take (4 * i) map.old ≡ fours ps → take (4 * result) map.new ≡ fours (ps ++ part_of start length cell))
+    ensures answer { result ≡ i + min length 1 }
+    ensures runs_put { ((ps : List Run) → take (4 * i) map.old ≡ fours ps → take (4 * result) map.new ≡ fours (ps ++ part_of start length cell))
         × ((k : ℕ) → result ≤ k → drop (4 * k) map.new ≡ drop (4 * k) map.old) }
 {
     if length == 0 {

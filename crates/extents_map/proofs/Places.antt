@@ -1,11 +1,7 @@
 -- The numbers of a run in a lawful map, and how many runs it has.
-use Prim.Native.Nat.{ℕ, suc, ◌+◌, ◌*◌, ◌-◌, ◌≤◌, ◌<◌}
-use native.Mathlib.Omega.{arith}
-use mathlib.Core.Path.{◌≡◌, refl, sym, ap, ◌∙◌}
-use mathlib.Core.Bool.{true}
-use mathlib.Core.List.{List, [], append-nil}
-use lib.ListN.{length, get_or, take, drop}
-use lib.Seq.{split_at, length-take-le, get_or-drop, drop-cons}
+use Rattle.std.proofs.Common.{ℕ, suc, ◌+◌, ◌*◌, ◌-◌, ◌≤◌, ◌<◌, arith, ◌≡◌, refl, sym, ap, ◌∙◌, true, List, [], append-nil, length, take, drop, length-take-le, get_or-drop, drop-cons}
+use lib.ListN.{get_or}
+use lib.Seq.{split_at}
 use Rattle.rows.specs.Limits.{OFFSET_MAX}
 use Rattle.extents_meaning.specs.Runs.{run_of}
 use Rattle.extents_meaning.specs.Maps.{space_in, runs, lawful}

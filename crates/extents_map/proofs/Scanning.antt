@@ -1,16 +1,11 @@
 -- Scans of one map: whether numbers are all 0, and the numbers of a run that may follow.
-use Prim.Native.Nat.{ℕ, ◌+◌, ◌*◌, ◌≤◌, ◌<◌}
+use Rattle.std.proofs.Common.{ℕ, ◌+◌, ◌*◌, ◌≤◌, ◌<◌, add-one, arith, ◌≡◌, sym, ap, ◌∙◌, Bool, false, not, ◌&&◌, List, length, drop, drop_of_length-le, drop-cons, bit_or, eq-eqb, ne_eqb}
 use native.Mathlib.Decide.{ℕ_discrete}
-use native.Mathlib.Numerals.{add-one}
-use native.Mathlib.Omega.{arith}
-use mathlib.Core.Path.{◌≡◌, sym, ap, ◌∙◌}
-use mathlib.Core.Bool.{Bool, false, not, ◌&&◌, and-true, and-false, and_assoc}
-use mathlib.Core.List.{List}
-use lib.ListN.{length, get_or, drop, drop_of_length-le}
-use lib.Seq.{drop-cons}
+use mathlib.Core.Bool.{and-true, and-false, and_assoc}
+use lib.ListN.{get_or}
 use lib.Dec.{eqb}
-use lib.Bits.{bit_or, or_zero_r, or_add_and, and_le_l}
-use borrow.Author.Tests.{not-false, eq-eqb, ne_eqb}
+use lib.Bits.{or_zero_r, or_add_and, and_le_l}
+use borrow.Author.Tests.{not-false}
 use Rattle.extents_meaning.specs.Maps.{all_zero}
 use Rattle.extents_meaning.proofs.Trips.{May, may_out, follows_at}
 

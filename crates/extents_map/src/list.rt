@@ -14,9 +14,9 @@ struct Piece {
 
 // Puts the pieces of a range of a map into a slice that has room for them, and answers their count.
 pub fn list(map: &[u32], from: u32, to: u32, out: &mut [u32]) -> usize
-    requires map_value { (lawful map.now ≡ true) × (from ≤ to) }
-    requires from_in_bounds { 3 * length (pieces_of (bytes_of map.now) from (to - from)) ≤ length out.old }
-    ensures value { result ≡ length (pieces_of (bytes_of map.now) from (to - from)) }
+    requires lawful_map { (lawful map.now ≡ true) × (from ≤ to) }
+    requires list_room { 3 * length (pieces_of (bytes_of map.now) from (to - from)) ≤ length out.old }
+    ensures answer { result ≡ length (pieces_of (bytes_of map.now) from (to - from)) }
     ensures out_after { out.new ≡ listed_in (pieces_of (bytes_of map.now) from (to - from)) out.old }
 {
     let mut x = from;

@@ -59,9 +59,9 @@ pub fn cell_at(map: &[u32], i: usize) -> u32
 // The first run that ends behind byte x.
 pub fn first_past(map: &[u32], all: usize, x: u32) -> usize
     requires { (lawful map.now ≡ true) × (all ≡ length (runs map.now)) }
-    ensures upper_bound { result ≤ all }
-    ensures result_bound { end_of (run_before (runs map.now) result) ≤ x }
-    ensures x_bound { result < all → x < end_of (run_no (runs map.now) result) }
+    ensures within { result ≤ all }
+    ensures passed { end_of (run_before (runs map.now) result) ≤ x }
+    ensures not_passed { result < all → x < end_of (run_no (runs map.now) result) }
 {
     let mut lo = 0;
     let mut hi = all;

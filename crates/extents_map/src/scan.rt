@@ -233,8 +233,8 @@ pub fn see_both(map: &[u32], i: usize, other: &[u32], j: usize, mix: Mix, x: u32
 
 // How many runs a mix of two maps has from one byte to another.
 pub fn count(map: &[u32], below: &[u32], mix: Mix, from: u32, to: u32) -> usize
-    requires map_value { (lawful map.now ≡ true) × (lawful below.now ≡ true) }
-    requires from_le_to { (from ≤ to) × (mix.start ≤ mix.end) }
+    requires lawful_map { (lawful map.now ≡ true) × (lawful below.now ≡ true) }
+    requires rising { (from ≤ to) × (mix.start ≤ mix.end) }
     ensures { result ≡ length (runs_from (to - from) from (mix_in mix (bytes_of map.now) (bytes_of below.now))) }
 {
     let mut x = from;

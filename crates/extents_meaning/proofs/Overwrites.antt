@@ -1,6 +1,5 @@
 -- A range written over some bytes.
-use Prim.Native.Nat.{ℕ, ◌+◌, ◌≤◌, ◌<◌}
-use mathlib.Core.Path.{◌≡◌}
+use Rattle.std.proofs.Common.{ℕ, ◌+◌, ◌≤◌, ◌<◌, ◌≡◌}
 use Rattle.extents_meaning.specs.Cells.{Bytes, overwrite}
 use Rattle.extents_meaning.proofs.Longest.{range-in, range-before, range-behind}
 

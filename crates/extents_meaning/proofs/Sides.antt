@@ -1,13 +1,8 @@
 -- Maps side by side in a slice: putting one leaves the others.
-use Prim.Native.Nat.{ℕ, zero, suc, ◌+◌, ◌*◌, ◌-◌, min, ◌≤◌, ◌<◌}
-use native.Mathlib.Omega.{arith}
+use Rattle.std.proofs.Common.{ℕ, zero, suc, ◌+◌, ◌*◌, ◌-◌, min, ◌≤◌, ◌<◌, arith, mul-le-mul_right, ◌≡◌, refl, sym, ap, ◌∙◌, ◌⊎◌, inl, inr, List, [], ◌∷◌, ◌++◌, length, take, drop, length-append, length-take, length-drop, take-append-drop, length-take-le, take_at, drop_at, ext_get_or, take-add, get_or-take, get_or-drop, get_or-append-add}
 use native.Mathlib.Decide.{dec_lt}
-use native.Mathlib.Nat.{mul-le-mul_right}
-use mathlib.Core.Path.{◌≡◌, refl, sym, ap, ◌∙◌}
-use mathlib.Core.Logic.{◌⊎◌, inl, inr}
-use mathlib.Core.List.{List, [], ◌∷◌, ◌++◌}
-use lib.ListN.{length, take, drop, get_or, length-append, length-take, length-drop, get_or-append, take-append-drop}
-use lib.Seq.{length-take-le, take_at, drop_at, ext_get_or, take-add, take-append-le, get_or-take, get_or-drop, get_or-append-add}
+use lib.ListN.{get_or, get_or-append}
+use lib.Seq.{take-append-le}
 use Rattle.extents_meaning.specs.Maps.{with_part, map_at, with_map}
 
 -- ---- A part put into a list

@@ -1,10 +1,6 @@
 -- Pieces as numbers, three for each: at the front of a slice they tell the pieces.
-use Prim.Native.Nat.{ℕ, suc, ◌+◌, ◌*◌}
-use native.Mathlib.Omega.{arith}
-use mathlib.Core.Path.{◌≡◌, refl, sym, ap, ◌∙◌}
-use mathlib.Core.List.{List, [], ◌∷◌, ◌++◌}
-use lib.ListN.{length, get_or, take, drop}
-use lib.Seq.{take_at}
+use Rattle.std.proofs.Common.{ℕ, suc, ◌+◌, ◌*◌, arith, ◌≡◌, refl, sym, ap, ◌∙◌, List, [], ◌∷◌, ◌++◌, length, take, drop, take_at}
+use lib.ListN.{get_or}
 use Rattle.extents_meaning.specs.Cells.{Bytes, number_in}
 use Rattle.extents_meaning.specs.Runs.{Run, run_of, pieces_of, Rising}
 use Rattle.extents_meaning.specs.Maps.{threes}

@@ -1,16 +1,11 @@
 -- Maps in slices: what is lawful is what was written from lawful runs, and it is read back as them.
-use Prim.Native.Nat.{ℕ, zero, suc, ◌+◌, ◌*◌, ◌-◌, ◌/◌, ◌%◌, ◌≤◌, ◌<◌}
-use native.Mathlib.Nat.{suc-sub-suc, sub-zero, add-zero}
+use Rattle.std.proofs.Common.{ℕ, zero, suc, ◌+◌, ◌*◌, ◌-◌, ◌/◌, ◌%◌, ◌≤◌, ◌<◌, add-zero, arith, ◌≡◌, refl, sym, ap, ◌∙◌, ◌≢◌, Bool, true, false, cond, not, ◌&&◌, List, [], ◌∷◌, ◌++◌, append_assoc, append-nil, length, drop, replicate, length-append, length-drop, drop_at, get_or-drop, drop-drop, leb-true, eqb-true, le-leb, lt-ltb, le-ltb, eq-eqb, ne_eqb}
+use native.Mathlib.Nat.{suc-sub-suc, sub-zero}
 use native.Mathlib.Decide.{dec_lt}
-use native.Mathlib.Omega.{arith}
-use mathlib.Core.Path.{◌≡◌, refl, sym, ap, ◌∙◌}
-use mathlib.Core.Logic.{◌≢◌}
-use mathlib.Core.Bool.{Bool, true, false, cond, not, ◌&&◌, false≢true}
-use mathlib.Core.List.{List, [], ◌∷◌, ◌++◌, append_assoc, append-nil}
-use lib.ListN.{length, get_or, drop, replicate, length-append, length-replicate, length-drop}
-use lib.Seq.{drop_at, get_or-drop, drop-drop}
+use mathlib.Core.Bool.{false≢true}
+use lib.ListN.{get_or, length-replicate}
 use lib.Dec.{leb, eqb}
-use borrow.Author.Tests.{leb-true, eqb-true, eqb-false, not-true, le-leb, lt-ltb, le-ltb, eq-eqb, ne_eqb}
+use borrow.Author.Tests.{eqb-false, not-true}
 use Rattle.rows.specs.Limits.{ROWS, OFFSET_MAX}
 use Rattle.extents_meaning.specs.Cells.{cell_of, number_in, mark_in, unpublished, in_range}
 use Rattle.extents_meaning.specs.Runs.{Run, run_of, cell_at, Next, Rising, NumbersLegal, Lawful}

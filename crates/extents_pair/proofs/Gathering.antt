@@ -1,12 +1,7 @@
 -- The unpublished runs of a map and what they mean.
-use Prim.Native.Nat.{ℕ, suc, ◌+◌, ◌*◌, ◌≤◌, ◌<◌}
-use native.Mathlib.Omega.{arith}
-use mathlib.Core.Path.{◌≡◌, refl, ap, ◌∙◌}
-use mathlib.Core.Bool.{Bool, true, false, cond, not, ◌&&◌}
-use mathlib.Core.List.{List, [], ◌∷◌}
-use lib.ListN.{length, get_or, drop}
-use lib.Seq.{drop-cons}
-use borrow.Author.Tests.{eqb-true, eqb-false}
+use Rattle.std.proofs.Common.{ℕ, suc, ◌+◌, ◌*◌, ◌≤◌, ◌<◌, arith, ◌≡◌, refl, ap, ◌∙◌, Bool, true, false, cond, not, ◌&&◌, List, [], ◌∷◌, length, drop, drop-cons, eqb-true}
+use lib.ListN.{get_or}
+use borrow.Author.Tests.{eqb-false}
 use Rattle.extents_meaning.specs.Cells.{Bytes, mark_in, unpublished, published, as_published, refreshed}
 use Rattle.extents_meaning.specs.Runs.{Run, cell_at, Lawful}
 use Rattle.extents_meaning.specs.Maps.{no_marks, runs, lawful}

@@ -1,15 +1,8 @@
 -- Parts of a slice that are lent and come back, and the bytes of the maps that they hold.
-use Prim.Native.Nat.{ℕ, ◌+◌, ◌-◌, ◌≤◌, ◌<◌}
-use native.Mathlib.Omega.{arith}
+use Rattle.std.proofs.Common.{ℕ, ◌+◌, ◌-◌, ◌≤◌, ◌<◌, arith, ◌≡◌, sym, ap, ◌∙◌, ◌⊎◌, inl, inr, Bool, true, cond, List, ◌++◌, append_assoc, length, take, drop, length-append, length-drop, take-append-drop, length-take-le, drop-drop, take-add, take_at, drop_at, le-leb}
 use native.Mathlib.Decide.{dec_lt}
-use mathlib.Core.Path.{◌≡◌, sym, ap, ◌∙◌}
-use mathlib.Core.Logic.{◌⊎◌, inl, inr}
-use mathlib.Core.Bool.{Bool, true, cond}
-use mathlib.Core.List.{List, ◌++◌, append_assoc}
-use lib.ListN.{length, take, drop, length-append, length-drop, take-append-drop}
-use lib.Seq.{length-take-le, drop-drop, take-add, take_at, drop_at, take-append-le, drop-append-le}
+use lib.Seq.{take-append-le, drop-append-le}
 use lib.Dec.{leb}
-use borrow.Author.Tests.{le-leb}
 use borrow.Rule.Slice.PartMut.{put_mid}
 use Rattle.rows.specs.Limits.{OFFSET_MAX}
 use Rattle.extents_meaning.specs.Cells.{Bytes}

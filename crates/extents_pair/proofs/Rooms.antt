@@ -1,13 +1,7 @@
 -- How many pieces a range has at most, from the runs of a map.
-use Prim.Native.Nat.{ℕ, zero, suc, ◌+◌, ◌*◌, ◌-◌, ◌/◌, ◌≤◌, ◌<◌, min}
-use native.Mathlib.Omega.{arith}
+use Rattle.std.proofs.Common.{ℕ, zero, suc, ◌+◌, ◌*◌, ◌-◌, ◌/◌, ◌≤◌, ◌<◌, min, arith, ◌≡◌, sym, ap, ◌∙◌, Bool, true, false, List, length, le-ltb, ltb-true, ltb-false}
 use native.Mathlib.Decide.{ℕ_discrete}
-use mathlib.Core.Path.{◌≡◌, sym, ap, ◌∙◌}
-use mathlib.Core.Bool.{Bool, true, false}
-use mathlib.Core.List.{List}
-use lib.ListN.{length}
 use lib.Dec.{ltb}
-use borrow.Author.Tests.{le-ltb, ltb-true, ltb-false}
 use Rattle.rows.specs.Limits.{OFFSET_MAX}
 use Rattle.extents_meaning.specs.Cells.{Bytes, number_in}
 use Rattle.extents_meaning.specs.Runs.{Run, runs_from, runs_of, pieces_of}

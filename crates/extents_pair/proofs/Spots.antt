@@ -1,11 +1,7 @@
 -- The four numbers of a run in a slice.
-use Prim.Native.Nat.{ℕ, suc, ◌+◌, ◌*◌, ◌-◌, ◌≤◌, ◌<◌}
-use native.Mathlib.Omega.{arith}
-use mathlib.Core.Path.{◌≡◌, ◌∙◌}
-use mathlib.Core.Bool.{true}
-use mathlib.Core.List.{List}
-use lib.ListN.{length, get_or, take, drop, replicate}
-use lib.Seq.{length-take-le, get_or-append-add, split_at}
+use Rattle.std.proofs.Common.{ℕ, suc, ◌+◌, ◌*◌, ◌-◌, ◌≤◌, ◌<◌, arith, ◌≡◌, ◌∙◌, true, List, length, take, drop, replicate, length-take-le, get_or-append-add}
+use lib.ListN.{get_or}
+use lib.Seq.{split_at}
 use Rattle.extents_meaning.specs.Cells.{number_in, mark_in}
 use Rattle.extents_meaning.specs.Runs.{Run, run_of}
 use Rattle.extents_meaning.specs.Maps.{fours, map_of, space_in, runs, lawful}

@@ -66,8 +66,8 @@ fn map_at(maps: &[u32], space: usize, k: usize) -> &[u32]
 
 // How many runs a mix of a view, the published map and a range has from one byte to another.
 fn count(maps: &[u32], pair: Pair, mix: Mix, from: u32, to: u32) -> usize
-    requires maps_value { two_maps_in pair maps.now ≡ true }
-    requires from_le_to { (from ≤ to) × (mix.start ≤ mix.end) }
+    requires lawful_maps { two_maps_in pair maps.now ≡ true }
+    requires rising { (from ≤ to) × (mix.start ≤ mix.end) }
     ensures { result ≡ length (runs_from (to - from) from (mix_in mix (view_in pair maps.now) (below_in pair maps.now))) }
 {
     let view = map_at(maps, pair.space, pair.view);
@@ -77,8 +77,8 @@ fn count(maps: &[u32], pair: Pair, mix: Mix, from: u32, to: u32) -> usize
 
 // How many runs of map k are unpublished.
 pub fn own_runs(maps: &[u32], space: usize, k: usize) -> usize
-    requires space_in_bounds { (k + 1) * (4 * space) ≤ length maps.now }
-    requires maps_value { lawful (map_at space k maps.now) ≡ true }
+    requires map_inside { (k + 1) * (4 * space) ≤ length maps.now }
+    requires lawful_maps { lawful (map_at space k maps.now) ≡ true }
     ensures { result ≡ length (marked (runs (map_at space k maps.now))) }
 {
     marked_in(map_at(maps, space, k))
@@ -87,8 +87,8 @@ pub fn own_runs(maps: &[u32], space: usize, k: usize) -> usize
 // Does a mix of a view, the published map and a range fit a map's space? The walk counts its runs only where the most that there can be are too
 // many.
 pub fn fits(maps: &[u32], pair: Pair, mode: Mode, start: u32, end: u32, cell: u32) -> bool
-    requires maps_value { two_maps_in pair maps.now ≡ true }
-    requires mode_value { (makes_map mode ≡ true) × (start ≤ end) × OwnCounted pair maps.now }
+    requires lawful_maps { two_maps_in pair maps.now ≡ true }
+    requires known_mode { (makes_map mode ≡ true) × (start ≤ end) × OwnCounted pair maps.now }
     ensures { result ≡ leb (length (runs_from (OFFSET_MAX - 0) 0 (mix mode start (end - start) cell
         (view_in pair maps.now) (below_in pair maps.now)))) pair.space }
 {
@@ -108,8 +108,8 @@ pub fn fits(maps: &[u32], pair: Pair, mode: Mode, start: u32, end: u32, cell: u3
 // Room for the runs of a mix of a view, the published map and any range that fits a map's space: no more than the most that there can be.
 pub fn room(maps: &[u32], pair: Pair, mode: Mode) -> usize
     requires { (two_maps_in pair maps.now ≡ true) × (makes_map mode ≡ true) × OwnCounted pair maps.now }
-    ensures upper_bound { result ≤ pair.space }
-    ensures by_index { (start n cell : ℕ) → (let runs = length (runs_of (mix mode start n cell
+    ensures within { result ≤ pair.space }
+    ensures fitting_runs { (start n cell : ℕ) → (let runs = length (runs_of (mix mode start n cell
         (view_in pair maps.now) (below_in pair maps.now))) in runs ≤ pair.space → runs ≤ result) }
 {
     let space = pair.space;
@@ -148,8 +148,8 @@ fn is_mark_published(mode: Mode) -> bool
 // Has a range of a view more pieces after a refresh than there is room for? A range has at most two for each run, and one more: the walk counts
 // them only where the room may lack.
 pub fn lacks(maps: &[u32], pair: Pair, from: u32, to: u32, room: usize) -> bool
-    requires maps_value { two_maps_in pair maps.now ≡ true }
-    requires from_le_to { (from ≤ to) × OwnCounted pair maps.now }
+    requires lawful_maps { two_maps_in pair maps.now ≡ true }
+    requires rising { (from ≤ to) × OwnCounted pair maps.now }
     ensures { result ≡ ltb room (length (pieces_of (refreshed
         (view_in pair maps.now) (below_in pair maps.now)) from (to - from))) }
 {
@@ -182,10 +182,10 @@ fn marked_in(map: &[u32]) -> usize
 
 // Gives a range of map k a cell, where the map fits then.
 pub fn lay(maps: &mut [u32], space: usize, k: usize, start: u32, end: u32, cell: u32)
-    requires space_in_bounds { (k + 1) * (4 * space) ≤ length maps.old }
-    requires maps_value { lawful (map_at space k maps.old) ≡ true }
-    requires start_lt_end { (start < end) × ((cell ≡ 0) ⊎ ((1 ≤ number_in cell) × (number_in cell ≤ ROWS))) }
-    requires maps_len_bound { length (runs_of (overwrite start (end - start) cell (bytes_of (map_at space k maps.old)))) ≤ space }
+    requires map_inside { (k + 1) * (4 * space) ≤ length maps.old }
+    requires lawful_maps { lawful (map_at space k maps.old) ≡ true }
+    requires range_and_cell { (start < end) × ((cell ≡ 0) ⊎ ((1 ≤ number_in cell) × (number_in cell ≤ ROWS))) }
+    requires runs_fit { length (runs_of (overwrite start (end - start) cell (bytes_of (map_at space k maps.old)))) ≤ space }
     ensures { maps.new ≡ with_map space k (map_for space (overwrite start (end - start) cell (bytes_of (map_at space k maps.old)))) maps.old }
 {
     let size = 4 * space;
@@ -195,10 +195,10 @@ pub fn lay(maps: &mut [u32], space: usize, k: usize, start: u32, end: u32, cell:
 
 // Puts the pieces of a range of a map into a slice that has room for them.
 pub fn list(maps: &[u32], space: usize, k: usize, from: u32, to: u32, out: &mut [u32]) -> usize
-    requires space_in_bounds { (k + 1) * (4 * space) ≤ length maps.now }
-    requires maps_value { (lawful (map_at space k maps.now) ≡ true) × (from ≤ to) }
-    requires from_in_bounds { 3 * length (pieces_of (bytes_of (map_at space k maps.now)) from (to - from)) ≤ length out.old }
-    ensures value { result ≡ length (pieces_of (bytes_of (map_at space k maps.now)) from (to - from)) }
+    requires map_inside { (k + 1) * (4 * space) ≤ length maps.now }
+    requires lawful_maps { (lawful (map_at space k maps.now) ≡ true) × (from ≤ to) }
+    requires list_room { 3 * length (pieces_of (bytes_of (map_at space k maps.now)) from (to - from)) ≤ length out.old }
+    ensures answer { result ≡ length (pieces_of (bytes_of (map_at space k maps.now)) from (to - from)) }
     ensures out_after { out.new ≡ listed_in (pieces_of (bytes_of (map_at space k maps.now)) from (to - from)) out.old }
 {
     extents_map::list::list(map_at(maps, space, k), from, to, out)

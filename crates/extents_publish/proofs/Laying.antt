@@ -1,14 +1,7 @@
 -- A map in a slice on which runs are laid, and the unpublished runs of a view laid on it, from the first run on.
-use Prim.Native.Nat.{ℕ, suc, ◌+◌, ◌*◌, ◌-◌, ◌≤◌, ◌<◌}
-use native.Mathlib.Omega.{arith}
-use mathlib.Core.Path.{◌≡◌, refl, sym, ap, subst, ◌∙◌}
-use mathlib.Core.Logic.{◌⊎◌, inl, inr}
-use mathlib.Core.Bool.{Bool, true, false, cond, ◌&&◌, false≢true}
-use mathlib.Core.List.{List, ◌∷◌}
-use lib.ListN.{length, take, drop, length-drop}
-use lib.Seq.{drop-cons}
+use Rattle.std.proofs.Common.{ℕ, suc, ◌+◌, ◌*◌, ◌-◌, ◌≤◌, ◌<◌, arith, ◌≡◌, refl, sym, ap, subst, ◌∙◌, ◌⊎◌, inl, inr, Bool, true, false, cond, ◌&&◌, List, ◌∷◌, length, take, drop, length-drop, drop-cons, leb-true, ltb-true, eq-eqb, ne_eqb}
+use mathlib.Core.Bool.{false≢true}
 use lib.Dec.{leb}
-use borrow.Author.Tests.{leb-true, ltb-true, eq-eqb, ne_eqb}
 use borrow.Rule.Slice.PartMut.{put_mid}
 use Rattle.rows.specs.Limits.{OFFSET_MAX}
 use Rattle.rows.proofs.Bools.{and_out}

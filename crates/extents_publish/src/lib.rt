@@ -29,12 +29,12 @@ struct Own {
 // Publishes a view and a range of a row number, 0 where the range is empty, on a published map that fits then. Where a run does not fit between the
 // others that are laid, the map is rewritten from what it is by then.
 pub fn share(maps: &mut [u32], pair: Pair, start: u32, end: u32, number: u32)
-    requires maps_value { two_maps_in pair maps.old ≡ true }
-    requires start_le_end { (start ≤ end) × (start < end → 1 ≤ number) × (number ≤ ROWS) × OwnCounted pair maps.old }
-    requires maps_len_bound { length (runs_of (mix Publish start (end - start) (cell_of number 0) (view_in pair maps.old) (below_in pair maps.old))) ≤ pair.space }
+    requires lawful_maps { two_maps_in pair maps.old ≡ true }
+    requires range_and_number { (start ≤ end) × (start < end → 1 ≤ number) × (number ≤ ROWS) × OwnCounted pair maps.old }
+    requires runs_fit { length (runs_of (mix Publish start (end - start) (cell_of number 0) (view_in pair maps.old) (below_in pair maps.old))) ≤ pair.space }
     ensures maps_after { maps.new ≡ with_map pair.space pair.below
         (map_for pair.space (mix Publish start (end - start) (cell_of number 0) (view_in pair maps.old) (below_in pair maps.old))) maps.old }
-    ensures maps_after_2 { (two_maps_in pair maps.new ≡ true) × OwnCounted pair maps.new }
+    ensures lawful_after { (two_maps_in pair maps.new ≡ true) × OwnCounted pair maps.new }
 {
     let space = pair.space;
     let view = pair.view;
@@ -61,7 +61,7 @@ fn lay_all(maps: &mut [u32], size: usize, v: usize, w: usize, own: usize, range:
     requires { Layable size v w own range.cell maps.old }
     ensures below { result ≡ true → Below size w (λ b c. c ≡ overwrite range.start (range.end - range.start) range.cell
         (published_in size v w maps.old) b) maps.old maps.new }
-    ensures below_2 { result ≡ false → Below size w (λ b c. (c ≡ published_in size v w maps.old b) ⊎ (c ≡ bytes_of (part_at w size maps.old) b))
+    ensures stopped { result ≡ false → Below size w (λ b c. (c ≡ published_in size v w maps.old b) ⊎ (c ≡ bytes_of (part_at w size maps.old) b))
         maps.old maps.new }
 {
     let mut left = own;
@@ -101,8 +101,8 @@ fn own_at(map: &[u32], i: usize) -> Own
 
 // Gives a range of the map at w a cell, where the map fits then. Answers whether it did; a range without bytes fits.
 fn put(maps: &mut [u32], size: usize, w: usize, start: u32, end: u32, cell: u32) -> bool
-    requires size_in_bounds { (w + size ≤ length maps.old) × (lawful (part_at w size maps.old) ≡ true) }
-    requires fact { (cell ≡ 0) ⊎ ((1 ≤ number_in cell) × (number_in cell ≤ ROWS)) }
+    requires part_inside { (w + size ≤ length maps.old) × (lawful (part_at w size maps.old) ≡ true) }
+    requires legal_cell { (cell ≡ 0) ⊎ ((1 ≤ number_in cell) × (number_in cell ≤ ROWS)) }
     ensures below { result ≡ true → Below size w (λ b c. c ≡ overwrite start (end - start) cell (bytes_of (part_at w size maps.old)) b)
         maps.old maps.new }
     ensures maps_unchanged { result ≡ false → maps.new ≡ maps.old }

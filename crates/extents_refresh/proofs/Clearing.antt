@@ -1,11 +1,7 @@
 -- Clearing the marks of a map one by one, where no neighbour joins: what the loop keeps.
-use Prim.Native.Nat.{ℕ, zero, suc, ◌+◌, ◌*◌, ◌-◌, ◌≤◌, ◌<◌}
-use native.Mathlib.Omega.{arith}
-use mathlib.Core.Path.{◌≡◌, refl, sym, ap, ◌∙◌}
-use mathlib.Core.Bool.{Bool, true, false, cond}
-use mathlib.Core.List.{List, [], ◌∷◌, ◌++◌}
-use lib.ListN.{length, get_or, drop, set, replicate, length-set, length-drop}
-use lib.Seq.{set-append_left, drop-set-lt}
+use Rattle.std.proofs.Common.{ℕ, zero, suc, ◌+◌, ◌*◌, ◌-◌, ◌≤◌, ◌<◌, arith, ◌≡◌, refl, sym, ap, ◌∙◌, Bool, true, false, cond, List, [], ◌∷◌, ◌++◌, length, drop, replicate, length-set, length-drop, drop-set-lt}
+use lib.ListN.{get_or, set}
+use lib.Seq.{set-append_left}
 use Rattle.rows.specs.Limits.{OFFSET_MAX}
 use Rattle.extents_meaning.specs.Cells.{number_in, mark_in, cleared, in_range, as_published}
 use Rattle.extents_meaning.specs.Runs.{Run, run_of, cell_at, Next, Rising, NumbersLegal, Lawful}

@@ -1,11 +1,7 @@
 -- A map copied over another of the slice, as far as one of them has runs: what the loop keeps.
-use Prim.Native.Nat.{ℕ, suc, ◌+◌, ◌*◌, ◌-◌, ◌≤◌, ◌<◌, max}
-use native.Mathlib.Omega.{arith}
-use mathlib.Core.Path.{◌≡◌, sym, ap, ◌∙◌}
-use mathlib.Core.Bool.{true}
-use mathlib.Core.List.{List, ◌++◌, append_assoc}
-use lib.ListN.{length, take, drop, get_or, set, replicate, length-append, length-drop, length-replicate, take-append-drop}
-use lib.Seq.{length-take-le, take-suc, drop-cons, get_or-take, get_or-drop, set_at, ext_get_or}
+use Rattle.std.proofs.Common.{ℕ, suc, ◌+◌, ◌*◌, ◌-◌, ◌≤◌, ◌<◌, max, arith, ◌≡◌, sym, ap, ◌∙◌, true, List, ◌++◌, append_assoc, length, take, drop, replicate, length-append, length-drop, take-append-drop, length-take-le, take-suc, drop-cons, get_or-take, get_or-drop, ext_get_or}
+use lib.ListN.{get_or, set, length-replicate}
+use lib.Seq.{set_at}
 use Rattle.rows.proofs.Zeros.{zeros}
 use Rattle.extents_meaning.specs.Maps.{runs, lawful, map_at, with_map}
 use Rattle.extents_meaning.proofs.Trips.{lawful-map}

@@ -1,12 +1,6 @@
 -- A view refreshed or marked published: what the copy and the rewrite leave.
-use Prim.Native.Nat.{ℕ, ◌+◌, ◌*◌, ◌-◌, ◌≤◌}
-use native.Mathlib.Omega.{arith}
-use mathlib.Core.Path.{◌≡◌, refl, sym, ap, ◌∙◌}
-use mathlib.Core.Bool.{true}
-use mathlib.Core.List.{List}
-use lib.ListN.{length}
+use Rattle.std.proofs.Common.{ℕ, ◌+◌, ◌*◌, ◌-◌, ◌≤◌, arith, ◌≡◌, refl, sym, ap, ◌∙◌, true, List, length, le-leb}
 use lib.Dec.{leb}
-use borrow.Author.Tests.{le-leb}
 use borrow.Rule.Slice.PartMut.{put_mid}
 use Rattle.extents_meaning.specs.Cells.{Bytes, cleared, as_published, refreshed}
 use Rattle.extents_meaning.specs.Runs.{runs_of}

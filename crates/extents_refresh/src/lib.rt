@@ -15,8 +15,8 @@ use extents_pair::Pair;
 
 // Refreshes a view that fits then. Without an unpublished run the published map is copied.
 pub fn refresh(maps: &mut [u32], pair: Pair)
-    requires maps_value { (two_maps_in pair maps.old ≡ true) × OwnCounted pair maps.old }
-    requires maps_len_bound { length (runs_of (refreshed (view_in pair maps.old) (below_in pair maps.old))) ≤ pair.space }
+    requires lawful_maps { (two_maps_in pair maps.old ≡ true) × OwnCounted pair maps.old }
+    requires runs_fit { length (runs_of (refreshed (view_in pair maps.old) (below_in pair maps.old))) ≤ pair.space }
     ensures { maps.new ≡ with_map pair.space pair.view
         (map_for pair.space (refreshed (view_in pair maps.old) (below_in pair maps.old))) maps.old }
 {
@@ -113,8 +113,8 @@ fn meets(map: &[u32], i: usize) -> bool
 
 // Copies map j to the place of map k, as far as one of them has runs.
 pub fn copy(maps: &mut [u32], space: usize, j: usize, k: usize)
-    requires space_in_bounds { ((j + 1) * (4 * space) ≤ length maps.old) × ((k + 1) * (4 * space) ≤ length maps.old) × (j ≡ k → ⊥) }
-    requires maps_value { (lawful (map_at space j maps.old) ≡ true) × (lawful (map_at space k maps.old) ≡ true) }
+    requires map_inside { ((j + 1) * (4 * space) ≤ length maps.old) × ((k + 1) * (4 * space) ≤ length maps.old) × (j ≡ k → ⊥) }
+    requires lawful_maps { (lawful (map_at space j maps.old) ≡ true) × (lawful (map_at space k maps.old) ≡ true) }
     ensures { maps.new ≡ with_map space k (map_at space j maps.old) maps.old }
 {
     let size = 4 * space;

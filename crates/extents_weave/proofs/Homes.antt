@@ -1,10 +1,5 @@
 -- Slices that differ in a part: the part lent and home again.
-use Prim.Native.Nat.{ℕ, ◌+◌, ◌-◌, ◌≤◌}
-use native.Mathlib.Omega.{arith}
-use mathlib.Core.Path.{◌≡◌, sym, ap, ◌∙◌}
-use mathlib.Core.Logic.{◌⊎◌}
-use mathlib.Core.List.{List}
-use lib.ListN.{length}
+use Rattle.std.proofs.Common.{ℕ, ◌+◌, ◌-◌, ◌≤◌, arith, ◌≡◌, sym, ap, ◌∙◌, ◌⊎◌, List, length}
 use borrow.Rule.Slice.PartMut.{put_mid}
 use Rattle.extents_meaning.specs.Maps.{part_at, with_part}
 use Rattle.extents_pair.proofs.Parts.{home, part_length, with_part_lem, with_length, part-with, with-with, part_apart}

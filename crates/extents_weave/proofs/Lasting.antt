@@ -1,9 +1,5 @@
 -- The results of every mode last: what a byte needs of the target is not lost where another byte has the same result.
-use Prim.Native.Nat.{ℕ, suc, ◌-◌}
-use native.Mathlib.Omega.{arith}
-use mathlib.Core.Path.{◌≡◌, refl}
-use mathlib.Core.Bool.{Bool, true, false, cond}
-use borrow.Author.Tests.{eqb-true}
+use Rattle.std.proofs.Common.{ℕ, suc, ◌-◌, arith, ◌≡◌, refl, Bool, true, false, cond, eqb-true}
 use Rattle.extents_meaning.specs.Cells.{Bytes, unpublished, cleared, number_in, mark_in, in_range}
 use Rattle.extents_map.specs.Mixes.{mixed, becomes, becomes_in}
 use Rattle.extents_map.specs.declared.scan.Mode.{Mode}

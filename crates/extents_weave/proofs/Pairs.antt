@@ -1,12 +1,5 @@
 -- A pair of maps as the two parts of a slice that a rewrite takes.
-use Prim.Native.Nat.{ℕ, ◌+◌, ◌*◌, ◌-◌, ◌/◌, ◌≤◌}
-use native.Mathlib.Omega.{arith}
-use native.Mathlib.Nat.{add-mul, one-mul}
-use mathlib.Core.Path.{◌≡◌, sym, ap, ◌∙◌}
-use mathlib.Core.Logic.{◌⊎◌, inl, inr}
-use mathlib.Core.Bool.{true, false}
-use mathlib.Core.List.{List}
-use lib.ListN.{length}
+use Rattle.std.proofs.Common.{ℕ, ◌+◌, ◌*◌, ◌-◌, ◌/◌, ◌≤◌, arith, add-mul, one-mul, ◌≡◌, sym, ap, ◌∙◌, ◌⊎◌, inl, inr, true, false, List, length}
 use Rattle.extents_meaning.specs.Cells.{Bytes}
 use Rattle.extents_meaning.specs.Runs.{runs_of}
 use Rattle.extents_meaning.specs.Maps.{map_of, map_for, lawful, part_at, with_map, with_part}

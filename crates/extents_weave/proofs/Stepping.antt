@@ -1,10 +1,6 @@
 -- A step from a look at both maps.
-use Prim.Native.Nat.{ℕ, ◌-◌, ◌≤◌, ◌<◌}
-use mathlib.Core.Path.{◌≡◌, sym, ◌∙◌}
-use mathlib.Core.Bool.{Bool, true, false, not}
-use mathlib.Core.List.{List}
+use Rattle.std.proofs.Common.{ℕ, ◌-◌, ◌≤◌, ◌<◌, ◌≡◌, sym, ◌∙◌, Bool, true, false, not, List, eq-eqb, ne_eqb}
 use lib.Dec.{eqb}
-use borrow.Author.Tests.{eq-eqb, ne_eqb}
 use Rattle.rows.specs.Limits.{OFFSET_MAX}
 use Rattle.extents_map.specs.Cursors.{BothLooked}
 use Rattle.extents_map.specs.Mixes.{becomes}

@@ -38,9 +38,9 @@ struct Step {
 
 // Gives every byte of the view, or of the published map where the mode is Publish, the cell that a mix makes of it, where the result fits.
 pub fn weave(maps: &mut [u32], pair: Pair, mix: Mix)
-    requires maps_value { (two_maps_in pair maps.old ≡ true) × OwnCounted pair maps.old }
-    requires mode_value { (makes_map mix.mode ≡ true) × (mix.start ≤ mix.end) }
-    requires maps_len_bound { length (runs_of (mix_in mix (view_in pair maps.old) (below_in pair maps.old))) ≤ pair.space }
+    requires lawful_maps { (two_maps_in pair maps.old ≡ true) × OwnCounted pair maps.old }
+    requires known_mode { (makes_map mix.mode ≡ true) × (mix.start ≤ mix.end) }
+    requires runs_fit { length (runs_of (mix_in mix (view_in pair maps.old) (below_in pair maps.old))) ≤ pair.space }
     ensures { maps.new ≡ with_map pair.space (target_in mix pair)
         (map_for pair.space (mix_in mix (view_in pair maps.old) (below_in pair maps.old))) maps.old }
 {

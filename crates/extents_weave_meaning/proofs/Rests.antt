@@ -1,10 +1,6 @@
 -- The runs of bytes from x up to a top, and how a walk takes one off.
-use Prim.Native.Nat.{ℕ, ◌+◌, ◌-◌, ◌≤◌, ◌<◌}
-use native.Mathlib.Omega.{arith}
+use Rattle.std.proofs.Common.{ℕ, ◌+◌, ◌-◌, ◌≤◌, ◌<◌, arith, ◌≡◌, sym, ap, subst, ◌∙◌, List, [], ◌∷◌, eq-eqb, ne_eqb}
 use native.Mathlib.Decide.{dec_lt}
-use mathlib.Core.Path.{◌≡◌, sym, ap, subst, ◌∙◌}
-use mathlib.Core.List.{List, [], ◌∷◌}
-use borrow.Author.Tests.{eq-eqb, ne_eqb}
 use Rattle.extents_meaning.specs.Cells.{Bytes}
 use Rattle.extents_meaning.specs.Runs.{Run, run_of, cell_at, runs_from, Rising}
 use Rattle.extents_meaning.proofs.Longest.{cell-first, cell-behind, mean-before, mean-behind, rising-from, mean-in, unique_from, rising-earlier}

@@ -1,13 +1,10 @@
 -- Laws of the questions that filling the counts asks: the processes of the first rows, the first No, and what follows from Yes to all three.
-use Prim.Native.Nat.{ℕ, zero, suc, ◌*◌, ◌-◌, ◌≤◌, ◌<◌}
+use Rattle.std.proofs.Common.{ℕ, zero, suc, ◌*◌, ◌-◌, ◌≤◌, ◌<◌, arith, ◌≡◌, refl, sym, ap, ◌∙◌, Bool, true, false, cond, ◌&&◌, List, ◌++◌, length, replicate, lt-ltb, le-ltb, ltb-true, le-leb, leb-true, ne_eqb, eqb-true}
 use native.Mathlib.Decide.{dec_lt}
-use native.Mathlib.Omega.{arith}
-use mathlib.Core.Path.{◌≡◌, refl, sym, ap, ◌∙◌}
-use mathlib.Core.Bool.{Bool, true, false, cond, ◌&&◌, and-true, and-false}
-use mathlib.Core.List.{List, ◌++◌}
-use lib.ListN.{length, get_or, replicate}
+use mathlib.Core.Bool.{and-true, and-false}
+use lib.ListN.{get_or}
 use lib.Dec.{leb, ltb, eqb}
-use borrow.Author.Tests.{lt-ltb, le-ltb, ltb-true, le-leb, lt-leb, leb-true, ne_eqb, eqb-true, eqb-false}
+use borrow.Author.Tests.{lt-leb, eqb-false}
 use Rattle.rows.specs.Refusals.{SHORT_SLICE, LIMITS, RANGE}
 use Rattle.rows.specs.Limits.{ROWS, PROCESSES}
 use Rattle.rows.specs.Rows.{rows_in, row_in}

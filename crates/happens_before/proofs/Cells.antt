@@ -1,13 +1,8 @@
 -- Cells of the counts' slice: the values of a function, and a row of them put into a list.
-use Prim.Native.Nat.{ℕ, zero, suc, ◌+◌, ◌≤◌, ◌<◌}
-use native.Mathlib.Nat.{add-zero}
-use native.Mathlib.Numerals.{add-one}
+use Rattle.std.proofs.Common.{ℕ, zero, suc, ◌+◌, ◌≤◌, ◌<◌, add-zero, add-one, arith, ◌≡◌, refl, sym, ap, ap₂, ◌∙◌, List, [], ◌∷◌, ◌++◌, append_assoc, length, take, drop, length-append, length-drop, take-append-drop, length-take-le, take-suc, drop-cons, drop-drop, get_or-append-add, get_or-take, get_or-drop, take_at, drop_at}
 use native.Mathlib.Decide.{dec_lt}
-use native.Mathlib.Omega.{arith}
-use mathlib.Core.Path.{◌≡◌, refl, sym, ap, ap₂, ◌∙◌}
-use mathlib.Core.List.{List, [], ◌∷◌, ◌++◌, append_assoc}
-use lib.ListN.{length, get_or, take, drop, set, length-append, length-drop, get_or-append, take-append-drop}
-use lib.Seq.{length-take-le, take-suc, drop-cons, drop-drop, get_or-append-add, get_or-take, get_or-drop, get_or_at, set_at, take_at, drop_at}
+use lib.ListN.{get_or, set, get_or-append}
+use lib.Seq.{get_or_at, set_at}
 use Rattle.rows.specs.Counting.{values}
 
 -- ---- The values of a function

@@ -1,13 +1,8 @@
 -- Filling the counts row after row: what the slice holds after some rows, and one row more.
-use Prim.Native.Nat.{ℕ, zero, suc, ◌+◌, ◌*◌, ◌-◌, ◌≤◌, ◌<◌}
-use native.Mathlib.Nat.{zero-mul, suc-mul}
+use Rattle.std.proofs.Common.{ℕ, zero, suc, ◌+◌, ◌*◌, ◌-◌, ◌≤◌, ◌<◌, zero-mul, suc-mul, arith, ◌≡◌, refl, sym, ap, ◌∙◌, cond, ◌||◌, List, ◌++◌, append_assoc, length, take, drop, replicate, length-append, take_at, drop_at, get_or-append-add}
 use native.Mathlib.Decide.{dec_lt}
-use native.Mathlib.Omega.{arith}
-use mathlib.Core.Path.{◌≡◌, refl, sym, ap, ◌∙◌}
-use mathlib.Core.Bool.{cond, ◌||◌}
-use mathlib.Core.List.{List, ◌++◌, append_assoc}
-use lib.ListN.{length, get_or, take, drop, replicate, length-append, length-replicate, replicate-append-replicate, get_or-append}
-use lib.Seq.{take_at, drop_at, get_or-append-add, drop-append-add}
+use lib.ListN.{get_or, length-replicate, replicate-append-replicate, get_or-append}
+use lib.Seq.{drop-append-add}
 use lib.Dec.{eqb}
 use Rattle.rows.specs.declared.Row.{Row}
 use Rattle.rows.specs.Rows.{rows_in, row_at, row_in}

@@ -1,16 +1,11 @@
 -- The last row of a process, the rows that belong together with a row, and a row's counts joined from those of other rows.
-use Prim.Native.Nat.{ℕ, zero, suc, ◌+◌, ◌*◌, ◌-◌, ◌≤◌, ◌<◌, max}
-use native.Mathlib.Nat.{max-zero, zero-max, max-le, add-zero, sub-add-eq-max}
+use Rattle.std.proofs.Common.{ℕ, zero, suc, ◌+◌, ◌*◌, ◌-◌, ◌≤◌, ◌<◌, max, add-zero, arith, ◌≡◌, refl, sym, ap, ap₂, ◌∙◌, ◌⊎◌, inl, inr, Bool, true, false, cond, ◌&&◌, ◌||◌, List, ◌++◌, length, take, drop, length-set, get_or-drop, get_or-set_same, get_or-set_other, drop-set-lt, eq-eqb, ne_eqb, eqb-true}
+use native.Mathlib.Nat.{max-zero, zero-max, max-le, sub-add-eq-max}
 use native.Mathlib.Decide.{ℕ_discrete}
-use native.Mathlib.Omega.{arith}
-use mathlib.Core.Path.{◌≡◌, refl, sym, ap, ap₂, ◌∙◌}
-use mathlib.Core.Logic.{◌⊎◌, inl, inr}
-use mathlib.Core.Bool.{Bool, true, false, cond, ◌&&◌, ◌||◌, and-false, or-true, or-false, false≢true}
-use mathlib.Core.List.{List, ◌++◌}
-use lib.ListN.{length, get_or, take, drop, set, length-set}
-use lib.Seq.{get_or-drop, get_or-set_same, get_or-set_other, take-set-le, drop-set-lt}
+use mathlib.Core.Bool.{and-false, or-true, or-false, false≢true}
+use lib.ListN.{get_or, set}
+use lib.Seq.{take-set-le}
 use lib.Dec.{eqb}
-use borrow.Author.Tests.{eq-eqb, ne_eqb, eqb-true}
 use Rattle.rows.specs.declared.Row.{Row}
 use Rattle.rows.specs.Kinds.{SEND, ARRIVAL, BARRIER}
 use Rattle.rows.specs.Rows.{row_here, row_in}

@@ -1,8 +1,6 @@
 -- Unions of closed sets of rows, and how many rows of a process they hold.
-use Prim.Native.Nat.{ℕ, zero, suc, max}
-use mathlib.Core.Path.{◌≡◌}
-use mathlib.Core.Logic.{◌⊎◌, inl, inr}
-use mathlib.Core.Bool.{Bool, true, false, cond, ◌&&◌, ◌||◌, or-false, or_assoc}
+use Rattle.std.proofs.Common.{ℕ, zero, suc, max, ◌≡◌, ◌⊎◌, inl, inr, Bool, true, false, cond, ◌&&◌, ◌||◌}
+use mathlib.Core.Bool.{or-false, or_assoc}
 use Rattle.rows.specs.Counting.{any_below, count_below}
 use Rattle.happens_before.specs.Clock.{joined_to}
 use Rattle.rows.proofs.Bools.{and_out, or_out, or_right}

@@ -102,9 +102,9 @@ fn fill_row(
     heads: &[u16],
     earlier: &[u16],
 )
-    requires j_in_bounds { (j * FIELDS + FIELDS ≤ length rows.now) × (processes ≤ PROCESSES) × (j * processes + processes ≤ length counts.old) × ((row_in rows.now j).process < processes) }
-    requires by_index { (p : ℕ) → p < processes → cell_in processes counts.old j p ≡ 0 }
-    requires by_index_2 { (k : ℕ) → (p : ℕ) → k < j → p < processes → cell_in processes counts.old k p ≤ ROWS }
+    requires row_inside { (j * FIELDS + FIELDS ≤ length rows.now) × (processes ≤ PROCESSES) × (j * processes + processes ≤ length counts.old) × ((row_in rows.now j).process < processes) }
+    requires zero_row { (p : ℕ) → p < processes → cell_in processes counts.old j p ≡ 0 }
+    requires small_counts { (k : ℕ) → (p : ℕ) → k < j → p < processes → cell_in processes counts.old k p ≤ ROWS }
     requires tables { Tables rows.now j lasts.now heads.now earlier.now }
     ensures { counts.new ≡ with_counts processes counts.old j (filled_row processes rows.now counts.old j) }
 {
@@ -119,7 +119,7 @@ fn fill_row(
 
 // Notes row j in the tables: as the last row of its process and, if it is a send or a barrier row, as the head of its number's chain.
 fn note_row(rows: &[u32], j: usize, lasts: &mut [u16], heads: &mut [u16], earlier: &mut [u16])
-    requires j_in_bounds { (j * FIELDS + FIELDS ≤ length rows.now) × (j < ROWS) × ((row_in rows.now j).process < PROCESSES) }
+    requires row_inside { (j * FIELDS + FIELDS ≤ length rows.now) × (j < ROWS) × ((row_in rows.now j).process < PROCESSES) }
     requires tables { Tables rows.now j lasts.old heads.old earlier.old }
     ensures { Tables rows.now (j + 1) lasts.new heads.new earlier.new }
 {
@@ -216,7 +216,7 @@ fn join_pairs(
     heads: &[u16],
     earlier: &[u16],
 )
-    requires t_le_j { (t ≤ j) × (j * FIELDS + FIELDS ≤ length rows.now) × (processes ≤ PROCESSES) × (j * processes + processes ≤ length counts.old) }
+    requires turn_inside { (t ≤ j) × (j * FIELDS + FIELDS ≤ length rows.now) × (processes ≤ PROCESSES) × (j * processes + processes ≤ length counts.old) }
     requires chains { Chains rows.now j heads.now earlier.now }
     ensures { counts.new ≡ with_counts processes counts.old j (joined_pairs processes rows.now counts.old j t) }
 {
@@ -241,7 +241,7 @@ fn join_sends(
     heads: &[u16],
     earlier: &[u16],
 )
-    requires j_in_bounds { (j * FIELDS + FIELDS ≤ length rows.now) × (processes ≤ PROCESSES) × (j * processes + processes ≤ length counts.old) }
+    requires row_inside { (j * FIELDS + FIELDS ≤ length rows.now) × (processes ≤ PROCESSES) × (j * processes + processes ≤ length counts.old) }
     requires chains { Chains rows.now j heads.now earlier.now }
     ensures { counts.new ≡ with_counts processes counts.old j (joined_sends processes rows.now counts.old j) }
 {
@@ -263,7 +263,7 @@ fn join_barrier(
     heads: &[u16],
     earlier: &[u16],
 )
-    requires last_le_j { (last ≤ j) × (j * FIELDS + FIELDS ≤ length rows.now) × (processes ≤ PROCESSES) × (j * processes + processes ≤ length counts.old) }
+    requires barrier_inside { (last ≤ j) × (j * FIELDS + FIELDS ≤ length rows.now) × (processes ≤ PROCESSES) × (j * processes + processes ≤ length counts.old) }
     requires chains { Chains rows.now j heads.now earlier.now }
     ensures { counts.new ≡ with_counts processes counts.old j (joined_barrier processes rows.now counts.old j last) }
 {

@@ -1,10 +1,8 @@
 -- The questions 1 to 3 of a join, case by case.
-use Prim.Native.Nat.{ℕ, ◌*◌, ◌<◌, ◌≤◌}
-use native.Mathlib.Omega.{arith}
-use mathlib.Core.Path.{◌≡◌, refl, sym, ap, ◌∙◌}
-use mathlib.Core.Bool.{Bool, true, false, cond, ◌&&◌, and-false, and-true}
+use Rattle.std.proofs.Common.{ℕ, ◌*◌, ◌<◌, ◌≤◌, arith, ◌≡◌, refl, sym, ap, ◌∙◌, Bool, true, false, cond, ◌&&◌, le-leb}
+use mathlib.Core.Bool.{and-false, and-true}
 use lib.Dec.{leb}
-use borrow.Author.Tests.{le-leb, lt-leb}
+use borrow.Author.Tests.{lt-leb}
 use Rattle.rows.specs.Questions.{first_no, long_enough}
 use Rattle.rows.specs.Refusals.{SHORT_SLICE, HEADER_WORD}
 use Rattle.trace.specs.Questions.{call_questions, in_limits, header_word}

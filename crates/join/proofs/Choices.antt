@@ -1,11 +1,5 @@
 -- What the chooser's functions answer, case by case.
-use Prim.Native.Nat.{ℕ, ◌-◌, ◌<◌}
-use native.Mathlib.Omega.{arith}
-use mathlib.Core.Path.{◌≡◌, refl, sym, ap, ◌∙◌}
-use mathlib.Core.Bool.{Bool, true, false, not}
-use mathlib.Core.List.{List}
-use lib.ListN.{length}
-use borrow.Author.Tests.{eq-eqb, ne_eqb}
+use Rattle.std.proofs.Common.{ℕ, ◌-◌, ◌<◌, arith, ◌≡◌, refl, sym, ap, ◌∙◌, Bool, true, false, not, List, length, eq-eqb, ne_eqb}
 use Rattle.csv_content.specs.Content.{raw_of}
 use Rattle.csv_field.specs.declared.Span.{Span}
 use Rattle.csv_records.specs.Reading.{Finding, nothing, malformed, past-limit, found, read_at, reading_of}

@@ -2,8 +2,8 @@
 ghost use Rattle.std.specs.Prelude.{◌≡◌, false, ◌-◌};
 ghost use Rattle.join.specs.Choosing.{no_next, next_in, stepped, unsent_by, waits_by, ready_by, turn_by, part_named};
 
-use csv_records::Status;
 use csv_field::Span;
+use csv_records::Status;
 use rows::Row;
 use trace_numbers::ReadRow;
 

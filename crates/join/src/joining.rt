@@ -60,9 +60,9 @@ pub(crate) fn join_entries<'a>(
     parts: &mut [u64],
 ) -> Joined
     requires fits { Fits call.row_limit call.process_limit (length rows.old) (length parts.old) }
-    requires read_as { ReadAs call.first_header call.row_limit call.process_limit first.now }
-    requires read_as_2 { ReadAs call.second_header call.row_limit call.process_limit second.now }
-    requires processes_value { processes ≡ participants (rows_of (entries_of 1 call.first_header first.now) ++ rows_of (entries_of 2 call.second_header second.now)) }
+    requires first_read { ReadAs call.first_header call.row_limit call.process_limit first.now }
+    requires second_read { ReadAs call.second_header call.row_limit call.process_limit second.now }
+    requires told_processes { processes ≡ participants (rows_of (entries_of 1 call.first_header first.now) ++ rows_of (entries_of 2 call.second_header second.now)) }
     ensures answer { result ≡ joined_of (join_entries call.row_limit (entries_of 1 call.first_header first.now) (entries_of 2 call.second_header second.now)) }
     ensures held { Holds (join_entries call.row_limit (entries_of 1 call.first_header first.now) (entries_of 2 call.second_header second.now))
         rows.old rows.new parts.old parts.new }
@@ -89,9 +89,9 @@ fn join_records<'a>(
     parts: &mut [u64],
 ) -> Joined
     requires fits { Fits call.row_limit call.process_limit (length rows.old) (length parts.old) }
-    requires read_as { ReadAs call.first_header call.row_limit call.process_limit first.now }
-    requires read_as_2 { ReadAs call.second_header call.row_limit call.process_limit second.now }
-    requires processes_value { processes ≡ participants (rows_of (entries_of 1 call.first_header first.now) ++ rows_of (entries_of 2 call.second_header second.now)) }
+    requires first_read { ReadAs call.first_header call.row_limit call.process_limit first.now }
+    requires second_read { ReadAs call.second_header call.row_limit call.process_limit second.now }
+    requires told_processes { processes ≡ participants (rows_of (entries_of 1 call.first_header first.now) ++ rows_of (entries_of 2 call.second_header second.now)) }
     ensures answer { result ≡ joined_of (join_rows call.row_limit (entries_of 1 call.first_header first.now) (entries_of 2 call.second_header second.now)) }
     ensures held { Holds (join_rows call.row_limit (entries_of 1 call.first_header first.now) (entries_of 2 call.second_header second.now))
         rows.old rows.new parts.old parts.new }

@@ -1,9 +1,5 @@
 -- The numbers in an answer of the whole call on two files are small.
-use Prim.Native.Nat.{ℕ, ◌≤◌, ◌<◌}
-use native.Mathlib.Omega.{arith}
-use mathlib.Core.Path.{◌≡◌, refl}
-use mathlib.Core.List.{List}
-use lib.ListN.{length}
+use Rattle.std.proofs.Common.{ℕ, ◌≤◌, ◌<◌, arith, ◌≡◌, refl, List, length}
 use Rattle.rows.specs.Limits.{ROWS}
 use Rattle.rows.specs.declared.Row.{Row}
 use Rattle.races_meaning.specs.Races.{Verdict, free, racing, verdict_of}

@@ -1,10 +1,6 @@
 -- The whole call: an accepted join passes the questions of the verdict, and the verdict's answer is the call's.
-use Prim.Native.Nat.{ℕ, ◌*◌, ◌-◌, ◌≤◌, ◌<◌}
-use native.Mathlib.Omega.{arith}
-use native.Mathlib.Nat.{mul-le-mul_right}
-use mathlib.Core.Path.{◌≡◌, refl, sym, ap, ◌∙◌}
-use mathlib.Core.List.{List, ◌++◌}
-use lib.ListN.{length, replicate, length-replicate}
+use Rattle.std.proofs.Common.{ℕ, ◌*◌, ◌-◌, ◌≤◌, ◌<◌, arith, mul-le-mul_right, ◌≡◌, refl, sym, ap, ◌∙◌, List, ◌++◌, length, replicate}
+use lib.ListN.{length-replicate}
 use Rattle.rows.specs.Limits.{ROWS}
 use Rattle.rows.specs.Questions.{first_no}
 use Rattle.rows.specs.Rows.{numbers, row_at}

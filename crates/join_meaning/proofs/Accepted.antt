@@ -1,14 +1,7 @@
 -- An accepted join, from the texts on: what the call asked, and that the joined rows are an allowed merging of the two files, a sound trace, and
 -- have the verdict of every other allowed merging. And the way back: where some merging is a sound trace, the join is accepted.
-use Prim.Native.Nat.{ℕ, ◌*◌, ◌≤◌, ◌<◌}
-use native.Mathlib.Omega.{arith}
-use mathlib.Core.Path.{◌≡◌, refl, sym, ◌∙◌}
-use mathlib.Core.Logic.{◌↔◌}
-use mathlib.Core.Bool.{Bool, true, false, cond}
-use mathlib.Core.List.{List}
-use lib.ListN.{length}
+use Rattle.std.proofs.Common.{ℕ, ◌*◌, ◌≤◌, ◌<◌, arith, ◌≡◌, refl, sym, ◌∙◌, ◌↔◌, Bool, true, false, cond, List, length, leb-true, eqb-true, eq-eqb}
 use lib.Dec.{eqb}
-use borrow.Author.Tests.{leb-true, eqb-true, eq-eqb}
 use Rattle.rows.specs.declared.Row.{Row}
 use Rattle.rows.specs.Questions.{first_no, long_enough}
 use Rattle.rows.specs.Refusals.{SHARED_PROCESS}

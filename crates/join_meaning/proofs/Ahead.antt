@@ -1,13 +1,8 @@
 -- What stands ahead in a file that is accepted: its entries, record after record, up to the end of its text.
-use Prim.Native.Nat.{ℕ, zero, suc, ◌+◌, ◌≤◌, ◌<◌}
-use native.Mathlib.Omega.{arith}
-use mathlib.Core.Path.{◌≡◌, refl, sym, ap, subst, ◌∙◌}
-use mathlib.Core.Bool.{Bool, true, false, cond}
-use mathlib.Core.List.{List, [], ◌∷◌, ◌++◌, map, append-nil}
-use lib.ListN.{length, length-append, length-map}
+use Rattle.std.proofs.Common.{ℕ, zero, suc, ◌+◌, ◌≤◌, ◌<◌, arith, ◌≡◌, refl, sym, ap, subst, ◌∙◌, Bool, true, false, cond, List, [], ◌∷◌, ◌++◌, map, append-nil, length, length-append, ltb-true, eqb-true}
+use lib.ListN.{length-map}
 use lib.Seq.{append_snoc}
 use lib.Dec.{eqb}
-use borrow.Author.Tests.{ltb-true, eqb-true}
 use Rattle.csv_field.specs.declared.Span.{Span}
 use Rattle.csv_content.specs.Content.{content_of}
 use Rattle.csv_records.specs.Reading.{read_at, Finding, nothing, malformed, past-limit, found, on_found, records_from, records, Records}

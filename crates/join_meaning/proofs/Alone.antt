@@ -1,12 +1,6 @@
 -- A trace that is accepted by itself is an accepted file of a join, and joined with a file without bytes it stays as it is.
-use Prim.Native.Nat.{ℕ, ◌+◌, ◌*◌, ◌≤◌}
-use native.Mathlib.Omega.{arith}
-use mathlib.Core.Path.{◌≡◌, refl, ap, ◌∙◌}
-use mathlib.Core.Bool.{Bool, true, false, cond, ◌&&◌}
-use mathlib.Core.List.{List, [], ◌∷◌, ◌++◌}
-use lib.ListN.{length}
+use Rattle.std.proofs.Common.{ℕ, ◌+◌, ◌*◌, ◌≤◌, arith, ◌≡◌, refl, ap, ◌∙◌, Bool, true, false, cond, ◌&&◌, List, [], ◌∷◌, ◌++◌, length, eqb-true, le-leb, lt-ltb}
 use lib.Dec.{leb, eqb}
-use borrow.Author.Tests.{eqb-true, le-leb, lt-ltb}
 use Rattle.csv_records.specs.Reading.{Records, records, records_from, on_found, read_at, Ending, all_read, at-malformed, at-limit}
 use Rattle.rows.specs.declared.Row.{Row}
 use Rattle.rows.specs.Limits.{MODELS, ROWS}

@@ -1,11 +1,6 @@
 -- Records that are handed over: each is cut out of its file's text and read by itself.
-use Prim.Native.Nat.{ℕ, ◌+◌, ◌-◌, ◌<◌}
-use native.Mathlib.Nat.{le_refl}
-use native.Mathlib.Omega.{arith}
-use mathlib.Core.Path.{◌≡◌, refl, ap, ◌∙◌}
-use mathlib.Core.Bool.{cond}
-use mathlib.Core.List.{List, [], ◌∷◌, map}
-use lib.ListN.{length, take, drop, length-append, length-map}
+use Rattle.std.proofs.Common.{ℕ, ◌+◌, ◌-◌, ◌<◌, le_refl, arith, ◌≡◌, refl, ap, ◌∙◌, cond, List, [], ◌∷◌, map, length, take, drop, length-append}
+use lib.ListN.{length-map}
 use lib.Dec.{eqb}
 use Rattle.csv_field.specs.FieldGrammar.{COMMA}
 use Rattle.csv_field.specs.declared.Span.{Span}

@@ -1,13 +1,8 @@
 -- Rows of two files that share no process, and rows that wait.
-use Prim.Native.Nat.{ℕ, ◌<◌}
-use native.Mathlib.Omega.{arith}
-use mathlib.Core.Path.{◌≡◌, sym, ap, ◌∙◌}
-use mathlib.Core.Bool.{true, false, not, ◌&&◌, false≢true}
-use mathlib.Core.List.{List}
-use lib.ListN.{length, take, length-take}
-use lib.Seq.{get_or-take}
+use Rattle.std.proofs.Common.{ℕ, ◌<◌, arith, ◌≡◌, sym, ap, ◌∙◌, true, false, not, ◌&&◌, List, length, take, length-take, get_or-take, eqb-true, eq-eqb}
+use mathlib.Core.Bool.{false≢true}
 use lib.Dec.{eqb}
-use borrow.Author.Tests.{eqb-true, eq-eqb, not-true, not-false}
+use borrow.Author.Tests.{not-true, not-false}
 use Rattle.rows.specs.declared.Row.{Row}
 use Rattle.rows.specs.Kinds.{SEND, ARRIVAL}
 use Rattle.rows.specs.Rows.{row_at, no_row}

@@ -1,14 +1,6 @@
 -- An accepted join and any other allowed merging of the two files have the same rows and the same direct edges, so both are free or neither is.
-use Prim.Native.Nat.{ℕ, ◌<◌}
-use native.Mathlib.Omega.{arith}
-use mathlib.Core.Path.{◌≡◌, refl, sym, ap, subst, ◌∙◌}
-use mathlib.Core.Logic.{◌↔◌}
-use mathlib.Core.Bool.{true, false}
-use mathlib.Core.List.{List, ◌++◌}
-use lib.ListN.{length, take, length-take}
-use lib.Seq.{get_or-take, length-take-le}
+use Rattle.std.proofs.Common.{ℕ, ◌<◌, arith, ◌≡◌, refl, sym, ap, subst, ◌∙◌, ◌↔◌, true, false, List, ◌++◌, length, take, length-take, get_or-take, length-take-le, eqb-true, eq-eqb}
 use lib.Dec.{eqb}
-use borrow.Author.Tests.{eqb-true, eq-eqb}
 use Rattle.rows.specs.declared.Row.{Row}
 use Rattle.rows.specs.Rows.{row_at, no_row}
 use Rattle.rows.proofs.Bools.{and_out}

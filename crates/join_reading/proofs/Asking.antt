@@ -1,12 +1,7 @@
 -- The questions 1 to 3 of one file, by the laws of the questions 1 to 3 of a whole trace.
-use Prim.Native.Nat.{ℕ, ◌*◌, ◌≤◌}
-use native.Mathlib.Nat.{le_refl}
-use native.Mathlib.Omega.{arith}
-use mathlib.Core.Path.{◌≡◌, sym, ◌∙◌}
+use Rattle.std.proofs.Common.{ℕ, ◌*◌, ◌≤◌, le_refl, arith, ◌≡◌, sym, ◌∙◌, [], le-leb}
 use mathlib.Core.Bool.{and-true}
-use mathlib.Core.List.{[]}
 use lib.Dec.{leb}
-use borrow.Author.Tests.{le-leb}
 use Rattle.rows.specs.Limits.{PROCESSES, ROWS}
 use Rattle.rows.specs.Questions.{first_no}
 use Rattle.rows.proofs.Limits.{limit-of}

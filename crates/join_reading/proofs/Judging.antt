@@ -1,11 +1,5 @@
 -- The header and the rows of a file, by the laws of reading rows with any questions.
-use Prim.Native.Nat.{ℕ, ◌+◌, ◌*◌, ◌<◌}
-use native.Mathlib.Omega.{arith}
-use mathlib.Core.Path.{◌≡◌, refl, ◌∙◌}
-use mathlib.Core.Bool.{Bool, cond}
-use mathlib.Core.List.{List, [], ◌∷◌, ◌++◌}
-use lib.ListN.{length, take, drop}
-use borrow.Author.Tests.{eq-eqb, ne_eqb, ltb-true}
+use Rattle.std.proofs.Common.{ℕ, ◌+◌, ◌*◌, ◌<◌, arith, ◌≡◌, refl, ◌∙◌, Bool, cond, List, [], ◌∷◌, ◌++◌, length, take, drop, eq-eqb, ne_eqb, ltb-true}
 use Rattle.csv_records.specs.Reading.{read_at, nothing, malformed, past-limit, reading_of, Ending, all_read, at-malformed, at-limit}
 use Rattle.csv_records.specs.declared.Reading.{Reading}
 use Rattle.csv_records.specs.declared.Status.TheVariants.{Record}

@@ -1,11 +1,6 @@
 -- Laws of the exported functions: a packed answer tells and leaves what the answer does.
-use Prim.Native.Nat.{ℕ, ◌+◌, ◌*◌}
-use mathlib.Core.Path.{◌≡◌, refl, sym, ap, subst, ◌∙◌}
-use mathlib.Core.Bool.{Bool, true, false, cond}
-use mathlib.Core.List.{List}
-use lib.ListN.{length}
+use Rattle.std.proofs.Common.{ℕ, ◌+◌, ◌*◌, ◌≡◌, refl, sym, ap, subst, ◌∙◌, Bool, true, false, cond, List, length, eqb-true}
 use lib.Dec.{eqb}
-use borrow.Author.Tests.{eqb-true}
 use Rattle.happens_before.specs.declared.Filled.{Filled}
 use Rattle.happens_before.specs.declared.Filled.TheVariants as filled
 use Rattle.happens_before.specs.Filling.{fill_questions, filled_of, filled_left}

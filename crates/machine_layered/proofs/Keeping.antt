@@ -1,11 +1,6 @@
 -- A step of the layered file preserves a lawful state.
-use Prim.Native.Nat.{ℕ, suc, ◌≤◌}
-use mathlib.Core.Path.{◌≡◌, refl, sym, ap, ◌∙◌}
-use mathlib.Core.Bool.{true, cond}
-use mathlib.Core.List.{List}
-use lib.ListN.{length}
+use Rattle.std.proofs.Common.{ℕ, suc, ◌≤◌, ◌≡◌, refl, sym, ap, ◌∙◌, true, cond, List, length, leb-true, ltb-true, lt-ltb}
 use lib.Dec.{leb, ltb}
-use borrow.Author.Tests.{leb-true, ltb-true, lt-ltb}
 use Rattle.rows.specs.Limits.{OFFSET_MAX}
 use Rattle.rows.specs.declared.Row.{Row}
 use Rattle.rows.specs.Lists.{In}

@@ -1,14 +1,8 @@
 -- What a row answers and leaves, from what the entries of the map of pieces answer and leave.
-use Prim.Native.Nat.{ℕ, suc, ◌+◌, ◌*◌, ◌-◌, ◌/◌, ◌≤◌, ◌<◌}
-use native.Mathlib.Numerals.{add-one}
-use native.Mathlib.Nat.{mul-le-mul_left, mul-le-mul_right}
-use native.Mathlib.Omega.{arith}
-use mathlib.Core.Path.{◌≡◌, refl, sym, ap, ◌∙◌}
-use mathlib.Core.Bool.{Bool, true, false, cond, not, ◌&&◌, and-false, and_comm}
-use mathlib.Core.List.{List, [], ◌∷◌, ◌++◌}
-use lib.ListN.{length, take, drop}
+use Rattle.std.proofs.Common.{ℕ, suc, ◌+◌, ◌*◌, ◌-◌, ◌/◌, ◌≤◌, ◌<◌, add-one, mul-le-mul_left, mul-le-mul_right, arith, ◌≡◌, refl, sym, ap, ◌∙◌, Bool, true, false, cond, not, ◌&&◌, List, [], ◌∷◌, ◌++◌, length, take, drop, lt-ltb, le-ltb, le-leb, leb-true, ne_eqb, eqb-true}
+use mathlib.Core.Bool.{and-false, and_comm}
 use lib.Dec.{leb, ltb, eqb}
-use borrow.Author.Tests.{lt-ltb, le-ltb, le-leb, lt-leb, leb-true, ne_eqb, eqb-true, eqb-false}
+use borrow.Author.Tests.{lt-leb, eqb-false}
 use borrow.Rule.Slice.PartMut.{put_mid}
 use Rattle.rows.specs.Limits.{MODELS, PROCESSES, FILES, ROWS, OFFSET_MAX}
 use Rattle.rows.specs.Kinds.{READ, WRITE}

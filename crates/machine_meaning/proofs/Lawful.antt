@@ -1,15 +1,7 @@
 -- The maps of a lawful state lie in the slice. Each map is lawful, fits its space and encodes its own bytes, and a state that no row changes stays
 -- as it was.
-use Prim.Native.Nat.{ℕ, zero, suc, ◌+◌, ◌*◌, ◌≤◌, ◌<◌}
-use native.Mathlib.Nat.{zero-mul, mul-le-mul_right}
-use native.Mathlib.Omega.{arith}
-use mathlib.Core.Path.{◌≡◌, refl, sym, ap, ◌∙◌}
-use mathlib.Core.Bool.{true}
-use mathlib.Core.List.{List, ◌++◌, append_assoc, append-nil}
-use lib.ListN.{length, take, drop, length-drop, take-append-drop}
-use lib.Seq.{length-take-le, take-add}
+use Rattle.std.proofs.Common.{ℕ, zero, suc, ◌+◌, ◌*◌, ◌≤◌, ◌<◌, zero-mul, mul-le-mul_right, arith, ◌≡◌, refl, sym, ap, ◌∙◌, true, List, ◌++◌, append_assoc, append-nil, length, take, drop, length-drop, take-append-drop, length-take-le, take-add, leb-true}
 use lib.Dec.{leb, ltb}
-use borrow.Author.Tests.{leb-true}
 use Rattle.rows.specs.Limits.{MODELS, FILES}
 use Rattle.rows.specs.Counting.{blocks, all_below}
 use Rattle.rows.specs.Questions.{is_process_limit}

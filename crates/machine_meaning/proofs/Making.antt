@@ -1,10 +1,5 @@
 -- Making of legal numbers over a slice that is long enough is accepted, and the slice then holds the fresh file.
-use Prim.Native.Nat.{ℕ, ◌*◌, ◌≤◌, ◌<◌}
-use mathlib.Core.Path.{◌≡◌, ap, ◌∙◌}
-use mathlib.Core.Bool.{◌&&◌}
-use mathlib.Core.List.{List}
-use lib.ListN.{length}
-use borrow.Author.Tests.{le-leb, lt-ltb}
+use Rattle.std.proofs.Common.{ℕ, ◌*◌, ◌≤◌, ◌<◌, ◌≡◌, ap, ◌∙◌, ◌&&◌, List, length, le-leb, lt-ltb}
 use Rattle.rows.specs.Limits.{MODELS, PROCESSES, FILES}
 use Rattle.rows.specs.Questions.{first_no}
 use Rattle.machine_meaning.specs.Layers.{fresh, nothing}

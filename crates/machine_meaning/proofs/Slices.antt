@@ -1,14 +1,9 @@
 -- Layered and plain files in slices: an encoded file is lawful, each map is at its place, and decoding gives the file back.
-use Prim.Native.Nat.{ℕ, zero, suc, ◌+◌, ◌*◌, ◌≤◌, ◌<◌}
-use native.Mathlib.Nat.{zero-mul}
+use Rattle.std.proofs.Common.{ℕ, zero, suc, ◌+◌, ◌*◌, ◌≤◌, ◌<◌, zero-mul, arith, ◌≡◌, refl, sym, ap, ◌∙◌, Bool, true, false, ◌&&◌, List, [], ◌++◌, append_assoc, length, take, drop, replicate, length-append, length-drop, take_at, drop_at, le-leb}
 use native.Mathlib.Decide.{dec_lt}
-use native.Mathlib.Omega.{arith}
-use mathlib.Core.Path.{◌≡◌, refl, sym, ap, fun_ext, ◌∙◌}
-use mathlib.Core.Bool.{Bool, true, false, ◌&&◌}
-use mathlib.Core.List.{List, [], ◌++◌, append_assoc}
-use lib.ListN.{length, take, drop, replicate, length-append, length-drop, replicate-append-replicate}
-use lib.Seq.{take_at, drop_at, drop-append-add}
-use borrow.Author.Tests.{le-leb}
+use mathlib.Core.Path.{fun_ext}
+use lib.ListN.{replicate-append-replicate}
+use lib.Seq.{drop-append-add}
 use Rattle.rows.specs.Limits.{OFFSET_MAX}
 use Rattle.rows.specs.Counting.{blocks, all_below}
 use Rattle.extents_meaning.specs.Cells.{Bytes, unpublished}

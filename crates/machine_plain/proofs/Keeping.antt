@@ -1,9 +1,5 @@
 -- A step of the plain file preserves a lawful state.
-use Prim.Native.Nat.{ℕ, ◌≤◌}
-use mathlib.Core.Path.{◌≡◌}
-use mathlib.Core.Bool.{true}
-use mathlib.Core.List.{List}
-use borrow.Author.Tests.{leb-true}
+use Rattle.std.proofs.Common.{ℕ, ◌≤◌, ◌≡◌, true, List, leb-true}
 use Rattle.rows.specs.Limits.{OFFSET_MAX}
 use Rattle.rows.specs.declared.Row.{Row}
 use Rattle.rows.specs.Lists.{In}

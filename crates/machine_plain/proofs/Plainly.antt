@@ -1,13 +1,7 @@
 -- A lawful plain file, and what a row does to it, by what the code tests and calls.
-use Prim.Native.Nat.{ℕ, ◌+◌, ◌*◌, ◌/◌, ◌≤◌, ◌<◌}
-use native.Mathlib.Omega.{arith}
-use mathlib.Core.Path.{◌≡◌, refl, sym, ap, ◌∙◌}
-use mathlib.Core.Bool.{true, false, cond}
-use mathlib.Core.List.{List, [], ◌∷◌, ◌++◌}
-use lib.ListN.{length, take, drop, take-append-drop}
-use lib.Seq.{length-take-le}
+use Rattle.std.proofs.Common.{ℕ, ◌+◌, ◌*◌, ◌/◌, ◌≤◌, ◌<◌, arith, ◌≡◌, refl, sym, ap, ◌∙◌, true, false, cond, List, [], ◌∷◌, ◌++◌, length, take, drop, take-append-drop, length-take-le, le-leb, leb-true, lt-ltb, le-ltb, ne_eqb}
 use lib.Dec.{leb, eqb}
-use borrow.Author.Tests.{le-leb, lt-leb, leb-true, lt-ltb, le-ltb, ne_eqb}
+use borrow.Author.Tests.{lt-leb}
 use Rattle.rows.specs.Limits.{ROWS, FILES, OFFSET_MAX}
 use Rattle.rows.specs.Kinds.{READ, WRITE}
 use Rattle.rows.specs.declared.Row.{Row}

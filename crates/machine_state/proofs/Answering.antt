@@ -1,10 +1,6 @@
 -- The code answers and leaves what a step does, whether it is refused or not.
-use Prim.Native.Nat.{ℕ}
-use mathlib.Core.Path.{◌≡◌, refl, sym, ◌∙◌}
-use mathlib.Core.Bool.{Bool, true, false, cond}
-use mathlib.Core.List.{List, ◌++◌}
+use Rattle.std.proofs.Common.{ℕ, ◌≡◌, refl, sym, ◌∙◌, Bool, true, false, cond, List, ◌++◌, eqb-true, ne_eqb}
 use lib.Dec.{eqb}
-use borrow.Author.Tests.{eqb-true, ne_eqb}
 use Rattle.rows.specs.declared.Row.{Row}
 use Rattle.machine_meaning.specs.Layers.{of_file}
 use Rattle.machine_meaning.specs.Steps.{refusing, Step, decided}

@@ -1,12 +1,6 @@
 -- What every step preserves: a lawful state stays lawful, the answer slice has room for what is listed, and a refusal changes nothing.
-use Prim.Native.Nat.{ℕ, ◌*◌, ◌≤◌}
-use native.Mathlib.Omega.{arith}
-use mathlib.Core.Path.{◌≡◌, refl}
-use mathlib.Core.Bool.{Bool, true}
-use mathlib.Core.List.{List, ◌∷◌, ◌++◌}
-use lib.ListN.{length, drop, length-append, length-drop}
+use Rattle.std.proofs.Common.{ℕ, ◌*◌, ◌≤◌, arith, ◌≡◌, refl, Bool, true, List, ◌∷◌, ◌++◌, length, drop, length-append, length-drop, leb-true, eqb-true}
 use lib.Dec.{eqb}
-use borrow.Author.Tests.{leb-true, eqb-true}
 use Rattle.rows.specs.Kinds.{READ}
 use Rattle.rows.specs.declared.Row.{Row}
 use Rattle.rows.specs.Questions.{Question, first_no}

@@ -1,11 +1,6 @@
 -- The bytes of a lawful map change only at points up to the end of files, and a row that passes its questions writes at such points.
-use Prim.Native.Nat.{ℕ, zero, suc, ◌+◌, ◌≤◌, ◌<◌}
+use Rattle.std.proofs.Common.{ℕ, zero, suc, ◌+◌, ◌≤◌, ◌<◌, arith, ◌≡◌, sym, ◌∙◌, inl, inr, true, List, [], ◌∷◌}
 use native.Mathlib.Decide.{dec_lt, ℕ_discrete}
-use native.Mathlib.Omega.{arith}
-use mathlib.Core.Path.{◌≡◌, sym, ◌∙◌}
-use mathlib.Core.Logic.{inl, inr}
-use mathlib.Core.Bool.{true}
-use mathlib.Core.List.{List, [], ◌∷◌}
 use Rattle.rows.specs.Limits.{OFFSET_MAX}
 use Rattle.rows.specs.Kinds.{WRITE}
 use Rattle.rows.specs.declared.Row.{Row}

@@ -1,12 +1,8 @@
 -- What making answers and leaves, by what the code tests. The laws serve both files: only the size of the maps and the limits differ.
-use Prim.Native.Nat.{ℕ, ◌*◌, ◌≤◌, ◌<◌}
-use native.Mathlib.Omega.{arith}
-use mathlib.Core.Path.{◌≡◌, refl, ◌∙◌}
-use mathlib.Core.Bool.{Bool, true, false, cond, ◌&&◌, and-false}
-use mathlib.Core.List.{List, ◌++◌}
-use lib.ListN.{length, drop, replicate}
+use Rattle.std.proofs.Common.{ℕ, ◌*◌, ◌≤◌, ◌<◌, arith, ◌≡◌, refl, ◌∙◌, Bool, true, false, cond, ◌&&◌, List, ◌++◌, length, drop, replicate, le-leb, lt-ltb, le-ltb, ne_eqb}
+use mathlib.Core.Bool.{and-false}
 use lib.Dec.{leb, ltb}
-use borrow.Author.Tests.{le-leb, lt-leb, lt-ltb, le-ltb, ne_eqb}
+use borrow.Author.Tests.{lt-leb}
 use Rattle.rows.specs.Limits.{MODELS, FILES}
 use Rattle.rows.specs.Questions.{first_no, is_process_limit}
 use Rattle.machine_meaning.specs.States.{Header, maps_length}

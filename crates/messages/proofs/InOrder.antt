@@ -1,11 +1,6 @@
 -- The questions 12 and 21 in the documents' words: the rows before a row that send its message, post its receive or wait for it.
-use Prim.Native.Nat.{ℕ, ◌≤◌, ◌<◌}
-use native.Mathlib.Omega.{arith}
-use mathlib.Core.Path.{◌≡◌, sym, subst}
-use mathlib.Core.Logic.{◌↔◌}
-use mathlib.Core.Bool.{true, false}
-use mathlib.Core.List.{List, ◌++◌}
-use lib.ListN.{length, get_or-append}
+use Rattle.std.proofs.Common.{ℕ, ◌≤◌, ◌<◌, arith, ◌≡◌, sym, subst, ◌↔◌, true, false, List, ◌++◌, length}
+use lib.ListN.{get_or-append}
 use Rattle.rows.specs.declared.Row.{Row}
 use Rattle.rows.specs.Kinds.{SEND, RECV, WAIT, ARRIVAL}
 use Rattle.rows.specs.Rows.{row_at, no_row}

@@ -1,12 +1,8 @@
 -- Bytes laid into a slice, one part behind the other.
-use Prim.Native.Nat.{ℕ, zero, suc, ◌+◌, ◌-◌, ◌/◌, ◌%◌, ◌≤◌, ◌<◌}
-use native.Mathlib.Omega.{arith}
-use mathlib.Core.Path.{◌≡◌, refl, sym, ap, ◌∙◌}
-use mathlib.Core.Bool.{Bool, true, false, cond}
-use mathlib.Core.List.{List, [], ◌∷◌, ◌++◌, append_assoc, append-nil}
-use lib.ListN.{length, take, drop, set, get_or, length-append, take-append-drop, length-set}
-use lib.Seq.{paste-zero, paste-suc, length-take-le, take-length, take_at, drop_at, length-paste, take-paste, drop-paste, take_all, paste, take-set-le, drop-set-lt, drop-cons, drop-drop, get_or-set_same, append_snoc}
-use borrow.Author.Tests.{le-leb, lt-leb}
+use Rattle.std.proofs.Common.{ℕ, zero, suc, ◌+◌, ◌-◌, ◌/◌, ◌%◌, ◌≤◌, ◌<◌, arith, ◌≡◌, refl, sym, ap, ◌∙◌, Bool, true, false, cond, List, [], ◌∷◌, ◌++◌, append_assoc, append-nil, length, take, drop, length-append, take-append-drop, length-set, length-take-le, take_at, drop_at, take_all, drop-set-lt, drop-cons, drop-drop, get_or-set_same, le-leb}
+use lib.ListN.{set, get_or}
+use lib.Seq.{paste-zero, paste-suc, take-length, length-paste, take-paste, drop-paste, paste, take-set-le, append_snoc}
+use borrow.Author.Tests.{lt-leb}
 use Rattle.print.specs.Decimal.{digits_of, width_of, decimal_of}
 use Rattle.print.specs.Puts.{lay, room, put_in, put_end}
 

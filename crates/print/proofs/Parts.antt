@@ -1,11 +1,5 @@
 -- Parts of a text laid one behind the other, and the lengths of numbers.
-use Prim.Native.Nat.{ℕ, zero, suc, ◌+◌, ◌-◌, ◌/◌, ◌≤◌}
-use native.Mathlib.Omega.{arith}
-use mathlib.Core.Path.{◌≡◌, sym, ap, ◌∙◌}
-use mathlib.Core.Bool.{Bool, true, false, cond}
-use mathlib.Core.List.{List, [], ◌++◌, append_assoc, append-nil}
-use lib.ListN.{length, take, drop, length-append, length-drop, drop_of_length-le}
-use lib.Seq.{drop-drop, take_all}
+use Rattle.std.proofs.Common.{ℕ, zero, suc, ◌+◌, ◌-◌, ◌/◌, ◌≤◌, arith, ◌≡◌, sym, ap, ◌∙◌, Bool, true, false, cond, List, [], ◌++◌, append_assoc, append-nil, length, take, drop, length-append, length-drop, drop_of_length-le, drop-drop, take_all}
 use lib.Dec.{ltb}
 use borrow.Rule.Slice.PartMut.{put_mid}
 use Rattle.print.specs.Decimal.{width_within, decimal_of}

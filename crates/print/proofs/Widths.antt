@@ -1,8 +1,5 @@
 -- Laws of how many digits a number has.
-use Prim.Native.Nat.{ℕ, zero, suc, ◌*◌, ◌/◌, ◌≤◌, ◌<◌}
-use native.Mathlib.Omega.{arith}
-use mathlib.Core.Path.{◌≡◌, sym, ap}
-use borrow.Author.Tests.{lt-ltb, le-ltb}
+use Rattle.std.proofs.Common.{ℕ, zero, suc, ◌*◌, ◌/◌, ◌≤◌, ◌<◌, arith, ◌≡◌, sym, ap, lt-ltb, le-ltb}
 use Rattle.print.specs.Decimal.{WIDTH, width_within, width_of}
 
 -- The smallest number of k digits more than one; 0 for none more.

@@ -1,11 +1,6 @@
 -- The list of every race in another allowed order of a trace's rows: it has the same pairs of rows, and as many.
-use Prim.Native.Nat.{ℕ, ◌≤◌, ◌<◌}
-use native.Mathlib.Omega.{arith}
-use mathlib.Core.Path.{◌≡◌, sym, ◌∙◌}
-use mathlib.Core.Logic.{◌↔◌, ◌⊎◌, inl, inr}
-use mathlib.Core.Bool.{true}
-use mathlib.Core.List.{List}
-use lib.ListN.{length, get_or}
+use Rattle.std.proofs.Common.{ℕ, ◌≤◌, ◌<◌, arith, ◌≡◌, sym, ◌∙◌, ◌↔◌, ◌⊎◌, inl, inr, true, List, length}
+use lib.ListN.{get_or}
 use Rattle.rows.specs.declared.Row.{Row}
 use Rattle.rows.proofs.Bools.{or_out, or_right}
 use Rattle.trace.specs.Questions.{accepted, check_trace}

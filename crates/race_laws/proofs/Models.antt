@@ -1,12 +1,8 @@
 -- Which model's freedom includes which: a trace that is free under any model is free under POSIX, one that is free under session is free under
 -- MPI-IO, and one that is free under session is free under commit where each close is renamed commit. Each law holds of races, pair by pair.
-use Prim.Native.Nat.{ℕ, zero, suc, ◌<◌}
-use mathlib.Core.Path.{◌≡◌, refl, sym, ◌∙◌}
-use mathlib.Core.Bool.{Bool, true, false, cond, not, ◌&&◌, ◌||◌}
-use mathlib.Core.List.{List}
-use lib.ListN.{length, length-map, get_or-map}
+use Rattle.std.proofs.Common.{ℕ, zero, suc, ◌<◌, ◌≡◌, refl, sym, ◌∙◌, Bool, true, false, cond, not, ◌&&◌, ◌||◌, List, length, eqb-true}
+use lib.ListN.{length-map, get_or-map}
 use lib.Dec.{ltb, eqb}
-use borrow.Author.Tests.{eqb-true}
 use Rattle.rows.specs.Kinds.{READ, WRITE, COMMIT, OPEN, CLOSE, SYNC, SEND, ARRIVAL, BARRIER}
 use Rattle.rows.specs.declared.Row.{Row}
 use Rattle.rows.specs.Rows.{no_row, row_at}

@@ -1,16 +1,8 @@
 -- The two passes that look for a row that races with y: what they read, and what they know after each turn.
-use Prim.Native.Nat.{ℕ, zero, suc, ◌+◌, ◌*◌, ◌-◌, ◌≤◌, ◌<◌}
-use native.Mathlib.Nat.{add-zero}
-use native.Mathlib.Numerals.{add-one}
-use native.Mathlib.Omega.{arith}
-use mathlib.Core.Path.{◌≡◌, refl, sym, ap, ap₂, ◌∙◌}
-use mathlib.Core.Logic.{◌⊎◌, inl, inr}
-use mathlib.Core.Bool.{Bool, true, false, cond, ◌&&◌, and-true, and-false}
-use mathlib.Core.List.{List, [], ◌∷◌, append-nil}
-use lib.ListN.{length, get_or, set, replicate, length-set, length-append, length-replicate}
-use lib.Seq.{get_or-drop}
+use Rattle.std.proofs.Common.{ℕ, zero, suc, ◌+◌, ◌*◌, ◌-◌, ◌≤◌, ◌<◌, add-zero, add-one, arith, ◌≡◌, refl, sym, ap, ap₂, ◌∙◌, ◌⊎◌, inl, inr, Bool, true, false, cond, ◌&&◌, List, [], ◌∷◌, append-nil, length, replicate, length-set, length-append, get_or-drop, eq-eqb, ne_eqb, lt-ltb}
+use mathlib.Core.Bool.{and-true, and-false}
+use lib.ListN.{get_or, set, length-replicate}
 use lib.Dec.{leb, ltb, eqb}
-use borrow.Author.Tests.{eq-eqb, ne_eqb, lt-ltb}
 use Rattle.rows.specs.Kinds.{READ, WRITE}
 use Rattle.rows.specs.Limits.{PROCESSES, MODELS, ROWS}
 use Rattle.models.specs.Table.{publishes, refreshes}

@@ -283,7 +283,7 @@ fn put_races_with(
     list: &mut [u32],
 ) -> usize
     requires given { Given n processes model rows.now counts.now }
-    requires y_lt_n { (y < n) × (found ≤ y * ROWS) }
+    requires later_row { (y < n) × (found ≤ y * ROWS) }
     ensures answer { result ≡ found + length (pairs_with (rows_in n rows.now) model y y) }
     ensures listed { list.new ≡ with_pairs found (pairs_with (rows_in n rows.now) model y y) list.old }
 {
@@ -307,7 +307,7 @@ fn put_races_with(
 // Answers, for each process, the index of its last noted row before the later row, plus one; 0 where there is none.
 fn note_rows(rows: &[u32], counts: &[u16], later: Later) -> [usize; NOTES]
     requires given { Given later.n later.processes later.model rows.now counts.now }
-    requires y_lt_n { (later.y < later.n) × (later.refresh ≡ refresh_at (rows_in later.n rows.now) later.model later.y) × (later.refresh ≤ later.n) × (later.own ≡ publishes later.model WRITE) }
+    requires later_row { (later.y < later.n) × (later.refresh ≡ refresh_at (rows_in later.n rows.now) later.model later.y) × (later.refresh ≤ later.n) × (later.own ≡ publishes later.model WRITE) }
     ensures { Noted (rows_in later.n rows.now) later.model later.y later.refresh result }
 {
     let mut last = [0usize; NOTES];
@@ -334,7 +334,7 @@ fn put_found(
     list: &mut [u32],
 ) -> usize
     requires given { Given later.n later.processes later.model rows.now counts.now }
-    requires y_lt_n { (later.y < later.n) × (later.refresh ≡ refresh_at (rows_in later.n rows.now) later.model later.y) × (later.refresh ≤ later.n) × (later.own ≡ publishes later.model WRITE) × (before ≤ later.y * ROWS) }
+    requires later_row { (later.y < later.n) × (later.refresh ≡ refresh_at (rows_in later.n rows.now) later.model later.y) × (later.refresh ≤ later.n) × (later.own ≡ publishes later.model WRITE) × (before ≤ later.y * ROWS) }
     requires noted { Noted (rows_in later.n rows.now) later.model later.y later.refresh last }
     ensures answer { result ≡ before + length (pairs_with (rows_in later.n rows.now) later.model later.y later.y) }
     ensures listed { list.new ≡ with_pairs before (pairs_with (rows_in later.n rows.now) later.model later.y later.y) list.old }
@@ -370,8 +370,8 @@ fn put_pair(list: &mut [u32], k: usize, earlier: u32, later: u32)
 // two rows that may conflict and are not in order, a shared byte is a race, and no other pair is asked for its bytes.
 fn is_race(rows: &[u32], counts: &[u16], later: Later, x: usize, last: usize) -> bool
     requires given { Given later.n later.processes later.model rows.now counts.now }
-    requires y_lt_n { (later.y < later.n) × (x < later.n) × (later.refresh ≡ refresh_at (rows_in later.n rows.now) later.model later.y) × (later.refresh ≤ later.n) × (later.own ≡ publishes later.model WRITE) }
-    requires last_value { 0 < later.refresh → publishes later.model WRITE ≡ false → last ≡ last_noted (rows_in later.n rows.now) later.model later.y (later.refresh - 1) (row_at (rows_in later.n rows.now) x).process later.y }
+    requires later_row { (later.y < later.n) × (x < later.n) × (later.refresh ≡ refresh_at (rows_in later.n rows.now) later.model later.y) × (later.refresh ≤ later.n) × (later.own ≡ publishes later.model WRITE) }
+    requires noted_last { 0 < later.refresh → publishes later.model WRITE ≡ false → last ≡ last_noted (rows_in later.n rows.now) later.model later.y (later.refresh - 1) (row_at (rows_in later.n rows.now) x).process later.y }
     ensures { result ≡ (conflict (row_at (rows_in later.n rows.now) x) (row_at (rows_in later.n rows.now) later.y) && not (is_in_order (rows_in later.n rows.now) later.model x later.y)) }
 {
     if !may_conflict(rows, x, later.y) {
@@ -386,7 +386,7 @@ fn is_race(rows: &[u32], counts: &[u16], later: Later, x: usize, last: usize) ->
 // Row c publishes the later row's file and happens before the refresh. Where a write publishes by itself, no such row is needed, and none is told.
 fn is_noted(rows: &[u32], counts: &[u16], later: Later, c: usize) -> bool
     requires given { Given later.n later.processes later.model rows.now counts.now }
-    requires y_lt_n { (later.y < later.n) × (c < later.n) × (later.refresh ≤ later.n) × (later.own ≡ publishes later.model WRITE) }
+    requires later_row { (later.y < later.n) × (c < later.n) × (later.refresh ≤ later.n) × (later.own ≡ publishes later.model WRITE) }
     ensures { 0 < later.refresh → publishes later.model WRITE ≡ false → result ≡ noted (rows_in later.n rows.now) later.model later.y (later.refresh - 1) c }
 {
     if later.refresh == 0 {
@@ -418,8 +418,8 @@ fn is_noted(rows: &[u32], counts: &[u16], later: Later, c: usize) -> bool
 // Row x before the later row is properly synchronized; `last` is the index of the last noted row of the process of x, plus one.
 fn is_in_order(rows: &[u32], counts: &[u16], later: Later, x: usize, last: usize) -> bool
     requires given { Given later.n later.processes later.model rows.now counts.now }
-    requires y_lt_n { (later.y < later.n) × (x < later.n) × (later.refresh ≡ refresh_at (rows_in later.n rows.now) later.model later.y) × (later.refresh ≤ later.n) × (later.own ≡ publishes later.model WRITE) }
-    requires last_value { 0 < later.refresh → publishes later.model WRITE ≡ false → last ≡ last_noted (rows_in later.n rows.now) later.model later.y (later.refresh - 1) (row_at (rows_in later.n rows.now) x).process later.y }
+    requires later_row { (later.y < later.n) × (x < later.n) × (later.refresh ≡ refresh_at (rows_in later.n rows.now) later.model later.y) × (later.refresh ≤ later.n) × (later.own ≡ publishes later.model WRITE) }
+    requires noted_last { 0 < later.refresh → publishes later.model WRITE ≡ false → last ≡ last_noted (rows_in later.n rows.now) later.model later.y (later.refresh - 1) (row_at (rows_in later.n rows.now) x).process later.y }
     ensures { result ≡ is_in_order (rows_in later.n rows.now) later.model x later.y }
 {
     let at = x * rows::FIELDS;

@@ -1,13 +1,8 @@
 -- Races and verdicts in document 01's words. Rows are named by their places, from 0; a verdict gives row numbers, which are one more.
-use Prim.Native.Nat.{ℕ, zero, suc, ◌+◌, ◌≤◌, ◌<◌}
-use native.Mathlib.Omega.{arith}
-use mathlib.Core.Path.{◌≡◌, refl, sym, subst, ◌∙◌}
-use mathlib.Core.Logic.{◌↔◌, ◌⊎◌, inl, inr}
-use mathlib.Core.Bool.{true, ◌||◌, false≢true}
-use mathlib.Core.List.{List}
-use lib.ListN.{length}
+use Rattle.std.proofs.Common.{ℕ, zero, suc, ◌+◌, ◌≤◌, ◌<◌, arith, ◌≡◌, refl, sym, subst, ◌∙◌, ◌↔◌, ◌⊎◌, inl, inr, true, ◌||◌, List, length, lt-ltb, ltb-true, eq-eqb, eqb-true}
+use mathlib.Core.Bool.{false≢true}
 use lib.Dec.{ltb, eqb}
-use borrow.Author.Tests.{lt-ltb, ltb-true, eq-eqb, eqb-true, not-true}
+use borrow.Author.Tests.{not-true}
 use Rattle.rows.specs.Limits.{MODELS}
 use Rattle.rows.specs.Kinds.{READ, WRITE, COMMIT, OPEN, CLOSE, SYNC}
 use Rattle.models.specs.Models.{POSIX, COMMIT_MODEL, SESSION, MPI_IO}

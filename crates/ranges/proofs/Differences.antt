@@ -1,11 +1,8 @@
 -- A difference raised by TOP: its quotient by TOP tells which number is the larger, and its remainder is then how far.
-use Prim.Native.Nat.{ℕ, ◌+◌, ◌*◌, ◌-◌, ◌/◌, ◌%◌, ◌<◌, ◌≤◌, max, min}
-use native.Mathlib.Omega.{arith}
+use Rattle.std.proofs.Common.{ℕ, ◌+◌, ◌*◌, ◌-◌, ◌/◌, ◌%◌, ◌<◌, ◌≤◌, max, min, arith, ◌≡◌, Bool, true, false, cond, le-leb, lt-ltb, le-ltb}
 use native.Mathlib.Decide.{dec_lt}
-use mathlib.Core.Path.{◌≡◌}
-use mathlib.Core.Bool.{Bool, true, false, cond}
 use lib.Dec.{leb, ltb}
-use borrow.Author.Tests.{le-leb, lt-leb, lt-ltb, le-ltb}
+use borrow.Author.Tests.{lt-leb}
 use Rattle.ranges.specs.Ranges.{TOP, overlap_of}
 
 module _ (a b : ℕ) (h : a < TOP) (k : b < TOP) where

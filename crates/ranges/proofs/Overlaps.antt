@@ -1,10 +1,5 @@
 -- The test says yes exactly where some byte lies in both ranges.
-use Prim.Native.Nat.{ℕ, ◌+◌, ◌≤◌, ◌<◌, max, min}
-use native.Mathlib.Omega.{arith}
-use mathlib.Core.Path.{◌≡◌, refl}
-use mathlib.Core.Logic.{◌↔◌}
-use mathlib.Core.Bool.{Bool, true, false, cond}
-use borrow.Author.Tests.{lt-ltb, ltb-true}
+use Rattle.std.proofs.Common.{ℕ, ◌+◌, ◌≤◌, ◌<◌, max, min, arith, ◌≡◌, refl, ◌↔◌, Bool, true, false, cond, lt-ltb, ltb-true}
 use Rattle.rows.specs.Limits.{OFFSET_MAX}
 use Rattle.ranges.specs.Ranges.{Within, overlaps, YES, NO, overlap_of}
 

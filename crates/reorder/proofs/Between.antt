@@ -1,13 +1,8 @@
 -- Laws of one list of rows: conflict is symmetric, proper synchronization implies happens-before, and a race taken apart and put together.
-use Prim.Native.Nat.{ℕ, zero, suc, ◌<◌}
-use native.Mathlib.Omega.{arith}
-use mathlib.Core.Path.{◌≡◌, sym, ◌∙◌}
-use mathlib.Core.Logic.{◌⊎◌, inl, inr}
-use mathlib.Core.Bool.{Bool, true, false, cond, ◌||◌, false≢true}
-use mathlib.Core.List.{List}
-use lib.ListN.{length}
+use Rattle.std.proofs.Common.{ℕ, zero, suc, ◌<◌, arith, ◌≡◌, sym, ◌∙◌, ◌⊎◌, inl, inr, Bool, true, false, cond, ◌||◌, List, length, lt-ltb, ne_eqb, eqb-true}
+use mathlib.Core.Bool.{false≢true}
 use lib.Dec.{ltb, eqb}
-use borrow.Author.Tests.{lt-ltb, ne_eqb, eqb-true, not-true}
+use borrow.Author.Tests.{not-true}
 use Rattle.rows.specs.Kinds.{COMMIT, OPEN, CLOSE, SYNC}
 use Rattle.rows.specs.declared.Row.{Row}
 use Rattle.rows.specs.Rows.{row_at}

@@ -1,19 +1,11 @@
 -- What the tests on a call's answer and on errno say of the outcome. A signed number is tested by its bits.
-use Prim.Native.Nat.{ℕ, zero, suc, min, ◌+◌, ◌<◌, ◌≤◌, ◌-◌, ◌^◌}
-use native.Mathlib.Omega.{arith}
-use native.Mathlib.Nat.{lt_of_le_of_lt}
-use mathlib.Core.Path.{◌≡◌, refl, sym, ap, subst, ◌∙◌}
-use mathlib.Core.Bool.{Bool, true, false, cond, false≢true}
-use lib.IntN.{ℤ, pos, negsuc, nat_abs}
+use Rattle.std.proofs.Common.{ℕ, zero, suc, min, ◌+◌, ◌<◌, ◌≤◌, ◌-◌, ◌^◌, arith, lt_of_le_of_lt, ◌≡◌, refl, sym, ap, subst, ◌∙◌, Bool, true, false, cond, ℤ, pos, negsuc, List, length, take, length-take-le, T, lit<, ne_eqb, ltb-true, w32, w64, Fits, SFits, to_z, of_z}
+use mathlib.Core.Bool.{false≢true}
+use lib.IntN.{nat_abs}
 use lib.Signed.{mag, lt_z, non_neg, nat_abs-le}
-use mathlib.Core.List.{List}
-use lib.ListN.{length, take}
-use lib.Seq.{length-take-le}
-use lib.Dec.{T, lit<, eqb}
-use borrow.Author.Tests.{ne_eqb, ltb-true}
+use lib.Dec.{eqb}
 use borrow.Rule.Slice.PartMut.{mid_of, put_mid, same_len_mid}
-use mir.Syntax.{w32, w64}
-use mir.Val.{Fits, SFits, to_z, of_z, hbits}
+use mir.Val.{hbits}
 use mir.ValLaws.{to_z-of_z}
 use Rattle.streams.specs.declared.Moved.{Moved}
 use Rattle.streams.specs.declared.Moved.TheVariants.{Took, End, Again, Failed}

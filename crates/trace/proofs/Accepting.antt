@@ -1,14 +1,9 @@
 -- A text is accepted, with its rows, exactly where it passes every question.
-use Prim.Native.Nat.{ℕ, zero, suc, ◌+◌, ◌≤◌, ◌<◌}
-use native.Mathlib.Omega.{arith}
-use mathlib.Core.Path.{◌≡◌, refl, sym, ap, subst, ◌∙◌}
-use mathlib.Core.Logic.{◌↔◌}
-use mathlib.Core.Bool.{Bool, true, false, cond, ◌&&◌, false≢true}
-use mathlib.Core.List.{List, [], ◌∷◌, ◌++◌, map, append-nil}
-use lib.ListN.{length, get_or, take}
+use Rattle.std.proofs.Common.{ℕ, zero, suc, ◌+◌, ◌≤◌, ◌<◌, arith, ◌≡◌, refl, sym, ap, subst, ◌∙◌, ◌↔◌, Bool, true, false, cond, ◌&&◌, List, [], ◌∷◌, ◌++◌, map, append-nil, length, take, lt-ltb, ltb-true, eq-eqb, eqb-true}
+use mathlib.Core.Bool.{false≢true}
+use lib.ListN.{get_or}
 use lib.Seq.{append_snoc}
 use lib.Dec.{eqb}
-use borrow.Author.Tests.{lt-ltb, ltb-true, eq-eqb, eqb-true}
 use Rattle.csv_records.specs.Grammar.{Text}
 use Rattle.csv_content.specs.Content.{same_bytes}
 use Rattle.csv_records.specs.Reading.{records, Records, Ending, all_read, at-malformed, at-limit}

@@ -1,13 +1,9 @@
 -- Laws of reading a trace that other crates cite.
-use Prim.Native.Nat.{ℕ, ◌+◌, ◌*◌, ◌≤◌, ◌<◌}
-use native.Mathlib.Omega.{arith}
-use mathlib.Core.Path.{◌≡◌, refl, sym, subst, ◌∙◌}
-use mathlib.Core.Bool.{Bool, true, false, cond, false≢true}
-use mathlib.Core.List.{List, [], ◌∷◌, ◌++◌, map, append-nil}
-use lib.ListN.{length, length-append}
+use Rattle.std.proofs.Common.{ℕ, ◌+◌, ◌*◌, ◌≤◌, ◌<◌, arith, ◌≡◌, refl, sym, subst, ◌∙◌, Bool, true, false, cond, List, [], ◌∷◌, ◌++◌, map, append-nil, length, length-append, leb-true, ltb-true, eqb-true}
+use mathlib.Core.Bool.{false≢true}
 use lib.Seq.{append_snoc}
 use lib.Dec.{ltb, eqb}
-use borrow.Author.Tests.{leb-true, ltb-true, eqb-true, eqb-false}
+use borrow.Author.Tests.{eqb-false}
 use Rattle.csv_records.specs.Reading.{Records, records, Ending, all_read, at-malformed, at-limit}
 use Rattle.rows.specs.Limits.{PROCESSES, ROWS, FILES, MESSAGES, OFFSET_MAX}
 use Rattle.rows.specs.declared.Row.{Row}

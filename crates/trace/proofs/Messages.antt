@@ -1,12 +1,9 @@
 -- The messages of sound rows: each is sent once, posted once and arrives once, and a row at which a message arrives has the send and the posted
 -- receive of it before it.
-use Prim.Native.Nat.{ℕ, zero, suc, ◌≤◌, ◌<◌}
-use native.Mathlib.Omega.{arith}
+use Rattle.std.proofs.Common.{ℕ, zero, suc, ◌≤◌, ◌<◌, arith, ◌≡◌, sym, ap, subst, ◌∙◌, List, [], ◌∷◌, ◌++◌, length, take, length-append, length-take-le, take-suc, get_or-take}
 use native.Mathlib.Decide.{dec_lt}
-use mathlib.Core.Path.{◌≡◌, sym, ap, subst, ◌∙◌}
-use mathlib.Core.List.{List, [], ◌∷◌, ◌++◌}
-use lib.ListN.{length, take, length-append, get_or-append}
-use lib.Seq.{length-take-le, take-length, take-suc, get_or-append_seam, get_or-take}
+use lib.ListN.{get_or-append}
+use lib.Seq.{take-length, get_or-append_seam}
 use Rattle.rows.specs.declared.Row.{Row}
 use Rattle.rows.specs.Rows.{row_at, no_row}
 use Rattle.messages.proofs.InOrder.{Sends, Posts, Arrives, InOrder, message-iff, same-before, more_rows}

@@ -1,10 +1,7 @@
 -- Each row of sound rows is well formed.
-use Prim.Native.Nat.{ℕ, ◌≤◌, ◌<◌}
-use native.Mathlib.Omega.{arith}
+use Rattle.std.proofs.Common.{ℕ, ◌≤◌, ◌<◌, arith, ◌≡◌, sym, subst, List, [], ◌∷◌, ◌++◌, length, length-append}
 use native.Mathlib.Decide.{dec_lt}
-use mathlib.Core.Path.{◌≡◌, sym, subst}
-use mathlib.Core.List.{List, [], ◌∷◌, ◌++◌}
-use lib.ListN.{length, length-append, get_or-append}
+use lib.ListN.{get_or-append}
 use lib.Seq.{get_or-append_seam}
 use Rattle.rows.specs.declared.Row.{Row}
 use Rattle.trace.proofs.Laws.{WellFormed, Sound, none, next}

@@ -1,12 +1,9 @@
 -- Reading rows one after the other, whatever is asked of each record: the header, what holds after some rows, and what the next record adds.
-use Prim.Native.Nat.{ℕ, suc, ◌+◌, ◌*◌, ◌≤◌, ◌<◌}
-use native.Mathlib.Omega.{arith}
-use mathlib.Core.Path.{◌≡◌, refl, sym, ap, ap₂, ◌∙◌}
-use mathlib.Core.Bool.{Bool, true, false, cond, ◌&&◌, false≢true}
-use mathlib.Core.List.{List, [], ◌∷◌, ◌++◌}
-use lib.ListN.{length, take, drop, length-append, length-map}
+use Rattle.std.proofs.Common.{ℕ, suc, ◌+◌, ◌*◌, ◌≤◌, ◌<◌, arith, ◌≡◌, refl, sym, ap, ap₂, ◌∙◌, Bool, true, false, cond, ◌&&◌, List, [], ◌∷◌, ◌++◌, length, take, drop, length-append, eq-eqb, ne_eqb, eqb-true}
+use mathlib.Core.Bool.{false≢true}
+use lib.ListN.{length-map}
 use lib.Dec.{ltb, eqb}
-use borrow.Author.Tests.{eq-eqb, ne_eqb, eqb-true, eqb-false}
+use borrow.Author.Tests.{eqb-false}
 use Rattle.csv_content.specs.Content.{content_of, same_bytes}
 use Rattle.csv_records.specs.Reading.{read_at, records, records_from, on_found, Finding, nothing, malformed, past-limit, found, Records, Ending, all_read, at-malformed, at-limit, first_six, reading_of}
 use Rattle.csv_field.specs.declared.Span.{Span}

@@ -10,8 +10,8 @@ ghost use Rattle.rows.specs.Questions.{first_no};
 ghost use Rattle.trace.specs.Reads.{fields_of, headed, judged_by};
 ghost use Rattle.rows.specs.Limits.{ROWS, PROCESSES};
 
-use csv_records::Status;
 use csv_field::Span;
+use csv_records::Status;
 use rows::refusal;
 use trace_numbers::ReadRow;
 

@@ -5,8 +5,8 @@ ghost use Rattle.trace.specs.Reads.{fields_of, judged_row, table_left, judge_fro
 ghost use Rattle.rows.specs.Limits.{ROWS, PROCESSES};
 
 use crate::{Checked, judge_record};
-use csv_records::Status;
 use csv_field::Span;
+use csv_records::Status;
 use rows::refusal;
 use trace_numbers::ReadRow;
 

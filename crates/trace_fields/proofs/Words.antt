@@ -1,11 +1,6 @@
 -- Kinds by their words, and the fields that a kind uses.
-use Prim.Native.Nat.{ℕ, ◌+◌, ◌-◌, ◌≤◌, ◌<◌}
-use native.Mathlib.Omega.{arith}
-use mathlib.Core.Path.{◌≡◌, sym, ap, ◌∙◌}
-use mathlib.Core.Bool.{Bool, true, false, not}
-use mathlib.Core.List.{List, [], ◌∷◌, ◌++◌}
-use lib.ListN.{length, get_or, take, drop, replicate, get_or-replicate, length-replicate, get_or-append, get_or-eq_default}
-use lib.Seq.{get_or-append-add}
+use Rattle.std.proofs.Common.{ℕ, ◌+◌, ◌-◌, ◌≤◌, ◌<◌, arith, ◌≡◌, sym, ap, ◌∙◌, Bool, true, false, not, List, [], ◌∷◌, ◌++◌, length, take, drop, replicate, get_or-append-add}
+use lib.ListN.{get_or, get_or-replicate, length-replicate, get_or-append, get_or-eq_default}
 use Rattle.csv_content.specs.Content.{same_bytes, is_nil}
 use Rattle.rows.specs.Kinds.{COMMIT, SEND, KINDS}
 use Rattle.trace_numbers.specs.declared.Used.{Used}

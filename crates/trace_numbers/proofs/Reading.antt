@@ -1,9 +1,6 @@
 -- Question 10, by the numbers that the code read of a record's fields.
-use Prim.Native.Nat.{ℕ}
-use native.Mathlib.Omega.{arith}
-use mathlib.Core.Path.{◌≡◌, refl, sym, ap, ◌∙◌}
-use mathlib.Core.Bool.{Bool, true, false, cond, ◌&&◌, and-false}
-use mathlib.Core.List.{List}
+use Rattle.std.proofs.Common.{ℕ, arith, ◌≡◌, refl, sym, ap, ◌∙◌, Bool, true, false, cond, ◌&&◌, List}
+use mathlib.Core.Bool.{and-false}
 use lib.ListN.{get_or, get_or-map}
 use Rattle.csv_field.specs.FieldReading.{no_span}
 use Rattle.csv_field.specs.declared.Span.{Span}

@@ -1,14 +1,8 @@
 -- A row passes the writer's questions exactly where it is well formed, and rows pass exactly where they are sound.
-use Prim.Native.Nat.{ℕ, ◌+◌, ◌≤◌, ◌<◌}
-use native.Mathlib.Omega.{arith}
-use mathlib.Core.Path.{◌≡◌, refl, sym, ap, ◌∙◌}
-use mathlib.Core.Logic.{◌↔◌}
-use mathlib.Core.Bool.{Bool, true, false, cond, not, false≢true}
-use mathlib.Core.List.{List, [], ◌∷◌, ◌++◌, append-nil}
-use lib.ListN.{length}
+use Rattle.std.proofs.Common.{ℕ, ◌+◌, ◌≤◌, ◌<◌, arith, ◌≡◌, refl, sym, ap, ◌∙◌, ◌↔◌, Bool, true, false, cond, not, List, [], ◌∷◌, ◌++◌, append-nil, length, lt-ltb, ltb-true, le-leb, leb-true, eq-eqb, eqb-true}
+use mathlib.Core.Bool.{false≢true}
 use lib.Seq.{append_snoc}
 use lib.Dec.{ltb, eqb}
-use borrow.Author.Tests.{lt-ltb, ltb-true, le-leb, leb-true, eq-eqb, eqb-true}
 use Rattle.csv_records.specs.Reading.{records}
 use Rattle.csv_content.specs.Content.{is_nil}
 use Rattle.messages.specs.Questions.{message_questions}

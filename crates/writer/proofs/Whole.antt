@@ -1,11 +1,5 @@
 -- What the whole call answers and leaves, put together from its parts.
-use Prim.Native.Nat.{ℕ, ◌+◌, ◌*◌, ◌-◌, ◌≤◌, ◌<◌}
-use native.Mathlib.Omega.{arith}
-use mathlib.Core.Path.{◌≡◌, refl, sym, ap, ◌∙◌}
-use mathlib.Core.Bool.{Bool, true, false, not}
-use mathlib.Core.List.{List, []}
-use lib.ListN.{length}
-use borrow.Author.Tests.{ne_eqb, leb-true}
+use Rattle.std.proofs.Common.{ℕ, ◌+◌, ◌*◌, ◌-◌, ◌≤◌, ◌<◌, arith, ◌≡◌, refl, sym, ap, ◌∙◌, Bool, true, false, not, List, [], length, ne_eqb, leb-true}
 use Rattle.print.specs.Puts.{lay}
 use Rattle.print.proofs.Laying.{lay-length, lay-lay}
 use Rattle.rows.specs.declared.Row.{Row}

@@ -1,14 +1,9 @@
 -- A row's line: its length, the parts that it is put together from, and its derivation by the grammar.
-use Prim.Native.Nat.{ℕ, ◌+◌, ◌≤◌, ◌<◌}
-use native.Mathlib.Omega.{arith}
+use Rattle.std.proofs.Common.{ℕ, ◌+◌, ◌≤◌, ◌<◌, arith, ◌≡◌, refl, sym, ap, ◌∙◌, Bool, true, false, ◌&&◌, List, [], ◌∷◌, ◌++◌, append_assoc, length, length-append, leb-true, eqb-true}
 use native.Mathlib.Decide.{dec_lt}
-use mathlib.Core.Path.{◌≡◌, refl, sym, ap, ◌∙◌}
-use mathlib.Core.Bool.{Bool, true, false, ◌&&◌}
-use mathlib.Core.List.{List, [], ◌∷◌, ◌++◌, append_assoc}
-use lib.ListN.{length, get_or, length-append, get_or-eq_default}
+use lib.ListN.{get_or, get_or-eq_default}
 use lib.Seq.{take-length}
 use lib.Dec.{leb, eqb}
-use borrow.Author.Tests.{leb-true, eqb-true}
 use Rattle.csv_field.specs.FieldGrammar.{COMMA, CRLF, NonEscaped, none, non_escaped}
 use Rattle.csv_field.specs.FieldReading.{is_text, text_length}
 use Rattle.csv_field.proofs.Runs.{run_text}

@@ -1,12 +1,8 @@
 -- The decimal digits of a number are a plain number whose value is the number, and they are TEXTDATA.
-use Prim.Native.Nat.{ℕ, zero, suc, ◌+◌, ◌*◌, ◌-◌, ◌/◌, ◌%◌, ◌≤◌, ◌<◌}
-use native.Mathlib.Omega.{arith}
+use Rattle.std.proofs.Common.{ℕ, zero, suc, ◌+◌, ◌*◌, ◌-◌, ◌/◌, ◌%◌, ◌≤◌, ◌<◌, arith, ◌≡◌, refl, sym, ap, ◌∙◌, Bool, true, cond, ◌&&◌, List, [], ◌∷◌, ◌++◌, lt-ltb, le-ltb, le-leb, leb-true, ne_eqb}
 use native.Mathlib.Decide.{dec_lt}
-use mathlib.Core.Path.{◌≡◌, refl, sym, ap, ◌∙◌}
-use mathlib.Core.Bool.{Bool, true, cond, ◌&&◌, and-true, and_assoc}
-use mathlib.Core.List.{List, [], ◌∷◌, ◌++◌}
+use mathlib.Core.Bool.{and-true, and_assoc}
 use lib.Dec.{leb, ltb}
-use borrow.Author.Tests.{lt-ltb, le-ltb, le-leb, leb-true, ne_eqb}
 use Rattle.csv_field.specs.FieldGrammar.{x2d_7e, NonEscaped, none, text}
 use Rattle.csv_field.specs.FieldReading.{byte_between}
 use Rattle.print.specs.Decimal.{WIDTH, digits_of, width_within, decimal_of}

@@ -1,10 +1,6 @@
 -- What the functions put and count, part by part.
-use Prim.Native.Nat.{ℕ, zero, suc, ◌+◌, ◌≤◌}
-use native.Mathlib.Omega.{arith}
-use mathlib.Core.Path.{◌≡◌, sym, subst, ◌∙◌}
-use mathlib.Core.Bool.{Bool, true, false}
-use mathlib.Core.List.{List, [], ◌∷◌}
-use lib.ListN.{length, get_or}
+use Rattle.std.proofs.Common.{ℕ, zero, suc, ◌+◌, ◌≤◌, arith, ◌≡◌, sym, subst, ◌∙◌, Bool, true, false, List, [], ◌∷◌, length}
+use lib.ListN.{get_or}
 use Rattle.csv_field.specs.FieldGrammar.{COMMA, CRLF}
 use Rattle.print.specs.Decimal.{decimal_of, width_of}
 use Rattle.print.specs.Puts.{lay, put_in, put_end}

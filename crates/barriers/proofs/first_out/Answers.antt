@@ -1,6 +1,5 @@
 -- `barriers::first_out` meets its contract.
-use native.Mathlib.Omega.{arith}
-use mathlib.Core.Path.{refl, sym, ◌∙◌}
+use Rattle.std.proofs.Common.{arith, refl, sym, ◌∙◌}
 use Rattle.barriers.proofs.Codes.{arrivals_none, arrivals_row, arrivals_all, out-found, out-on, out-over}
 use Rattle.barriers.proofs.first_out.Goals as goal
 

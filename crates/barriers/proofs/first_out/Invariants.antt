@@ -1,7 +1,5 @@
 -- `barriers::first_out` meets its contract.
-use Prim.Native.Nat.{◌-◌, ◌≤◌}
-use mathlib.Core.Path.{◌≡◌}
-use lib.ListN.{drop}
+use Rattle.std.proofs.Common.{◌-◌, ◌≤◌, ◌≡◌, drop}
 use Rattle.rows.specs.Rows.{rows_in}
 use Rattle.barriers.specs.Tables.{first_out_by, arrivals_after}
 use Rattle.barriers.proofs.first_out.Given as goal

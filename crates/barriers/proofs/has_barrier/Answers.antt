@@ -1,9 +1,6 @@
 -- `barriers::has_barrier` meets its contract.
-use mathlib.Core.Path.{ap}
-use native.Mathlib.Omega.{arith}
-use mathlib.Core.Bool.{false}
+use Rattle.std.proofs.Common.{ap, arith, false, eq-eqb, ne_eqb}
 use Rattle.rows.proofs.Searching.{search_none, search_over, search_on, search_found}
-use borrow.Author.Tests.{eq-eqb, ne_eqb}
 use Rattle.rows.specs.Kinds.{BARRIER}
 use Rattle.barriers.specs.Barriers.{is_barrier}
 use Rattle.barriers.proofs.has_barrier.Goals as goal

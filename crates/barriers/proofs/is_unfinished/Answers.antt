@@ -1,7 +1,5 @@
 -- `barriers::is_unfinished` meets its contract.
-use mathlib.Core.Path.{ap, ◌∙◌}
-use native.Mathlib.Omega.{arith}
-use mathlib.Core.Bool.{false}
+use Rattle.std.proofs.Common.{ap, ◌∙◌, arith, false}
 use Rattle.rows.proofs.Searching.{search_none, search_over, search_on, search_found}
 use Rattle.barriers.specs.Tables.{unfinished_by}
 use Rattle.barriers.proofs.is_unfinished.Goals as goal

@@ -1,7 +1,5 @@
 -- `barriers::is_unfinished` meets its contract.
-use mathlib.Core.Path.{◌≡◌}
-use Prim.Native.Nat.{◌-◌, ◌≤◌}
-use mathlib.Core.Bool.{false}
+use Rattle.std.proofs.Common.{◌≡◌, ◌-◌, ◌≤◌, false}
 use Rattle.rows.specs.Rows.{rows_in}
 use Rattle.rows.specs.Tests.{any}
 use Rattle.barriers.specs.Tables.{unfinished_by}

@@ -1,5 +1,5 @@
 -- `barriers::note_stand` meets its contract.
-use mathlib.Core.Path.{sym, ap}
+use Rattle.std.proofs.Common.{sym, ap}
 use lib.ListN.{set}
 use lib.Seq.{set_out}
 use Rattle.barriers.specs.Tables.{stand_of}

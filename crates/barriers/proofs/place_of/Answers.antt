@@ -1,11 +1,9 @@
 -- `barriers::place_of` meets its contract.
-use mathlib.Core.Path.{sym}
+use Rattle.std.proofs.Common.{sym, not, ap}
 use Rattle.rows.specs.Rows.{rows_in}
 use Rattle.rows.proofs.Bools.{refused}
 use Rattle.barriers.proofs.Asking.{asked-out, asked-unfinished, asked-yes}
 use Rattle.barriers.proofs.Kept.{none-yes}
-use mathlib.Core.Bool.{not}
-use mathlib.Core.Path.{ap}
 use Rattle.barriers.proofs.place_of.Goals as goal
 
 pub returns-then-not-has_barrier : goal.returns-then-not-has_barrier

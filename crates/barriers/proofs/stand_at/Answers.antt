@@ -1,5 +1,5 @@
 -- `barriers::stand_at` meets its contract.
-use mathlib.Core.Path.{sym}
+use Rattle.std.proofs.Common.{sym}
 use lib.ListN.{get_or-eq_default}
 use Rattle.barriers.proofs.stand_at.Goals as goal
 

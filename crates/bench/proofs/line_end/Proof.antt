@@ -1,7 +1,5 @@
 -- `bench::line_end` meets its contract.
-use borrow.Author.Rules.{rules}
-use Prim.Native.Nat.{◌≤◌, ◌-◌}
-use lib.ListN.{length}
+use Rattle.std.proofs.Common.{rules, ◌≤◌, ◌-◌, length}
 use Rattle.bench.proofs.line_end.Statement.{statement}
 use Rattle.bench.proofs.line_end.Tie as tie
 

@@ -1,9 +1,6 @@
 -- `csv_records::read_fields` meets its contract.
 use Rattle.csv_records.specs.Reading.{first_six}
-use native.Mathlib.Omega.{arith}
-use mathlib.Core.List.{[], ◌∷◌, ◌++◌}
-use mathlib.Core.Logic.{inl, inr}
-use mathlib.Core.Path.{◌≡◌, ◌∙◌}
+use Rattle.std.proofs.Common.{arith, [], ◌∷◌, ◌++◌, inl, inr, ◌≡◌, ◌∙◌}
 use Rattle.csv_records.proofs.Going.{start, stored, comma-in, line-in, next, last_line, last-text, bad, over}
 use Rattle.csv_records.proofs.read_fields.Goals as goal
 use Rattle.csv_records.proofs.read_fields.Goals.{Joined-count-lt-KEPT, else-count-lt-KEPT, then-count-lt-KEPT}

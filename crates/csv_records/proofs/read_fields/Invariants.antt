@@ -1,7 +1,6 @@
 -- `csv_records::read_fields` meets its contract.
 use Rattle.csv_records.proofs.Going.{Going, start}
-use lib.ListN.{length}
-use Prim.Native.Nat.{◌-◌}
+use Rattle.std.proofs.Common.{length, ◌-◌}
 use Rattle.csv_records.proofs.read_fields.Given as goal
 
 -- The record at the start has the fields read so far, whose spans are kept up to the sixth, and the fields from i on.

@@ -1,11 +1,7 @@
 -- `csv_records::read_record` meets its contract.
 use Rattle.csv_records.proofs.Limit.{read_past, read-cut, read_whole}
 use Rattle.csv_records.specs.Reading.{record_in, reading_of}
-use lib.ListN.{take}
-use lib.Seq.{length-take-le}
-use native.Mathlib.Omega.{arith}
-use mathlib.Core.Path.{◌≡◌, sym, ap, ◌∙◌}
-use mathlib.Core.Bool.{true}
+use Rattle.std.proofs.Common.{take, length-take-le, arith, ◌≡◌, sym, ap, ◌∙◌, true}
 use Rattle.csv_records.proofs.read_record.Goals as goal
 
 pub returns-then-text-at : goal.returns-then-text-at

@@ -1,7 +1,5 @@
 -- `csv_vectors::line_end` meets its contract.
-use borrow.Author.Rules.{rules}
-use Prim.Native.Nat.{◌≤◌, ◌-◌}
-use lib.ListN.{length}
+use Rattle.std.proofs.Common.{rules, ◌≤◌, ◌-◌, length}
 use Rattle.csv_vectors.proofs.line_end.Statement.{statement}
 use Rattle.csv_vectors.proofs.line_end.Tie as tie
 

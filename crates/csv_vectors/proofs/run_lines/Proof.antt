@@ -1,7 +1,5 @@
 -- `csv_vectors::run_lines` is safe and ends.
-use borrow.Author.Rules.{rules}
-use Prim.Native.Nat.{◌-◌}
-use lib.ListN.{length}
+use Rattle.std.proofs.Common.{rules, ◌-◌, length}
 use Rattle.csv_vectors.proofs.run_lines.Statement.{statement}
 use Rattle.csv_vectors.proofs.run_lines.Tie as tie
 

@@ -3,9 +3,7 @@ use Rattle.extents.proofs.Entering.{refused, list-unlawful}
 use Rattle.extents_meaning.specs.Maps.{listed_in, bytes_of}
 use Rattle.extents.specs.Entries.{listed_count}
 use Rattle.extents_meaning.specs.Runs.{pieces_of}
-use lib.ListN.{length}
-use mathlib.Core.Path.{sym, ◌∙◌}
-use native.Mathlib.Omega.{arith}
+use Rattle.std.proofs.Common.{length, sym, ◌∙◌, arith}
 use Rattle.extents.proofs.list_range.Goals as goal
 
 pub is_lawful-requires : goal.is_lawful-requires

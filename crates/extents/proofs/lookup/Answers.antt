@@ -1,6 +1,5 @@
 -- `extents::lookup` meets its contract.
-use native.Mathlib.Omega.{arith}
-use mathlib.Core.Path.{sym, ◌∙◌}
+use Rattle.std.proofs.Common.{arith, sym, ◌∙◌}
 use Rattle.extents.proofs.Entering.{lookup_unlawful}
 use Rattle.extents.proofs.lookup.Goals as goal
 

@@ -3,8 +3,7 @@ use Rattle.extents.proofs.Doubles.{publish_unlawful}
 use Rattle.extents.specs.Entries.{published_maps}
 use Rattle.extents.proofs.Entering.{refused}
 use Rattle.extents.specs.declared.Answer.TheVariants.{Done}
-use mathlib.Core.Path.{sym, ◌∙◌}
-use native.Mathlib.Omega.{arith}
+use Rattle.std.proofs.Common.{sym, ◌∙◌, arith}
 use Rattle.extents.proofs.publish.Goals as goal
 
 pub two_maps-requires : goal.two_maps-requires

@@ -1,8 +1,6 @@
 -- `extents::read` meets its contract.
 use Rattle.extents.proofs.Doubles.{refused-read, read-unlawful}
-use lib.ListN.{length}
-use mathlib.Core.Path.{sym, ◌∙◌}
-use native.Mathlib.Omega.{arith}
+use Rattle.std.proofs.Common.{length, sym, ◌∙◌, arith}
 use Rattle.extents.proofs.read.Goals as goal
 
 pub two_maps-requires : goal.two_maps-requires

@@ -3,8 +3,7 @@ use Rattle.extents.proofs.Doubles.{refresh_unlawful}
 use Rattle.extents.specs.Entries.{refreshed_maps}
 use Rattle.extents.proofs.Entering.{refused}
 use Rattle.extents.specs.declared.Answer.TheVariants.{Done}
-use mathlib.Core.Path.{sym, ◌∙◌}
-use native.Mathlib.Omega.{arith}
+use Rattle.std.proofs.Common.{sym, ◌∙◌, arith}
 use Rattle.extents.proofs.refresh.Goals as goal
 
 pub two_maps-requires : goal.two_maps-requires

@@ -2,8 +2,7 @@
 use Rattle.extents.proofs.Entering.{refused, write-unlawful}
 use Rattle.extents.specs.Entries.{written_map}
 use Rattle.extents.specs.declared.Answer.TheVariants.{Done}
-use mathlib.Core.Path.{sym, ◌∙◌}
-use native.Mathlib.Omega.{arith}
+use Rattle.std.proofs.Common.{sym, ◌∙◌, arith}
 use Rattle.extents.proofs.write.Goals as goal
 
 pub is_lawful-requires : goal.is_lawful-requires

@@ -1,6 +1,5 @@
 -- `extents_lay::first_behind` meets its contract.
-use native.Mathlib.Omega.{arith}
-use mathlib.Core.Path.{◌∙◌}
+use Rattle.std.proofs.Common.{arith, ◌∙◌}
 use Rattle.extents_map.proofs.Parted.{reach_start, reach_next, reach_stop}
 use Rattle.extents_lay.proofs.Ranges.{order}
 use Rattle.extents_lay.proofs.first_behind.Goals as goal

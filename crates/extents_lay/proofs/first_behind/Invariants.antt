@@ -1,5 +1,5 @@
 -- `extents_lay::first_behind` meets its contract.
-use Prim.Native.Nat.{◌-◌}
+use Rattle.std.proofs.Common.{◌-◌}
 use Rattle.extents_meaning.specs.Maps.{runs}
 use Rattle.extents_map.proofs.Parted.{Reaching}
 use Rattle.extents_lay.proofs.first_behind.Given as goal

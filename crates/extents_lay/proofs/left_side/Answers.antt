@@ -1,8 +1,5 @@
 -- `extents_lay::left_side` meets its contract.
-use Prim.Native.Nat.{◌≤◌}
-use native.Mathlib.Omega.{arith}
-use mathlib.Core.Path.{refl, sym, ◌∙◌}
-use lib.ListN.{length, drop_of_length-le}
+use Rattle.std.proofs.Common.{◌≤◌, arith, refl, sym, ◌∙◌, length, drop_of_length-le}
 use Rattle.extents_meaning.specs.Runs.{cell_at}
 use Rattle.extents_meaning.specs.Maps.{runs}
 use Rattle.extents_map.proofs.Parted.{left-none, left-clear, left_join, left-rest}

@@ -1,5 +1,5 @@
 -- `extents_lay::move_to` meets its contract.
-use Prim.Native.Nat.{◌-◌}
+use Rattle.std.proofs.Common.{◌-◌}
 use Rattle.extents_lay.proofs.Moves.{Downward}
 use Rattle.extents_lay.proofs.move_to.Given as goal
 

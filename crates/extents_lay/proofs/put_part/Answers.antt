@@ -1,15 +1,15 @@
 -- `extents_lay::put_part` meets its contract.
-use native.Mathlib.Omega.{arith}
+use Rattle.std.proofs.Common.{arith}
 use Rattle.extents_lay.proofs.Moves.{put-none, put_one}
 use Rattle.extents_lay.proofs.put_part.Goals as goal
 
 pub returns-then-length-eq0 : goal.returns-then-length-eq0
-returns-then-length-eq0 c = let both = put-none _ _ _ _ _ c.if-length-eq0.true in record { value = both.0; by_index = both.1 }
+returns-then-length-eq0 c = let both = put-none _ _ _ _ _ c.if-length-eq0.true in record { answer = both.0; runs_put = both.1 }
 
-pub returns-clause-value : goal.returns-clause-value
-returns-clause-value c = let f = c.if-length-eq0.false in omega (arith, f)
+pub returns-clause-answer : goal.returns-clause-answer
+returns-clause-answer c = let f = c.if-length-eq0.false in omega (arith, f)
 
-pub returns-clause-by_index : goal.returns-clause-by_index
-returns-clause-by_index c =
+pub returns-clause-runs_put : goal.returns-clause-runs_put
+returns-clause-runs_put c =
     let f = c.if-length-eq0.false in
     rw c.put_run.ensures ((put_one c.args.map.now c.args.i c.args.start c.args.length c.args.cell (omega (arith, f)) (omega (arith, f, c.requires))).1)

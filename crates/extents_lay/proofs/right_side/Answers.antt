@@ -1,6 +1,5 @@
 -- `extents_lay::right_side` meets its contract.
-use native.Mathlib.Omega.{arith}
-use mathlib.Core.Path.{sym, ◌∙◌}
+use Rattle.std.proofs.Common.{arith, sym, ◌∙◌}
 use Rattle.extents_map.proofs.Parted.{right-none, right-done, right-join, right-rest}
 use Rattle.extents_lay.proofs.Ranges.{order}
 use Rattle.extents_lay.proofs.right_side.Goals as goal

@@ -1,9 +1,6 @@
 -- `extents_pair::has_map` meets its contract.
-use Prim.Native.Nat.{ℕ, ◌+◌, ◌*◌}
-use native.Mathlib.Omega.{arith}
-use mathlib.Core.Path.{sym, ap}
-use lib.ListN.{length}
-use borrow.Author.Tests.{le-leb, lt-leb}
+use Rattle.std.proofs.Common.{ℕ, ◌+◌, ◌*◌, arith, sym, ap, length, le-leb}
+use borrow.Author.Tests.{lt-leb}
 use Rattle.extents_pair.proofs.Pairing.{room-count}
 use Rattle.extents_pair.proofs.has_map.Goals as goal
 

@@ -1,6 +1,5 @@
 -- `extents_pair::marked_in` meets its contract.
-use native.Mathlib.Omega.{arith}
-use lib.ListN.{drop, length-drop}
+use Rattle.std.proofs.Common.{arith, drop, length-drop}
 use Rattle.extents_meaning.specs.Maps.{runs}
 use Rattle.extents_meaning.proofs.Trips.{lawful-map}
 use Rattle.extents_pair.proofs.Gathering.{marked-fewer, marked-at}

@@ -1,7 +1,5 @@
 -- `extents_pair::marked_in` meets its contract.
-use Prim.Native.Nat.{◌+◌, ◌*◌, ◌-◌, ◌≤◌}
-use mathlib.Core.Path.{◌≡◌}
-use lib.ListN.{length, drop}
+use Rattle.std.proofs.Common.{◌+◌, ◌*◌, ◌-◌, ◌≤◌, ◌≡◌, length, drop}
 use Rattle.extents_meaning.specs.Maps.{runs}
 use Rattle.extents_pair.specs.Marks.{marked}
 use Rattle.extents_pair.proofs.marked_in.Given as goal

@@ -1,6 +1,5 @@
 -- `extents_pair::most_runs` meets its contract.
-use native.Mathlib.Omega.{arith}
-use mathlib.Core.Path.{sym, ap, ◌∙◌}
+use Rattle.std.proofs.Common.{arith, sym, ap, ◌∙◌}
 use Rattle.extents_meaning.specs.Maps.{lawful}
 use Rattle.extents_pair.proofs.Pairing.{Told, two-told, map-few}
 use Rattle.extents_pair.proofs.Bounds.{marked-room, most}

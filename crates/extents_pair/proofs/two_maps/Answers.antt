@@ -1,9 +1,7 @@
 -- `extents_pair::two_maps` meets its contract.
-use mathlib.Core.Path.{ap, ◌∙◌}
-use borrow.Author.Tests.{leb-true, eq-eqb, ne_eqb}
+use Rattle.std.proofs.Common.{ap, ◌∙◌, leb-true, eq-eqb, ne_eqb, not}
 use Rattle.rows.proofs.Bools.{refused, passed}
 use Rattle.extents_meaning.specs.Maps.{lawful}
-use mathlib.Core.Bool.{not}
 use Rattle.extents_pair.proofs.two_maps.Goals as goal
 
 pub returns-then-view-below : goal.returns-then-view-below

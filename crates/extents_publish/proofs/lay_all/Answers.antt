@@ -1,7 +1,5 @@
 -- `extents_publish::lay_all` meets its contract.
-use Prim.Native.Nat.{◌-◌}
-use native.Mathlib.Omega.{arith}
-use mathlib.Core.Path.{◌≡◌, ◌∙◌}
+use Rattle.std.proofs.Common.{◌-◌, arith, ◌≡◌, ◌∙◌}
 use mathlib.Core.Bool.{false≢true}
 use Rattle.extents_publish.proofs.Laying.{Turn, lay-start, lay-length, lay-in, lay-stop, lay-end, lay-here, lay-turn}
 use Rattle.extents_publish.proofs.lay_all.Goals as goal
@@ -27,13 +25,13 @@ pub own_at-s-requires : goal.own_at-s-requires
 own_at-s-requires c = lay-here c.loop-left.i c.loop-left.invariant c.loop-left-test.true
 
 pub put-requires : goal.put-requires
-put-requires c = record { size_in_bounds = lay-in c.loop-left.invariant; fact = (turn (goal.at.put-requires c).After-own_at-s).fine }
+put-requires c = record { part_inside = lay-in c.loop-left.invariant; legal_cell = (turn (goal.at.put-requires c).After-own_at-s).fine }
 
 pub shape_of-maps-then-not-put : goal.shape_of-maps-then-not-put
 shape_of-maps-then-not-put c = c.put.auto.maps ∙ lay-length c.loop-left.invariant
 
 pub returns-then-not-put : goal.returns-then-not-put
-returns-then-not-put c = record { below = λ e. absurd (false≢true e); below_2 = λ _. lay-stop c.loop-left.invariant (c.put.ensures.maps_unchanged (c.if-not-put.true)) }
+returns-then-not-put c = record { below = λ e. absurd (false≢true e); stopped = λ _. lay-stop c.loop-left.invariant (c.put.ensures.maps_unchanged (c.if-not-put.true)) }
 
 pub overflow_sub-left : goal.overflow_sub-left
 overflow_sub-left c = (turn (goal.at.overflow_sub-left c).After-own_at-s).counted
@@ -48,7 +46,7 @@ pub loop-left-preserved : goal.loop-left-preserved
 loop-left-preserved c = (turn (goal.at.loop-left-preserved c).After-own_at-s).next (c.put.ensures.below (c.if-not-put.false))
 
 pub put-requires-2 : goal.put-requires-2
-put-requires-2 c = record { size_in_bounds = lay-in c.loop-left.invariant; fact = c.requires.fine }
+put-requires-2 c = record { part_inside = lay-in c.loop-left.invariant; legal_cell = c.requires.fine }
 
 pub shape_of-maps : goal.shape_of-maps
 shape_of-maps c = c.put-2.auto.maps ∙ lay-length c.loop-left.invariant
@@ -59,4 +57,4 @@ returns c =
     let r = c.args.range in
     let p = c.put-2.ensures in
     let z : c.loop-left.left ≡ 0 = omega (arith, c.loop-left-test.false) in
-    record { below = λ e. lay-end k z r.start (r.end - r.start) r.cell (p.below e); below_2 = λ e. lay-stop k (p.maps_unchanged e) }
+    record { below = λ e. lay-end k z r.start (r.end - r.start) r.cell (p.below e); stopped = λ e. lay-stop k (p.maps_unchanged e) }

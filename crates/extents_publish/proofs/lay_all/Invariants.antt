@@ -1,6 +1,5 @@
 -- `extents_publish::lay_all` meets its contract.
-use Prim.Native.Nat.{◌-◌}
-use lib.ListN.{drop}
+use Rattle.std.proofs.Common.{◌-◌, drop}
 use Rattle.extents_meaning.specs.Maps.{runs, part_at}
 use Rattle.extents_publish.proofs.Laying.{Laying}
 use Rattle.extents_publish.proofs.lay_all.Given as goal

@@ -1,6 +1,5 @@
 -- `extents_publish::put` meets its contract.
-use native.Mathlib.Omega.{arith}
-use mathlib.Core.Path.{refl, sym, ap, ◌∙◌}
+use Rattle.std.proofs.Common.{arith, refl, sym, ap, ◌∙◌}
 use Rattle.extents_meaning.specs.Maps.{bytes_of, lawful, part_at}
 use Rattle.extents_pair.proofs.Parts.{lent}
 use Rattle.extents_pair.proofs.Sweeps.{over-out}
@@ -11,14 +10,14 @@ pub returns-then-end-start : goal.returns-then-end-start
 returns-then-end-start c =
     let a = c.args in
     let f = bytes_of (part_at a.w a.size a.maps.now) in
-    record { below = λ _. below-start c.requires.size_in_bounds.0 c.requires.size_in_bounds.1 (λ b. sym (over-out a.start a.end a.cell f b (λ l. omega (arith, c.if-end-start.true)))); maps_unchanged = λ _. refl }
+    record { below = λ _. below-start c.requires.part_inside.0 c.requires.part_inside.1 (λ b. sym (over-out a.start a.end a.cell f b (λ l. omega (arith, c.if-end-start.true)))); maps_unchanged = λ _. refl }
 
 pub lay-requires : goal.lay-requires
-lay-requires c = record { map_value = (ap lawful (lent c.args.w c.args.size c.args.maps.now) ∙ c.requires.size_in_bounds.1, omega (arith, c.if-end-start.false)); fact = c.requires.fact }
+lay-requires c = record { lawful_map = (ap lawful (lent c.args.w c.args.size c.args.maps.now) ∙ c.requires.part_inside.1, omega (arith, c.if-end-start.false)); legal_cell = c.requires.legal_cell }
 
 pub returns : goal.returns
 returns c =
     let a = c.args in
     let p = c.requires in
     let l = c.lay.ensures in
-    let xs = a.maps.now in record { below = put-fits a.size a.w a.start a.end a.cell xs p.size_in_bounds.0 p.size_in_bounds.1 l.value l.map_after (omega (arith, c.ranges.end)) p.fact; maps_unchanged = put-kept a.size a.w a.start a.end a.cell xs p.size_in_bounds.0 p.size_in_bounds.1 l.value l.map_after }
+    let xs = a.maps.now in record { below = put-fits a.size a.w a.start a.end a.cell xs p.part_inside.0 p.part_inside.1 l.value l.map_after (omega (arith, c.ranges.end)) p.legal_cell; maps_unchanged = put-kept a.size a.w a.start a.end a.cell xs p.part_inside.0 p.part_inside.1 l.value l.map_after }

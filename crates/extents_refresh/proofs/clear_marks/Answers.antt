@@ -1,8 +1,5 @@
 -- `extents_refresh::clear_marks` meets its contract.
-use Prim.Native.Nat.{◌+◌, ◌*◌, ◌≤◌}
-use native.Mathlib.Omega.{arith}
-use mathlib.Core.Path.{◌≡◌}
-use lib.ListN.{length}
+use Rattle.std.proofs.Common.{◌+◌, ◌*◌, ◌≤◌, arith, ◌≡◌, length}
 use Rattle.extents_refresh.proofs.Clearing.{clear_start, clear_room, clear_skip, clear_one}
 use Rattle.extents_refresh.proofs.clear_marks.Goals as goal
 use Rattle.extents_refresh.proofs.clear_marks.Goals.{In-loop-left}

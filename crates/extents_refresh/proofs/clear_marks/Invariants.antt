@@ -1,6 +1,5 @@
 -- `extents_refresh::clear_marks` meets its contract.
-use Prim.Native.Nat.{◌-◌}
-use lib.ListN.{length}
+use Rattle.std.proofs.Common.{◌-◌, length}
 use Rattle.extents_refresh.proofs.Clearing.{Clearing}
 use Rattle.extents_refresh.proofs.clear_marks.Given as goal
 

@@ -1,5 +1,5 @@
 -- `extents_refresh::copy` meets its contract.
-use Prim.Native.Nat.{◌-◌}
+use Rattle.std.proofs.Common.{◌-◌}
 use Rattle.extents_refresh.proofs.Copying.{Copying}
 use Rattle.extents_refresh.proofs.copy.Given as goal
 

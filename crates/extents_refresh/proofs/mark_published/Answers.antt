@@ -1,9 +1,5 @@
 -- `extents_refresh::mark_published` meets its contract.
-use Prim.Native.Nat.{ℕ}
-use native.Mathlib.Omega.{arith}
-use mathlib.Core.Path.{refl, sym, ap, ◌∙◌}
-use mathlib.Core.List.{List}
-use lib.ListN.{length}
+use Rattle.std.proofs.Common.{ℕ, arith, refl, sym, ap, ◌∙◌, List, length}
 use Rattle.extents_meaning.specs.Maps.{runs, lawful}
 use Rattle.extents_pair.specs.Marks.{marked}
 use Rattle.extents_pair.proofs.Pairing.{Told, two-told, map_lent}
@@ -49,7 +45,7 @@ returns-then-left-eq0 c = cleared-end (part (goal.at.returns-then-left-eq0 c).Af
 pub weave-requires : goal.weave-requires
 weave-requires c =
     let k = part (goal.at.weave-requires c).After-clear_marks-left in
-    record { maps_value = (cleared-two k, cleared-own k); mode_value = (refl, omega arith); maps_len_bound = cleared-fits k }
+    record { lawful_maps = (cleared-two k, cleared-own k); known_mode = (refl, omega arith); runs_fit = cleared-fits k }
 
 pub shape_of-maps : goal.shape_of-maps
 shape_of-maps c = c.weave.auto.maps ∙ cleared-length (part (goal.at.shape_of-maps c).After-clear_marks-left)

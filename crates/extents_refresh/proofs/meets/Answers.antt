@@ -1,8 +1,5 @@
 -- `extents_refresh::meets` meets its contract.
-use Prim.Native.Nat.{◌<◌}
-use native.Mathlib.Omega.{arith}
-use mathlib.Core.Path.{sym, ap, ◌∙◌}
-use lib.ListN.{length}
+use Rattle.std.proofs.Common.{◌<◌, arith, sym, ap, ◌∙◌, length}
 use borrow.Author.Tests.{eqb-false}
 use Rattle.extents_meaning.specs.Cells.{number_in}
 use Rattle.extents_meaning.specs.Maps.{runs}

@@ -1,6 +1,5 @@
 -- `extents_refresh::refresh` meets its contract.
-use native.Mathlib.Omega.{arith}
-use mathlib.Core.Path.{refl}
+use Rattle.std.proofs.Common.{arith, refl}
 use Rattle.extents_map.specs.Mixes.{mixed}
 use Rattle.extents_refresh.proofs.Viewing.{copy_ready, view-copied}
 use Rattle.extents_refresh.proofs.refresh.Goals as goal
@@ -8,16 +7,16 @@ use Rattle.extents_refresh.proofs.refresh.Goals as goal
 pub copy-requires : goal.copy-requires
 copy-requires c =
     let both = let p = c.args.pair in
-    copy_ready p.space p.view p.below c.args.maps.now c.requires.maps_value.0 in record { space_in_bounds = both.0; maps_value = both.1 }
+    copy_ready p.space p.view p.below c.args.maps.now c.requires.lawful_maps.0 in record { map_inside = both.0; lawful_maps = both.1 }
 
 pub returns-then-own-eq0 : goal.returns-then-own-eq0
 returns-then-own-eq0 c =
     let p = c.args.pair in
-    view-copied p.space p.view p.below c.args.maps.now c.requires.maps_value.0 c.requires.maps_value.1 c.if-own-eq0.true c.copy.ensures
+    view-copied p.space p.view p.below c.args.maps.now c.requires.lawful_maps.0 c.requires.lawful_maps.1 c.if-own-eq0.true c.copy.ensures
 
 pub weave-requires : goal.weave-requires
 unfolding mixed
-weave-requires c = record { maps_value = c.requires.maps_value; mode_value = (refl, omega arith); maps_len_bound = c.requires.maps_len_bound }
+weave-requires c = record { lawful_maps = c.requires.lawful_maps; known_mode = (refl, omega arith); runs_fit = c.requires.runs_fit }
 
 pub returns : goal.returns
 unfolding mixed

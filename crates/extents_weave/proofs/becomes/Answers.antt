@@ -1,5 +1,5 @@
 -- `extents_weave::becomes` meets its contract.
-use mathlib.Core.Path.{◌∙◌, sym}
+use Rattle.std.proofs.Common.{◌∙◌, sym}
 use Rattle.extents_weave.proofs.becomes.Goals as goal
 
 pub returns-then-view_is_target : goal.returns-then-view_is_target

@@ -1,5 +1,5 @@
 -- `extents_weave::rewrite` meets its contract.
-use native.Mathlib.Omega.{arith}
+use Rattle.std.proofs.Common.{arith}
 use Rattle.extents_weave.proofs.Walking.{walk_start, walk-length, back-length, walk-parts, walk-place, walk-next, end-place, walk_end}
 use Rattle.extents_weave.proofs.rewrite.Goals as goal
 

@@ -1,5 +1,5 @@
 -- `extents_weave::rewrite` meets its contract.
-use Prim.Native.Nat.{◌-◌}
+use Rattle.std.proofs.Common.{◌-◌}
 use Rattle.rows.specs.Limits.{OFFSET_MAX}
 use Rattle.extents_weave.proofs.Walking.{Walking}
 use Rattle.extents_weave.proofs.rewrite.Given as goal

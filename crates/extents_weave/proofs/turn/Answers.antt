@@ -1,7 +1,5 @@
 -- `extents_weave::turn` meets its contract.
-use Prim.Native.Nat.{◌*◌, ◌-◌}
-use native.Mathlib.Omega.{arith}
-use mathlib.Core.Path.{◌∙◌}
+use Rattle.std.proofs.Common.{◌*◌, ◌-◌, arith, ◌∙◌}
 use Rattle.extents_meaning.specs.Maps.{fours}
 use Rattle.extents_weave.proofs.Turning.{sets_put, way_grow, way_on, way_begin, way_put}
 use Rattle.extents_weave.proofs.turn.Goals as goal

@@ -1,6 +1,5 @@
 -- `extents_weave::weave_map` meets its contract.
-use native.Mathlib.Omega.{arith}
-use mathlib.Core.Path.{ap, ◌∙◌}
+use Rattle.std.proofs.Common.{arith, ap, ◌∙◌}
 use Rattle.extents_meaning.specs.Maps.{lawful}
 use Rattle.extents_pair.proofs.Parts.{lent}
 use Rattle.extents_weave.proofs.Weaving.{keep-ready, place-fits, kept-length, move-fits, write-ready, woven-length, clear-fits, woven-home, end-length}

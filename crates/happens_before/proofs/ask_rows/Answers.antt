@@ -1,13 +1,8 @@
 -- `happens_before::ask_rows` meets its contract.
-use borrow.Author.Tests.{leb-true}
+use Rattle.std.proofs.Common.{leb-true, length, ◌*◌, arith, not, ap}
 use lib.Dec.{leb}
-use lib.ListN.{length}
-use Prim.Native.Nat.{◌*◌}
-use native.Mathlib.Omega.{arith}
 use Rattle.rows.proofs.Bools.{refused, passed, and_out}
 use Rattle.happens_before.proofs.Asking.{short-slice, many-rows, bad-processes, process-out, all_in}
-use mathlib.Core.Bool.{not}
-use mathlib.Core.Path.{ap}
 use Rattle.happens_before.proofs.ask_rows.Goals as goal
 
 pub returns-then-not-slices_fit : goal.returns-then-not-slices_fit

@@ -1,5 +1,5 @@
 -- `happens_before::belong` meets its contract.
-use mathlib.Core.Path.{sym, ◌∙◌}
+use Rattle.std.proofs.Common.{sym, ◌∙◌}
 use Rattle.rows.specs.Rows.{row_in}
 use Rattle.happens_before.proofs.Joins.{by_send, by_barrier}
 use Rattle.happens_before.proofs.belong.Goals as goal

@@ -1,12 +1,7 @@
 -- `happens_before::fill_counts` meets its contract.
-use Prim.Native.Nat.{ℕ, ◌+◌, ◌*◌, ◌≤◌}
-use mathlib.Core.Path.{◌≡◌, refl, sym, ap, ◌∙◌}
-use lib.ListN.{length, replicate}
-use mathlib.Core.List.{List}
-use native.Mathlib.Numerals.{add-one}
+use Rattle.std.proofs.Common.{ℕ, ◌+◌, ◌*◌, ◌≤◌, ◌≡◌, refl, sym, ap, ◌∙◌, length, replicate, List, add-one, arith}
 use Rattle.happens_before.specs.Clock.{with_counts, filled_row}
 use Rattle.rows.proofs.Products.{block_before}
-use native.Mathlib.Omega.{arith}
 use Rattle.happens_before.proofs.Filling.{filled_to, none_filled, all-filled, row-filled, row-empty, cells-small}
 use Rattle.happens_before.proofs.Tables.{tables_none}
 use Rattle.happens_before.proofs.Asking.{asked, left-filled, left-kept}
@@ -42,23 +37,31 @@ fill_row-requires c =
     let s = length c.clear_counts.new.counts in
     let e = l.invariant.2.filled in
     let before = block_before a.process_limit h in
-    let room : l.j * a.process_limit + a.process_limit ≤ s = omega (arith, before, t.counts-fit, c.clear_counts.auto.counts) in record { j_in_bounds = (
+    let room : l.j * a.process_limit + a.process_limit ≤ s = omega (arith, before, t.counts-fit, c.clear_counts.auto.counts) in record {
+      row_inside = (
         omega (arith, t.rows_have_room, h),
         t.few-processes,
         omega (arith, room, l.invariant.2.size),
         t.below l.j h,
-      ); by_index = λ p q. rw e (row-empty a.n a.process_limit s a.rows.now l.j h room p q); by_index_2 = λ k p i q. rw e (cells-small a.n a.process_limit s a.rows.now l.j h room t.few-rows k p i q); tables = l.invariant.2.tables }
+      );
+      zero_row = λ p q. rw e (row-empty a.n a.process_limit s a.rows.now l.j h room p q);
+      small_counts = λ k p i q. rw e (cells-small a.n a.process_limit s a.rows.now l.j h room t.few-rows k p i q);
+      tables = l.invariant.2.tables;
+    }
 
 pub note_row-requires : goal.note_row-requires
 note_row-requires c =
     let a = c.args in
     let l = c.loop-j in
     let h = c.loop-j-test.true in
-    let t = asked a.n a.process_limit a.rows.now (length a.counts.now) (sym c.ask_rows-no.ensures ∙ c.if-no-ne0.false) in record { j_in_bounds = (
+    let t = asked a.n a.process_limit a.rows.now (length a.counts.now) (sym c.ask_rows-no.ensures ∙ c.if-no-ne0.false) in record {
+      row_inside = (
         omega (arith, t.rows_have_room, h),
         omega (arith, t.few-rows, h),
         omega (arith, t.few-processes, t.below l.j h),
-      ); tables = l.invariant.2.tables }
+      );
+      tables = l.invariant.2.tables;
+    }
 
 pub loop-j-smaller : goal.loop-j-smaller
 loop-j-smaller c = omega (arith, c.loop-j-test.true)

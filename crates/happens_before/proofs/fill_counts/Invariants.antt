@@ -1,7 +1,5 @@
 -- `happens_before::fill_counts` meets its contract.
-use Prim.Native.Nat.{◌-◌}
-use mathlib.Core.Path.{◌≡◌}
-use lib.ListN.{length}
+use Rattle.std.proofs.Common.{◌-◌, ◌≡◌, length}
 use Rattle.happens_before.proofs.Filling.{Passed}
 use Rattle.happens_before.proofs.fill_counts.Given as goal
 

@@ -1,55 +1,54 @@
 -- `happens_before::fill_row` meets its contract.
 use Rattle.happens_before.proofs.Joins.{process-in, joined-most, row-filled}
 use Rattle.happens_before.proofs.Tables.{last_found, last-few}
-use mathlib.Core.Path.{◌∙◌}
-use native.Mathlib.Omega.{arith}
+use Rattle.std.proofs.Common.{◌∙◌, arith}
 use Rattle.happens_before.proofs.fill_row.Goals as goal
 
 pub overflow_cast-last : goal.overflow_cast-last
 overflow_cast-last c =
-    let own = rw process-in at c.requires.j_in_bounds.3 in
-    omega (arith, c.requires.j_in_bounds.1)
+    let own = rw process-in at c.requires.row_inside.3 in
+    omega (arith, c.requires.row_inside.1)
 
 pub offset_bounds-lasts-process : goal.offset_bounds-lasts-process
 offset_bounds-lasts-process c =
-    let own = rw process-in at c.requires.j_in_bounds.3 in
-    omega (arith, c.requires.j_in_bounds.1)
+    let own = rw process-in at c.requires.row_inside.3 in
+    omega (arith, c.requires.row_inside.1)
 
 pub bounds-lasts-process : goal.bounds-lasts-process
 bounds-lasts-process c =
-    let own = rw process-in at c.requires.j_in_bounds.3 in
-    omega (arith, c.requires.j_in_bounds.1, c.requires.tables.lasts_hold.length_is)
+    let own = rw process-in at c.requires.row_inside.3 in
+    omega (arith, c.requires.row_inside.1, c.requires.tables.lasts_hold.length_is)
 
 pub overflow_cast-last-2 : goal.overflow_cast-last-2
 overflow_cast-last-2 c =
     let a = c.args in
-    let few = last-few a.rows.now a.j c.requires.tables (omega (arith, c.requires.j_in_bounds.1, rw process-in at c.requires.j_in_bounds.3)) in
+    let few = last-few a.rows.now a.j c.requires.tables (omega (arith, c.requires.row_inside.1, rw process-in at c.requires.row_inside.3)) in
     omega (arith, few)
 
 pub join_last-requires : goal.join_last-requires
 join_last-requires c =
     let a = c.args in
-    let few = last-few a.rows.now a.j c.requires.tables (omega (arith, c.requires.j_in_bounds.1, rw process-in at c.requires.j_in_bounds.3)) in
-    (few, c.requires.j_in_bounds.1, c.requires.j_in_bounds.2)
+    let few = last-few a.rows.now a.j c.requires.tables (omega (arith, c.requires.row_inside.1, rw process-in at c.requires.row_inside.3)) in
+    (few, c.requires.row_inside.1, c.requires.row_inside.2)
 
 pub join_sends-requires : goal.join_sends-requires
-join_sends-requires c = record { j_in_bounds = (c.requires.j_in_bounds.0, c.requires.j_in_bounds.1, omega (arith, c.requires.j_in_bounds.2, c.join_last.auto.counts)); chains = c.requires.tables.chains }
+join_sends-requires c = record { row_inside = (c.requires.row_inside.0, c.requires.row_inside.1, omega (arith, c.requires.row_inside.2, c.join_last.auto.counts)); chains = c.requires.tables.chains }
 
 pub join_barrier-requires : goal.join_barrier-requires
 join_barrier-requires c =
     let a = c.args in
-    let few = last-few a.rows.now a.j c.requires.tables (omega (arith, c.requires.j_in_bounds.1, rw process-in at c.requires.j_in_bounds.3)) in
-    record { last_le_j = (few, c.requires.j_in_bounds.0, c.requires.j_in_bounds.1, omega (arith, c.requires.j_in_bounds.2, c.join_last.auto.counts, c.join_sends.auto.counts)); chains = c.requires.tables.chains }
+    let few = last-few a.rows.now a.j c.requires.tables (omega (arith, c.requires.row_inside.1, rw process-in at c.requires.row_inside.3)) in
+    record { barrier_inside = (few, c.requires.row_inside.0, c.requires.row_inside.1, omega (arith, c.requires.row_inside.2, c.join_last.auto.counts, c.join_sends.auto.counts)); chains = c.requires.tables.chains }
 
 pub add_own-requires : goal.add_own-requires
 add_own-requires c =
     let a = c.args in
-    let found = last_found a.rows.now a.j c.requires.tables (omega (arith, c.requires.j_in_bounds.1, rw process-in at c.requires.j_in_bounds.3)) in
-    let own = rw process-in at c.requires.j_in_bounds.3 in (
-      c.requires.j_in_bounds.1,
-      omega (arith, c.requires.j_in_bounds.2, c.join_last.auto.counts, c.join_sends.auto.counts, c.join_barrier.auto.counts),
+    let found = last_found a.rows.now a.j c.requires.tables (omega (arith, c.requires.row_inside.1, rw process-in at c.requires.row_inside.3)) in
+    let own = rw process-in at c.requires.row_inside.3 in (
+      c.requires.row_inside.1,
+      omega (arith, c.requires.row_inside.2, c.join_last.auto.counts, c.join_sends.auto.counts, c.join_barrier.auto.counts),
       own,
-      joined-most a.processes a.rows.now a.counts.now a.j c.requires.j_in_bounds.2 c.requires.by_index found c.join_last.ensures c.join_sends.ensures c.join_barrier.ensures c.requires.by_index_2 _ own,
+      joined-most a.processes a.rows.now a.counts.now a.j c.requires.row_inside.2 c.requires.zero_row found c.join_last.ensures c.join_sends.ensures c.join_barrier.ensures c.requires.small_counts _ own,
     )
 
 pub shape_of-counts : goal.shape_of-counts
@@ -58,5 +57,5 @@ shape_of-counts c = c.add_own.auto.counts ∙ c.join_barrier.auto.counts ∙ c.j
 pub returns : goal.returns
 returns c =
     let a = c.args in
-    let found = last_found a.rows.now a.j c.requires.tables (omega (arith, c.requires.j_in_bounds.1, rw process-in at c.requires.j_in_bounds.3)) in
-    row-filled a.processes a.rows.now a.counts.now a.j c.requires.j_in_bounds.2 c.requires.by_index found c.join_last.ensures c.join_sends.ensures c.join_barrier.ensures c.add_own.ensures
+    let found = last_found a.rows.now a.j c.requires.tables (omega (arith, c.requires.row_inside.1, rw process-in at c.requires.row_inside.3)) in
+    row-filled a.processes a.rows.now a.counts.now a.j c.requires.row_inside.2 c.requires.zero_row found c.join_last.ensures c.join_sends.ensures c.join_barrier.ensures c.add_own.ensures

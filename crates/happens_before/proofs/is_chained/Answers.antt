@@ -1,5 +1,5 @@
 -- `happens_before::is_chained` meets its contract.
-use borrow.Author.Tests.{eq-eqb, ne_eqb}
+use Rattle.std.proofs.Common.{eq-eqb, ne_eqb}
 use Rattle.rows.specs.Kinds.{SEND}
 use Rattle.happens_before.proofs.is_chained.Goals as goal
 

@@ -3,10 +3,7 @@ use Rattle.happens_before.specs.Clock.{joined_row}
 use Rattle.happens_before.proofs.Cells.{put, put-none}
 use Rattle.rows.proofs.Products.{block_before}
 use Rattle.happens_before.proofs.Joins.{join-next}
-use lib.ListN.{length-set}
-use mathlib.Core.Path.{◌≡◌, refl, ◌∙◌}
-use Prim.Native.Nat.{◌+◌, ◌*◌}
-use native.Mathlib.Omega.{arith}
+use Rattle.std.proofs.Common.{length-set, ◌≡◌, refl, ◌∙◌, ◌+◌, ◌*◌, arith}
 use Rattle.happens_before.proofs.join.Goals as goal
 
 pub overflow_mul-from : goal.overflow_mul-from

@@ -1,9 +1,7 @@
 -- `happens_before::join` meets its contract.
 use Rattle.happens_before.specs.Clock.{joined_row}
 use Rattle.happens_before.proofs.Cells.{put}
-use lib.ListN.{length}
-use mathlib.Core.Path.{◌≡◌}
-use Prim.Native.Nat.{◌≤◌, ◌*◌, ◌-◌}
+use Rattle.std.proofs.Common.{length, ◌≡◌, ◌≤◌, ◌*◌, ◌-◌}
 use Rattle.happens_before.proofs.join.Given as goal
 
 -- The counts of row j for the processes below p are joined with those of row k; all other numbers are as they were.

@@ -1,6 +1,6 @@
 -- `happens_before::join_last` meets its contract.
 use Rattle.happens_before.proofs.Joins.{last_some, last_none}
-use mathlib.Core.Path.{◌∙◌}
+use Rattle.std.proofs.Common.{◌∙◌}
 use Rattle.happens_before.proofs.join_last.Goals as goal
 
 pub shape_of-counts : goal.shape_of-counts

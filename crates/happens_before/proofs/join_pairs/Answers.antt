@@ -1,7 +1,7 @@
 -- `happens_before::join_pairs` meets its contract.
 use Rattle.happens_before.proofs.Joins.{pairs_first, pairs-join, pairs-skip, pairs-done}
 use Rattle.happens_before.proofs.Tables.{head-found, head-low, next_row_lem, next-found, next_low}
-use native.Mathlib.Omega.{arith}
+use Rattle.std.proofs.Common.{arith}
 use Rattle.happens_before.proofs.join_pairs.Goals as goal
 use Rattle.happens_before.proofs.join_pairs.Goals.{else-belong, then-belong}
 
@@ -13,7 +13,7 @@ overflow_cast-next c =
 pub loop-next-init : goal.loop-next-init
 loop-next-init c =
     let a = c.args in
-    pairs_first a.processes a.rows.now a.counts.now a.t a.j c.requires.t_le_j.3
+    pairs_first a.processes a.rows.now a.counts.now a.t a.j c.requires.turn_inside.3
     (rw c.chain_of-chain.ensures (head-found a.rows.now a.j c.requires.chains a.t))
 
 pub bounds-earlier-k : goal.bounds-earlier-k
@@ -23,19 +23,19 @@ pub overflow_cast-next-in-loop-next : goal.overflow_cast-next-in-loop-next
 overflow_cast-next-in-loop-next c =
     let a = c.args in
     let l = c.loop-next in
-    let low = next_low a.rows.now a.j c.requires.chains a.t a.processes a.counts.now c.requires.t_le_j.3 l.invariant c.loop-next-test.true in
+    let low = next_low a.rows.now a.j c.requires.chains a.t a.processes a.counts.now c.requires.turn_inside.3 l.invariant c.loop-next-test.true in
     omega (arith, low, l.invariant.low)
 
 pub loop-next-smaller : goal.loop-next-smaller
 loop-next-smaller c =
     let a = c.args in
     let h = c.loop-next-test.true in
-    omega (arith, next_low a.rows.now a.j c.requires.chains a.t a.processes a.counts.now c.requires.t_le_j.3 c.loop-next.invariant h, h)
+    omega (arith, next_low a.rows.now a.j c.requires.chains a.t a.processes a.counts.now c.requires.turn_inside.3 c.loop-next.invariant h, h)
 
 pub loop-next-preserved : goal.loop-next-preserved
 loop-next-preserved c =
     let a = c.args in
-    let fits = c.requires.t_le_j.3 in
+    let fits = c.requires.turn_inside.3 in
     let l = c.loop-next in
     let h = c.loop-next-test.true in
     let here = next_row_lem a.rows.now a.j c.requires.chains a.t a.processes a.counts.now fits l.invariant h in
@@ -48,4 +48,4 @@ shape_of-counts c = c.loop-next.invariant.size
 pub returns : goal.returns
 returns c =
     let a = c.args in
-    pairs-done a.processes a.rows.now a.counts.now a.t a.j c.requires.t_le_j.3 c.loop-next.invariant c.loop-next-test.false
+    pairs-done a.processes a.rows.now a.counts.now a.t a.j c.requires.turn_inside.3 c.loop-next.invariant c.loop-next-test.false

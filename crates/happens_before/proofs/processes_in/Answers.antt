@@ -1,7 +1,6 @@
 -- `happens_before::processes_in` meets its contract.
 use Rattle.happens_before.proofs.Asking.{processes-none, processes-out, processes-before}
-use mathlib.Core.Path.{refl, sym, ◌∙◌}
-use native.Mathlib.Omega.{arith}
+use Rattle.std.proofs.Common.{refl, sym, ◌∙◌, arith}
 use Rattle.happens_before.proofs.processes_in.Goals as goal
 
 pub loop-i-init : goal.loop-i-init

@@ -1,7 +1,6 @@
 -- `happens_before::processes_in` meets its contract.
 use Rattle.happens_before.specs.Filling.{processes_in}
-use mathlib.Core.Path.{◌≡◌}
-use Prim.Native.Nat.{◌≤◌}
+use Rattle.std.proofs.Common.{◌≡◌, ◌≤◌}
 use Rattle.happens_before.proofs.processes_in.Given as goal
 
 -- Every row from index i on has a process below the limit, so the rows below i decide.

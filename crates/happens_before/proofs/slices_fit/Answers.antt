@@ -1,7 +1,6 @@
 -- `happens_before::slices_fit` meets its contract.
-use borrow.Author.Tests.{le-leb, lt-leb}
-use Prim.Native.Nat.{◌*◌, ◌≤◌, ◌<◌}
-use native.Mathlib.Omega.{arith}
+use Rattle.std.proofs.Common.{le-leb, ◌*◌, ◌≤◌, ◌<◌, arith}
+use borrow.Author.Tests.{lt-leb}
 use Rattle.rows.proofs.Products.{product}
 use Rattle.happens_before.proofs.slices_fit.Goals as goal
 

@@ -1,5 +1,5 @@
 -- `join::ask_join` meets its contract.
-use mathlib.Core.Path.{sym, ◌∙◌}
+use Rattle.std.proofs.Common.{sym, ◌∙◌}
 use Rattle.join.proofs.Asking.{few-parts, call-no, second-bad, second-good}
 use Rattle.join.proofs.ask_join.Goals as goal
 

@@ -1,11 +1,8 @@
 -- `join::clear_parts` meets its contract.
 use Rattle.rows.proofs.Zeros.{cleared}
+use Rattle.std.proofs.Common.{length, length-set, List, refl, ap, ◌∙◌, ℕ, ◌<◌, arith}
 use borrow.Author.Fill.{fill_none, fill_more}
-use lib.ListN.{length, set, length-set}
-use mathlib.Core.List.{List}
-use mathlib.Core.Path.{refl, ap, ◌∙◌}
-use Prim.Native.Nat.{ℕ, ◌<◌}
-use native.Mathlib.Omega.{arith}
+use lib.ListN.{set}
 use Rattle.join.proofs.clear_parts.Goals as goal
 
 pub loop-i-init : goal.loop-i-init

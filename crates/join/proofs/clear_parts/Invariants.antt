@@ -1,8 +1,5 @@
 -- `join::clear_parts` meets its contract.
-use lib.ListN.{length, drop, replicate}
-use mathlib.Core.List.{◌++◌}
-use mathlib.Core.Path.{◌≡◌}
-use Prim.Native.Nat.{◌-◌}
+use Rattle.std.proofs.Common.{length, drop, replicate, ◌++◌, ◌≡◌, ◌-◌}
 use Rattle.join.proofs.clear_parts.Given as goal
 
 -- The numbers before index i are 0, and those from i on are as they were lent.

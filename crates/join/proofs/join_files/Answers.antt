@@ -1,6 +1,5 @@
 -- `join::join_files` meets its contract.
-use mathlib.Core.Path.{refl, sym, ap, ◌∙◌}
-use mathlib.Core.List.{◌++◌}
+use Rattle.std.proofs.Common.{refl, sym, ap, ◌∙◌, ◌++◌}
 use Rattle.barriers.specs.Participants.{participants}
 use Rattle.join_meaning.proofs.Ahead.{file-rows}
 use Rattle.join.specs.Sharing.{any_flagged}
@@ -31,8 +30,13 @@ join_entries-requires c =
     let more = a.second.now in
     let one = file-accepted p.fits p.some-rows p.some-processes call.first_header p.first_word text refl c.read_file.ensures c.in-Accepted.is in
     let two = file-accepted p.fits p.some-rows p.some-processes call.second_header p.second_word more c.read_file.auto.rows c.read_file-in-Accepted.ensures c.in-Accepted-read_file.is in
-    let counted = both-counted (flags_told c.flag_processes-flags.ensures one.2) c.flag_processes-both.ensures two.2 c.count_flags-processes.ensures in record { fits = fits_kept p.fits (c.read_file-in-Accepted.auto.rows ∙ c.read_file.auto.rows) refl; read_as = record { rows = one.0; is_read = one.1 }; read_as_2 = record { rows = two.0; is_read = two.1 }; processes_value = counted ∙ (λ i. participants (sym (file-rows call.first_header call.row_limit call.process_limit text one.1 1) i
-              ++ sym (file-rows call.second_header call.row_limit call.process_limit more two.1 2) i)) }
+    let counted = both-counted (flags_told c.flag_processes-flags.ensures one.2) c.flag_processes-both.ensures two.2 c.count_flags-processes.ensures in record {
+      fits = fits_kept p.fits (c.read_file-in-Accepted.auto.rows ∙ c.read_file.auto.rows) refl;
+      first_read = record { rows = one.0; is_read = one.1 };
+      second_read = record { rows = two.0; is_read = two.1 };
+      told_processes = counted ∙ (λ i. participants (sym (file-rows call.first_header call.row_limit call.process_limit text one.1 1) i
+          ++ sym (file-rows call.second_header call.row_limit call.process_limit more two.1 2) i));
+    }
 
 pub returns-in-Refused : goal.returns-in-Refused
 returns-in-Refused c =

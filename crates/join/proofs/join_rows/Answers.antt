@@ -1,8 +1,5 @@
 -- `join::join_rows` meets its contract.
-use native.Mathlib.Omega.{arith}
-use mathlib.Core.Path.{sym, ap, ◌∙◌}
-use lib.ListN.{length, replicate}
-use Prim.Native.Nat.{ℕ}
+use Rattle.std.proofs.Common.{arith, sym, ap, ◌∙◌, length, replicate, ℕ}
 use Rattle.join_meaning.specs.Joining.{join_traces}
 use Rattle.join.specs.Leaving.{joined_of, HeldOver}
 use Rattle.join_meaning.proofs.Refusals.{from_four}

@@ -1,5 +1,5 @@
 -- `join_reading::ask_file` meets its contract.
-use mathlib.Core.Path.{◌∙◌}
+use Rattle.std.proofs.Common.{◌∙◌}
 use Rattle.rows.proofs.Products.{product}
 use Rattle.join_reading.proofs.Asking.{as_trace}
 use Rattle.join_reading.proofs.ask_file.Goals as goal

@@ -1,6 +1,5 @@
 -- `join_reading::read_file` meets its contract.
-use native.Mathlib.Omega.{arith}
-use lib.ListN.{length}
+use Rattle.std.proofs.Common.{arith, length}
 use Rattle.join_reading.proofs.Asking.{file-legal}
 use Rattle.join_reading.proofs.Laws.{reads_kept, reads_none, file-rows-in, reads-rows}
 use Rattle.join_reading.proofs.read_file.Goals as goal

@@ -1,8 +1,5 @@
 -- `join_reading::read_rows` meets its contract.
-use Prim.Native.Nat.{◌+◌, ◌*◌, ◌≤◌}
-use native.Mathlib.Omega.{arith}
-use mathlib.Core.Path.{refl, ◌∙◌}
-use lib.ListN.{length}
+use Rattle.std.proofs.Common.{◌+◌, ◌*◌, ◌≤◌, arith, refl, ◌∙◌, length}
 use Rattle.csv_records.specs.Reading.{read_at}
 use Rattle.csv_records.proofs.Answers.{tells}
 use Rattle.rows.proofs.Slices.{with_room}

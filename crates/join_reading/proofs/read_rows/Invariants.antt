@@ -1,7 +1,5 @@
 -- `join_reading::read_rows` meets its contract.
-use Prim.Native.Nat.{◌-◌}
-use mathlib.Core.Path.{◌≡◌}
-use lib.ListN.{length}
+use Rattle.std.proofs.Common.{◌-◌, ◌≡◌, length}
 use Rattle.join_reading.proofs.Judging.{FileGoing}
 use Rattle.join_reading.proofs.read_rows.Given as goal
 

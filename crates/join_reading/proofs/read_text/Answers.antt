@@ -1,6 +1,5 @@
 -- `join_reading::read_text` meets its contract.
-use mathlib.Core.Path.{◌≡◌, sym, ap, ◌∙◌}
-use lib.ListN.{length}
+use Rattle.std.proofs.Common.{◌≡◌, sym, ap, ◌∙◌, length}
 use Rattle.csv_records.specs.Reading.{read_at}
 use Rattle.csv_records.proofs.Answers.{tells}
 use Rattle.trace.specs.Questions.{checked_of}

@@ -1,5 +1,5 @@
 -- `kiqsaryn::kiqsaryn_make` meets its contract.
-use lib.ListN.{length}
+use Rattle.std.proofs.Common.{length}
 use Rattle.machine_meaning.specs.States.{Header, maps_length}
 use Rattle.machine_meaning.specs.Steps.{making_questions}
 use Rattle.kiqsaryn.proofs.Packs.{packs-made}

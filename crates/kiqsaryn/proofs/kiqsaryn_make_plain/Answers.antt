@@ -1,6 +1,5 @@
 -- `kiqsaryn::kiqsaryn_make_plain` meets its contract.
-use Prim.Native.Nat.{◌*◌}
-use lib.ListN.{length}
+use Rattle.std.proofs.Common.{◌*◌, length}
 use Rattle.machine_meaning.specs.States.{Header}
 use Rattle.machine_meaning.specs.Steps.{plain_making_questions}
 use Rattle.kiqsaryn.proofs.Packs.{packs-made}

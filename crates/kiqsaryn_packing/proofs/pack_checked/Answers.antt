@@ -1,5 +1,5 @@
 -- `kiqsaryn_packing::pack_checked` meets its contract.
-use mathlib.Core.Path.{sym, ap}
+use Rattle.std.proofs.Common.{sym, ap}
 use Rattle.kiqsaryn_packing.specs.Packing.{packed}
 use Rattle.kiqsaryn_packing.proofs.pack_checked.Goals as goal
 

@@ -1,5 +1,5 @@
 -- `kiqsaryn_packing::pack_found` meets its contract.
-use mathlib.Core.Path.{sym, ap}
+use Rattle.std.proofs.Common.{sym, ap}
 use Rattle.kiqsaryn_packing.specs.Packing.{packed_found}
 use Rattle.kiqsaryn_packing.proofs.pack_found.Goals as goal
 

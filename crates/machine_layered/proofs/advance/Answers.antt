@@ -1,7 +1,6 @@
 -- `machine_layered::advance` meets its contract.
 use Rattle.machine_layered.proofs.Laying.{asked-step}
-use native.Mathlib.Omega.{arith}
-use mathlib.Core.Path.{sym, ◌∙◌}
+use Rattle.std.proofs.Common.{arith, sym, ◌∙◌}
 use Rattle.machine_state.specs.Answers.{header_of}
 use Rattle.machine_layered.proofs.advance.Goals as goal
 

@@ -1,11 +1,7 @@
 -- `machine_layered::are_lawful` meets its contract.
 use Rattle.machine_state.proofs.Maps.{all_none, all_more, all-not}
 use Rattle.machine_layered.proofs.Laying.{lent-lawful, next-in}
-use native.Mathlib.Omega.{arith}
-use mathlib.Core.Path.{◌≡◌, sym, ap, ◌∙◌}
-use Prim.Native.Nat.{ℕ, suc, ◌*◌}
-use mathlib.Core.Bool.{true}
-use lib.ListN.{take, drop}
+use Rattle.std.proofs.Common.{arith, ◌≡◌, sym, ap, ◌∙◌, ℕ, suc, ◌*◌, true, take, drop}
 use Rattle.extents_meaning.specs.Maps.{lawful}
 use Rattle.rows.specs.Counting.{all_below}
 use Rattle.machine_layered.proofs.are_lawful.Goals as goal
@@ -36,8 +32,7 @@ returns-then-not-is_lawful c =
 
 pub loop-p-preserved : goal.loop-p-preserved
 loop-p-preserved c =
-    let a = c.args in
-    (
+    let a = c.args in (
       omega (arith, c.loop-p-test.true),
       all_more c.loop-p.p (λ q. lawful (take a.size (drop (suc q * a.size) a.maps.now))) c.loop-p.invariant.1
           (lent-lawful a.size c.loop-p.p a.maps.now c.is_lawful.result c.is_lawful.ensures ∙ c.if-not-is_lawful.false),

@@ -1,8 +1,5 @@
 -- `machine_layered::are_lawful` meets its contract.
-use mathlib.Core.Path.{◌≡◌}
-use Prim.Native.Nat.{suc, ◌*◌, ◌-◌, ◌≤◌}
-use mathlib.Core.Bool.{true}
-use lib.ListN.{take, drop}
+use Rattle.std.proofs.Common.{◌≡◌, suc, ◌*◌, ◌-◌, ◌≤◌, true, take, drop}
 use Rattle.extents_meaning.specs.Maps.{lawful}
 use Rattle.rows.specs.Counting.{all_below}
 use Rattle.machine_layered.proofs.are_lawful.Given as goal

@@ -1,9 +1,6 @@
 -- `machine_layered::is_state` meets its contract.
 use Rattle.machine_layered.proofs.Laying.{limit-fits, no_model, no_limit, no_file, no-slice, no_first, by_views}
-use Prim.Native.Nat.{◌*◌}
-use lib.Seq.{length-take-le}
-use native.Mathlib.Omega.{arith}
-use mathlib.Core.Path.{sym, ◌∙◌}
+use Rattle.std.proofs.Common.{◌*◌, length-take-le, arith, sym, ◌∙◌}
 use Rattle.machine_state.specs.Answers.{header_of}
 use Rattle.machine_layered.proofs.is_state.Goals as goal
 

@@ -1,14 +1,9 @@
 -- `machine_layered::make` meets its contract.
-use native.Mathlib.Omega.{arith}
-use Prim.Native.Nat.{◌+◌, ◌*◌, ◌≤◌}
-use mathlib.Core.Path.{◌≡◌, sym, ◌∙◌}
-use lib.ListN.{length}
-use lib.Seq.{length-take-le}
+use Rattle.std.proofs.Common.{arith, ◌+◌, ◌*◌, ◌≤◌, ◌≡◌, sym, ◌∙◌, length, length-take-le, mul-le-mul}
 use Rattle.rows.proofs.Zeros.{first-cleared}
 use Rattle.machine_state.specs.Answers.{header_of}
 use Rattle.machine_meaning.specs.States.{maps_length}
 use Rattle.machine_state.proofs.Making.{making_layered, short-slice, past-limits, past-files, all-zeros, model-past, processes-past, within-limits}
-use native.Mathlib.Nat.{mul-le-mul}
 use Rattle.machine_layered.proofs.make.Goals as goal
 
 pub overflow_mul-runs : goal.overflow_mul-runs

@@ -1,6 +1,6 @@
 -- `machine_layered::put` meets its contract.
 use Rattle.machine_state.proofs.Answering.{put_other, put-own}
-use mathlib.Core.Path.{sym, ◌∙◌}
+use Rattle.std.proofs.Common.{sym, ◌∙◌}
 use Rattle.machine_meaning.specs.Steps.{step_of}
 use Rattle.machine_state.specs.Answers.{header_of}
 use Rattle.machine_layered.proofs.put.Goals as goal

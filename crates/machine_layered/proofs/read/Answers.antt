@@ -1,7 +1,6 @@
 -- `machine_layered::read` meets its contract.
 use Rattle.machine_layered.proofs.Laying.{ready-room, ready-two, ready-own, read-fresh, read-own}
-use native.Mathlib.Omega.{arith}
-use mathlib.Core.Path.{sym, ◌∙◌}
+use Rattle.std.proofs.Common.{arith, sym, ◌∙◌}
 use Rattle.machine_layered.proofs.read.Goals as goal
 
 pub is_refresh-requires : goal.is_refresh-requires

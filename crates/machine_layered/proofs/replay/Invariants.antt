@@ -1,5 +1,5 @@
 -- `machine_layered::replay` meets its contract.
-use Prim.Native.Nat.{◌-◌}
+use Rattle.std.proofs.Common.{◌-◌}
 use Rattle.machine_state.specs.Answers.{header_of}
 use Rattle.machine_layered.proofs.Keeping.{step-preserves}
 use Rattle.machine_state.proofs.Replaying.{Replaying}

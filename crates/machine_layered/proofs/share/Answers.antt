@@ -1,6 +1,6 @@
 -- `machine_layered::share` meets its contract.
 use Rattle.machine_layered.proofs.Laying.{ready-two, share-both, share-publish, share-refresh, share-none}
-use mathlib.Core.Path.{sym, ◌∙◌}
+use Rattle.std.proofs.Common.{sym, ◌∙◌}
 use Rattle.machine_layered.proofs.share.Goals as goal
 
 pub is_publish-requires : goal.is_publish-requires

@@ -1,5 +1,5 @@
 -- `machine_layered::step` meets its contract.
-use mathlib.Core.Path.{sym, ◌∙◌}
+use Rattle.std.proofs.Common.{sym, ◌∙◌}
 use Rattle.machine_state.specs.Answers.{header_of}
 use Rattle.machine_layered.proofs.Laying.{unlawful-step}
 use Rattle.machine_layered.proofs.step.Goals as goal

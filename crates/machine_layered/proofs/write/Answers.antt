@@ -1,7 +1,6 @@
 -- `machine_layered::write` meets its contract.
 use Rattle.machine_layered.proofs.Laying.{ready-two, ready-own, ready-room, write-write-through, write_own}
-use native.Mathlib.Omega.{arith}
-use mathlib.Core.Path.{sym, ◌∙◌}
+use Rattle.std.proofs.Common.{arith, sym, ◌∙◌}
 use Rattle.machine_layered.proofs.write.Goals as goal
 
 pub is_publish-requires : goal.is_publish-requires

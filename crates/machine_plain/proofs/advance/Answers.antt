@@ -1,5 +1,5 @@
 -- `machine_plain::advance` meets its contract.
-use mathlib.Core.Path.{sym, ◌∙◌}
+use Rattle.std.proofs.Common.{sym, ◌∙◌}
 use Rattle.machine_state.specs.Answers.{header_of}
 use Rattle.machine_plain.proofs.Plainly.{map_law, plain_in_lem, map_length, plain-asked, plain-read, plain-write, plain_other}
 use Rattle.machine_plain.proofs.advance.Goals as goal

@@ -1,7 +1,5 @@
 -- `machine_plain::is_plain` meets its contract.
-use native.Mathlib.Omega.{arith}
-use lib.Seq.{length-take-le}
-use mathlib.Core.Path.{sym, ◌∙◌}
+use Rattle.std.proofs.Common.{arith, length-take-le, sym, ◌∙◌}
 use Rattle.machine_state.specs.Answers.{header_of}
 use Rattle.machine_plain.proofs.Plainly.{no_limit, no_file, no_room, one_map}
 use Rattle.machine_plain.proofs.is_plain.Goals as goal

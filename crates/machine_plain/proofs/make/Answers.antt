@@ -1,9 +1,5 @@
 -- `machine_plain::make` meets its contract.
-use native.Mathlib.Omega.{arith}
-use Prim.Native.Nat.{◌*◌, ◌≤◌}
-use mathlib.Core.Path.{◌≡◌, sym, ◌∙◌}
-use lib.ListN.{length}
-use lib.Seq.{length-take-le}
+use Rattle.std.proofs.Common.{arith, ◌*◌, ◌≤◌, ◌≡◌, sym, ◌∙◌, length, length-take-le}
 use Rattle.rows.proofs.Zeros.{first-cleared}
 use Rattle.machine_state.specs.Answers.{header_of}
 use Rattle.machine_state.proofs.Making.{making_plain, short-slice, past-limits, past-files, all-zeros}

@@ -1,5 +1,5 @@
 -- `machine_plain::put` meets its contract.
-use mathlib.Core.Path.{sym, ◌∙◌}
+use Rattle.std.proofs.Common.{sym, ◌∙◌}
 use Rattle.machine_meaning.specs.Steps.{plain_step_of}
 use Rattle.machine_state.specs.Answers.{header_of}
 use Rattle.machine_state.proofs.Answering.{put_other, put-own}

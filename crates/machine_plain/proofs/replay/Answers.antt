@@ -1,9 +1,6 @@
 -- `machine_plain::replay` meets its contract.
-use native.Mathlib.Omega.{arith}
-use mathlib.Core.Path.{refl, sym, ◌∙◌}
+use Rattle.std.proofs.Common.{arith, refl, sym, ◌∙◌, not, ap}
 use Rattle.machine_state.proofs.Replaying.{start, turn, turn-size, turn-room, refused-turn, finish, short, unlawful}
-use mathlib.Core.Bool.{not}
-use mathlib.Core.Path.{ap}
 use Rattle.machine_plain.proofs.replay.Goals as goal
 
 pub slices_fit-requires : goal.slices_fit-requires

@@ -1,5 +1,5 @@
 -- `machine_plain::replay` meets its contract.
-use Prim.Native.Nat.{◌-◌}
+use Rattle.std.proofs.Common.{◌-◌}
 use Rattle.machine_state.specs.Answers.{header_of}
 use Rattle.machine_plain.proofs.Keeping.{plain-preserves}
 use Rattle.machine_state.proofs.Replaying.{Replaying}

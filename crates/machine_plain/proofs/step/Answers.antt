@@ -1,5 +1,5 @@
 -- `machine_plain::step` meets its contract.
-use mathlib.Core.Path.{sym, ◌∙◌}
+use Rattle.std.proofs.Common.{sym, ◌∙◌}
 use Rattle.machine_state.specs.Answers.{header_of}
 use Rattle.machine_plain.proofs.Plainly.{plain-unlawful}
 use Rattle.machine_plain.proofs.step.Goals as goal

@@ -1,6 +1,5 @@
 -- `machine_state::ask_range` meets its contract.
-use native.Mathlib.Omega.{arith}
-use mathlib.Core.Path.{sym, ◌∙◌}
+use Rattle.std.proofs.Common.{arith, sym, ◌∙◌}
 use Rattle.machine_state.specs.Answers.{header_of}
 use Rattle.machine_state.proofs.Questions.{range-before, end-past, range-asked}
 use Rattle.machine_state.proofs.ask_range.Goals as goal

@@ -1,6 +1,5 @@
 -- `machine_state::ask_row` meets its contract.
-use native.Mathlib.Omega.{arith}
-use mathlib.Core.Path.{◌∙◌}
+use Rattle.std.proofs.Common.{arith, ◌∙◌}
 use Rattle.machine_state.specs.Answers.{header_of}
 use Rattle.machine_state.proofs.Questions.{asks_none, asks-file, asks-range}
 use Rattle.machine_state.proofs.ask_row.Goals as goal

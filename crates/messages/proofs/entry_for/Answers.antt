@@ -1,5 +1,5 @@
 -- `messages::entry_for` meets its contract.
-use mathlib.Core.Path.{refl, sym}
+use Rattle.std.proofs.Common.{refl, sym}
 use lib.ListN.{get_or-eq_default}
 use Rattle.messages.proofs.entry_for.Goals as goal
 

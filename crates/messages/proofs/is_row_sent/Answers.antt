@@ -1,5 +1,5 @@
 -- `messages::is_row_sent` meets its contract.
-use mathlib.Core.Path.{ap, ◌∙◌}
+use Rattle.std.proofs.Common.{ap, ◌∙◌}
 use Rattle.messages.specs.Table.{is_sent}
 use Rattle.messages.proofs.is_row_sent.Goals as goal
 

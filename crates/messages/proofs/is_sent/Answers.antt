@@ -1,5 +1,5 @@
 -- `messages::is_sent` meets its contract.
-use mathlib.Core.Path.{refl}
+use Rattle.std.proofs.Common.{refl}
 use Rattle.messages.proofs.is_sent.Goals as goal
 
 pub returns : goal.returns

@@ -1,5 +1,5 @@
 -- `messages::is_sent_by` meets its contract.
-use mathlib.Core.Path.{refl, sym, ◌∙◌}
+use Rattle.std.proofs.Common.{refl, sym, ◌∙◌}
 use lib.Dec.{eqb}
 use Rattle.messages.specs.Table.{sender_in}
 use Rattle.messages.proofs.Putting.{first-fails, second-decides}

@@ -1,6 +1,5 @@
 -- `messages::may_post` meets its contract.
-use mathlib.Core.Path.{sym, ap, ◌∙◌}
-use mathlib.Core.Bool.{not}
+use Rattle.std.proofs.Common.{sym, ap, ◌∙◌, not}
 use Rattle.messages.specs.Table.{is_sent_by}
 use Rattle.messages.proofs.Putting.{first-fails, second-decides}
 use Rattle.messages.proofs.may_post.Goals as goal

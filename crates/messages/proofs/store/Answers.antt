@@ -1,5 +1,5 @@
 -- `messages::store` meets its contract.
-use mathlib.Core.Path.{sym}
+use Rattle.std.proofs.Common.{sym}
 use lib.Seq.{set_out}
 use Rattle.messages.proofs.store.Goals as goal
 

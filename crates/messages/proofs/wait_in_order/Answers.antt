@@ -1,6 +1,5 @@
 -- `messages::wait_in_order` meets its contract.
-use mathlib.Core.Path.{sym, ap, ◌∙◌}
-use mathlib.Core.Bool.{not, ◌&&◌}
+use Rattle.std.proofs.Common.{sym, ap, ◌∙◌, not, ◌&&◌}
 use Rattle.messages.specs.Table.{is_sent, is_waited}
 use Rattle.messages.proofs.Putting.{first-fails, second-decides, wait_other, wait_is}
 use Rattle.messages.proofs.wait_in_order.Goals as goal

@@ -1,5 +1,5 @@
 -- `models::table_entry` meets its contract.
-use mathlib.Core.Path.{sym}
+use Rattle.std.proofs.Common.{sym}
 use Rattle.models.proofs.Entries.{no_model, no_kind, table-right}
 use Rattle.models.proofs.table_entry.Goals as goal
 

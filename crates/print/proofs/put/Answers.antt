@@ -1,7 +1,6 @@
 -- `print::put` meets its contract.
-use borrow.Author.Rules.{rules}
+use Rattle.std.proofs.Common.{rules, arith}
 use Rattle.print.proofs.Laying.{put-none, copy_start, copy_length, copy_next, copy_done}
-use native.Mathlib.Omega.{arith}
 use Rattle.print.proofs.put.Goals as goal
 
 pub returns-then-out-bytes : goal.returns-then-out-bytes

@@ -1,7 +1,6 @@
 -- `print::put` meets its contract.
 use Rattle.print.proofs.Laying.{Copying}
-use Prim.Native.Nat.{◌-◌}
-use lib.ListN.{length}
+use Rattle.std.proofs.Common.{◌-◌, length}
 use Rattle.print.proofs.put.Given as goal
 
 -- The first i bytes lie in their places, and all other bytes are as they were.

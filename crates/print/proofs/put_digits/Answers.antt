@@ -1,6 +1,6 @@
 -- `print::put_digits` meets its contract.
 use Rattle.print.proofs.Laying.{spell_start, spell_next, spell_done}
-use native.Mathlib.Omega.{arith}
+use Rattle.std.proofs.Common.{arith}
 use Rattle.print.proofs.put_digits.Goals as goal
 
 pub loop-i-init : goal.loop-i-init

@@ -1,7 +1,7 @@
 -- `print::put_number` meets its contract.
 use Rattle.print.proofs.Laying.{put-none, number-length, number_put}
 use Rattle.print.specs.Decimal.{decimal_of}
-use native.Mathlib.Omega.{arith}
+use Rattle.std.proofs.Common.{arith}
 use Rattle.print.proofs.put_number.Goals as goal
 
 pub returns-then-out-width : goal.returns-then-out-width

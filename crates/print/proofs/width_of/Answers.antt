@@ -1,5 +1,5 @@
 -- `print::width_of` meets its contract.
-use native.Mathlib.Omega.{arith}
+use Rattle.std.proofs.Common.{arith}
 use Rattle.print.proofs.Widths.{width_below}
 use Rattle.print.proofs.width_of.Goals as goal
 

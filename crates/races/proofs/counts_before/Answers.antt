@@ -1,5 +1,5 @@
 -- `races::counts_before` meets its contract.
-use mathlib.Core.Path.{refl}
+use Rattle.std.proofs.Common.{refl}
 use Rattle.races.proofs.counts_before.Goals as goal
 
 pub returns : goal.returns

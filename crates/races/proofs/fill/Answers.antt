@@ -1,9 +1,7 @@
 -- `races::fill` meets its contract.
-use native.Mathlib.Omega.{arith}
+use Rattle.std.proofs.Common.{arith, not, ap}
 use Rattle.rows.proofs.Bools.{refused, passed}
 use Rattle.races.proofs.Whole.{refuses, no-slice, no_model, fills}
-use mathlib.Core.Bool.{not}
-use mathlib.Core.Path.{ap}
 use Rattle.races.proofs.fill.Goals as goal
 
 pub returns-then-not-slices_fit : goal.returns-then-not-slices_fit

@@ -1,7 +1,5 @@
 -- `races::first_race` meets its contract.
-use native.Mathlib.Omega.{arith}
-use mathlib.Core.Path.{refl, ap, ◌∙◌}
-use lib.ListN.{length}
+use Rattle.std.proofs.Common.{arith, refl, ap, ◌∙◌, length}
 use Rattle.races.proofs.Putting.{length-with}
 use Rattle.races.proofs.Whole.{none-start, none-next, answer-free, answer-race}
 use Rattle.races.proofs.first_race.Goals as goal
@@ -10,7 +8,7 @@ pub loop-y-init : goal.loop-y-init
 loop-y-init c = (omega arith, refl, none-start c.args.n c.args.model c.args.rows.now)
 
 pub put_races_with-found-requires : goal.put_races_with-found-requires
-put_races_with-found-requires c = record { given = c.requires; y_lt_n = (c.loop-y-test.true, omega arith) }
+put_races_with-found-requires c = record { given = c.requires; later_row = (c.loop-y-test.true, omega arith) }
 
 pub returns-then-found-gt0 : goal.returns-then-found-gt0
 returns-then-found-gt0 c =

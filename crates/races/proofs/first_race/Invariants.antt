@@ -1,8 +1,5 @@
 -- `races::first_race` meets its contract.
-use Prim.Native.Nat.{◌-◌, ◌≤◌}
-use mathlib.Core.Path.{◌≡◌}
-use mathlib.Core.List.{[]}
-use lib.ListN.{length}
+use Rattle.std.proofs.Common.{◌-◌, ◌≤◌, ◌≡◌, [], length}
 use Rattle.rows.specs.Rows.{rows_in}
 use Rattle.races_meaning.specs.Lists.{pairs_below}
 use Rattle.races.proofs.first_race.Given as goal

@@ -1,8 +1,6 @@
 -- `races::is_noted` meets its contract.
-use native.Mathlib.Omega.{arith}
-use mathlib.Core.Path.{sym, ◌∙◌}
+use Rattle.std.proofs.Common.{arith, sym, ◌∙◌, ◌-◌, ◌<◌}
 use mathlib.Core.Bool.{false≢true}
-use Prim.Native.Nat.{◌-◌, ◌<◌}
 use Rattle.races.proofs.Passes.{process-low, asked, compared, no-data-noted, no-publish, other-file, by-counts}
 use Rattle.races.proofs.is_noted.Goals as goal
 
@@ -10,44 +8,44 @@ pub returns-then-later-eq0 : goal.returns-then-later-eq0
 returns-then-later-eq0 c = λ h q. absurd (omega (arith, c.if-later-eq0.true))
 
 pub returns-then-later : goal.returns-then-later
-returns-then-later c = λ h q. absurd (false≢true (sym q ∙ sym c.requires.y_lt_n.3 ∙ c.if-later.true))
+returns-then-later c = λ h q. absurd (false≢true (sym q ∙ sym c.requires.later_row.3 ∙ c.if-later.true))
 
 pub returns-then-rows-at-le-WRITE : goal.returns-then-rows-at-le-WRITE
 returns-then-rows-at-le-WRITE c =
     let a = c.args in
     let given = c.requires in
-    λ h q. no-data-noted given.given (a.later.refresh - 1) given.y_lt_n.0 given.y_lt_n.1 c.if-rows-at-le-WRITE.true q
+    λ h q. no-data-noted given.given (a.later.refresh - 1) given.later_row.0 given.later_row.1 c.if-rows-at-le-WRITE.true q
 
 pub returns-then-not-is_publish : goal.returns-then-not-is_publish
 returns-then-not-is_publish c =
     let a = c.args in
     let given = c.requires in
-    λ h q. no-publish given.given (a.later.refresh - 1) given.y_lt_n.0 given.y_lt_n.1 c.is_publish.ensures (c.if-not-is_publish.true)
+    λ h q. no-publish given.given (a.later.refresh - 1) given.later_row.0 given.later_row.1 c.is_publish.ensures (c.if-not-is_publish.true)
 
 pub returns-then-rows-to : goal.returns-then-rows-to
 returns-then-rows-to c =
     let a = c.args in
     let given = c.requires in
-    λ h q. other-file given.given (a.later.refresh - 1) given.y_lt_n.0 given.y_lt_n.1 c.is_publish.ensures
+    λ h q. other-file given.given (a.later.refresh - 1) given.later_row.0 given.later_row.1 c.is_publish.ensures
     (c.if-not-is_publish.false) c.if-rows-to.true
 
 pub overflow_cast-rows : goal.overflow_cast-rows
 overflow_cast-rows c =
     let given = c.requires in
-    omega (arith, process-low given.given given.y_lt_n.1, given.given.few-processes)
+    omega (arith, process-low given.given given.later_row.1, given.given.few-processes)
 
 pub counts_before-requires : goal.counts_before-requires
 counts_before-requires c =
     let a = c.args in
     let given = c.requires in
-    let o : a.later.refresh - 1 < a.later.n = omega (arith, c.if-later-eq0.false, given.y_lt_n.2) in
-    asked given.given given.y_lt_n.1 given.y_lt_n.1 o
+    let o : a.later.refresh - 1 < a.later.n = omega (arith, c.if-later-eq0.false, given.later_row.2) in
+    asked given.given given.later_row.1 given.later_row.1 o
 
 pub returns : goal.returns
 returns c =
     let a = c.args in
     let given = c.requires in
     λ h q.
-    let o : a.later.refresh - 1 < a.later.n = omega (arith, h, given.y_lt_n.2) in
-    by-counts given.given (a.later.refresh - 1) given.y_lt_n.0 given.y_lt_n.1 c.is_publish.ensures (c.if-not-is_publish.false) c.if-rows-to.false
-    (compared given.given given.y_lt_n.1 given.y_lt_n.1 o c.counts_before.ensures)
+    let o : a.later.refresh - 1 < a.later.n = omega (arith, h, given.later_row.2) in
+    by-counts given.given (a.later.refresh - 1) given.later_row.0 given.later_row.1 c.is_publish.ensures (c.if-not-is_publish.false) c.if-rows-to.false
+    (compared given.given given.later_row.1 given.later_row.1 o c.counts_before.ensures)

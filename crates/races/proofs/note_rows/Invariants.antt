@@ -1,5 +1,5 @@
 -- `races::note_rows` meets its contract.
-use Prim.Native.Nat.{◌-◌}
+use Rattle.std.proofs.Common.{◌-◌}
 use Rattle.rows.specs.Rows.{rows_in}
 use Rattle.races.proofs.Passes.{Noting}
 use Rattle.races.proofs.note_rows.Given as goal

@@ -1,7 +1,5 @@
 -- `races::put_all` meets its contract.
-use Prim.Native.Nat.{◌*◌, ◌≤◌}
-use native.Mathlib.Omega.{arith}
-use lib.ListN.{length}
+use Rattle.std.proofs.Common.{◌*◌, ◌≤◌, arith, length}
 use Rattle.rows.specs.Rows.{rows_in}
 use Rattle.races_meaning.specs.Lists.{race_pairs}
 use Rattle.races.proofs.Whole.{square_most, pairs-in, room_in, room_out}
@@ -24,8 +22,9 @@ pub returns : goal.returns
 returns c =
     let pairs = race_pairs (rows_in c.args.n c.args.rows.now) c.args.model in
     let room : 2 * length pairs ≤ length c.args.list.now =
-      elim c.if-list-n.branch [
-          then-list-n+else-list-needed w ↦ omega (arith, w.put_races-needed.ensures.answer, w.if-list-needed.false)
-        | else-list-n w ↦ omega (arith, w.if-list-n.false, pairs-in c.args.n c.args.model c.args.rows.now) ] in
+    elim c.if-list-n.branch [
+      | then-list-n+else-list-needed w ↦ omega (arith, w.put_races-needed.ensures.answer, w.if-list-needed.false)
+      | else-list-n w ↦ omega (arith, w.if-list-n.false, pairs-in c.args.n c.args.model c.args.rows.now)
+    ] in
     let both = room_in pairs c.args.list.now room c.put_races-found.ensures.answer c.put_races-found.ensures.listed in
     record { answer = both.0; listed = both.1 }

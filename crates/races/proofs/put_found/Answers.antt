@@ -1,9 +1,6 @@
 -- `races::put_found` meets its contract.
-use native.Mathlib.Omega.{arith}
-use Prim.Native.Nat.{◌*◌, ◌<◌}
-use lib.ListN.{length, get_or}
-use mathlib.Core.Logic.{inl, inr}
-use mathlib.Core.Path.{ap, ◌∙◌}
+use Rattle.std.proofs.Common.{arith, ◌*◌, ◌<◌, length, inl, inr, ap, ◌∙◌}
+use lib.ListN.{get_or}
 use Rattle.rows.specs.Limits.{PROCESSES}
 use Rattle.rows.specs.Rows.{rows_in}
 use Rattle.rows.proofs.Slices.{length-rows}
@@ -18,56 +15,56 @@ loop-x-init c = putting_start (rows_in c.args.later.n c.args.rows.now) c.args.la
 pub overflow_cast-p : goal.overflow_cast-p
 overflow_cast-p c =
     let given = c.requires in
-    let h : c.loop-x.x < c.args.later.n = omega (arith, c.loop-x-test.true, given.y_lt_n.0) in
+    let h : c.loop-x.x < c.args.later.n = omega (arith, c.loop-x-test.true, given.later_row.0) in
     omega (arith, process-low given.given h, given.given.few-processes)
 
 pub offset_bounds-last-p : goal.offset_bounds-last-p
 offset_bounds-last-p c =
     let given = c.requires in
-    let h : c.loop-x.x < c.args.later.n = omega (arith, c.loop-x-test.true, given.y_lt_n.0) in
+    let h : c.loop-x.x < c.args.later.n = omega (arith, c.loop-x-test.true, given.later_row.0) in
     omega (arith, process-low given.given h, given.given.few-processes)
 
 pub bounds-last-p : goal.bounds-last-p
 bounds-last-p c =
     let given = c.requires in
-    let h : c.loop-x.x < c.args.later.n = omega (arith, c.loop-x-test.true, given.y_lt_n.0) in
+    let h : c.loop-x.x < c.args.later.n = omega (arith, c.loop-x-test.true, given.later_row.0) in
     omega (arith, process-low given.given h, given.given.few-processes)
 
 pub is_race-requires : goal.is_race-requires
 is_race-requires c =
     let given = c.requires in
-    let h : c.loop-x.x < c.args.later.n = omega (arith, c.loop-x-test.true, given.y_lt_n.0) in
-    let l : get_or c.args.rows.now (c.loop-x.x * 6) 0 < PROCESSES = omega (arith, process-low given.given h, given.given.few-processes) in record { given = given.given; y_lt_n = (given.y_lt_n.0, h, given.y_lt_n.1, given.y_lt_n.2, given.y_lt_n.3); last_value = λ r q. rw (process-at given.given h) (given.noted r q _ l) }
+    let h : c.loop-x.x < c.args.later.n = omega (arith, c.loop-x-test.true, given.later_row.0) in
+    let l : get_or c.args.rows.now (c.loop-x.x * 6) 0 < PROCESSES = omega (arith, process-low given.given h, given.given.few-processes) in record { given = given.given; later_row = (given.later_row.0, h, given.later_row.1, given.later_row.2, given.later_row.3); noted_last = λ r q. rw (process-at given.given h) (given.noted r q _ l) }
 
 pub overflow_cast-x : goal.overflow_cast-x
 overflow_cast-x c =
     let given = c.requires in
-    omega (arith, putting_few c.loop-x.invariant, c.loop-x-test.true, given.y_lt_n.0, given.y_lt_n.4, given.given.few-rows)
+    omega (arith, putting_few c.loop-x.invariant, c.loop-x-test.true, given.later_row.0, given.later_row.4, given.given.few-rows)
 
 pub overflow_add-x : goal.overflow_add-x
 overflow_add-x c =
     let given = c.requires in
-    omega (arith, putting_few c.loop-x.invariant, c.loop-x-test.true, given.y_lt_n.0, given.y_lt_n.4, given.given.few-rows)
+    omega (arith, putting_few c.loop-x.invariant, c.loop-x-test.true, given.later_row.0, given.later_row.4, given.given.few-rows)
 
 pub overflow_cast-y : goal.overflow_cast-y
 overflow_cast-y c =
     let given = c.requires in
-    omega (arith, putting_few c.loop-x.invariant, c.loop-x-test.true, given.y_lt_n.0, given.y_lt_n.4, given.given.few-rows)
+    omega (arith, putting_few c.loop-x.invariant, c.loop-x-test.true, given.later_row.0, given.later_row.4, given.given.few-rows)
 
 pub overflow_add-y : goal.overflow_add-y
 overflow_add-y c =
     let given = c.requires in
-    omega (arith, putting_few c.loop-x.invariant, c.loop-x-test.true, given.y_lt_n.0, given.y_lt_n.4, given.given.few-rows)
+    omega (arith, putting_few c.loop-x.invariant, c.loop-x-test.true, given.later_row.0, given.later_row.4, given.given.few-rows)
 
 pub put_pair-requires : goal.put_pair-requires
 put_pair-requires c =
     let given = c.requires in
-    omega (arith, putting_few c.loop-x.invariant, c.loop-x-test.true, given.y_lt_n.0, given.y_lt_n.4, given.given.few-rows)
+    omega (arith, putting_few c.loop-x.invariant, c.loop-x-test.true, given.later_row.0, given.later_row.4, given.given.few-rows)
 
 pub overflow_add-found : goal.overflow_add-found
 overflow_add-found c =
     let given = c.requires in
-    omega (arith, putting_few c.loop-x.invariant, c.loop-x-test.true, given.y_lt_n.0, given.y_lt_n.4, given.given.few-rows)
+    omega (arith, putting_few c.loop-x.invariant, c.loop-x-test.true, given.later_row.0, given.later_row.4, given.given.few-rows)
 
 pub loop-x-smaller : goal.loop-x-smaller
 loop-x-smaller c = omega (arith, c.loop-x-test.true)
@@ -76,7 +73,7 @@ pub loop-x-preserved : goal.loop-x-preserved
 loop-x-preserved c =
     let given = c.requires in
     let many : c.args.later.y < length (rows_in c.args.later.n c.args.rows.now) =
-    omega (arith, given.y_lt_n.0, length-rows c.args.later.n c.args.rows.now) in
+    omega (arith, given.later_row.0, length-rows c.args.later.n c.args.rows.now) in
     putting_next c.loop-x.invariant given.given.is_model c.loop-x-test.true many c.is_race.ensures
     (elim c.if-is_race.branch [ then-is_race w ↦ inl (w.if-is_race.true, w.list-is ∙ w.put_pair.ensures, w.found-is) | else-is_race w ↦ inr (w.if-is_race.false, w.list-is, w.found-is) ])
 

@@ -1,5 +1,5 @@
 -- `races::put_found` meets its contract.
-use Prim.Native.Nat.{◌-◌}
+use Rattle.std.proofs.Common.{◌-◌}
 use Rattle.rows.specs.Rows.{rows_in}
 use Rattle.races.proofs.Passes.{Putting}
 use Rattle.races.proofs.put_found.Given as goal

@@ -1,7 +1,5 @@
 -- `races::put_pair` meets its contract.
-use Prim.Native.Nat.{◌*◌}
-use native.Mathlib.Omega.{arith}
-use lib.ListN.{length-set}
+use Rattle.std.proofs.Common.{◌*◌, arith, length-set}
 use Rattle.races.proofs.Putting.{pair-in, pair-out}
 use Rattle.races.proofs.put_pair.Goals as goal
 

@@ -1,7 +1,5 @@
 -- `races::put_races` meets its contract.
-use native.Mathlib.Omega.{arith}
-use mathlib.Core.Path.{ap, ◌∙◌}
-use lib.ListN.{length}
+use Rattle.std.proofs.Common.{arith, ap, ◌∙◌, length}
 use Rattle.rows.specs.Rows.{rows_in}
 use Rattle.rows.proofs.Slices.{length-rows}
 use Rattle.races.proofs.Putting.{length-with}
@@ -12,7 +10,7 @@ pub loop-y-init : goal.loop-y-init
 loop-y-init c = covering_start (rows_in c.args.n c.args.rows.now) c.args.model c.args.list.now
 
 pub put_races_with-found-requires : goal.put_races_with-found-requires
-put_races_with-found-requires c = record { given = c.requires; y_lt_n = (c.loop-y-test.true, covering_few c.loop-y.invariant (omega (arith, length-rows c.args.n c.args.rows.now, c.requires.few-rows))) }
+put_races_with-found-requires c = record { given = c.requires; later_row = (c.loop-y-test.true, covering_few c.loop-y.invariant (omega (arith, length-rows c.args.n c.args.rows.now, c.requires.few-rows))) }
 
 pub loop-y-smaller : goal.loop-y-smaller
 loop-y-smaller c = omega (arith, c.loop-y-test.true)

@@ -1,8 +1,6 @@
 -- `races::refresh_at` meets its contract.
 use Rattle.races.proofs.Cells.{last_none, refreshing, refresh-here, refresh-before, refresh_own, refresh_earlier}
-use mathlib.Core.Path.{refl, sym, ◌∙◌}
-use native.Mathlib.Numerals.{add-one}
-use native.Mathlib.Omega.{arith}
+use Rattle.std.proofs.Common.{refl, sym, ◌∙◌, add-one, arith}
 use Rattle.races.proofs.refresh_at.Goals as goal
 
 pub is_refresh-requires : goal.is_refresh-requires

@@ -1,8 +1,7 @@
 -- `races::refresh_at` meets its contract.
 use Rattle.rows.specs.Counting.{last_below}
 use Rattle.races.proofs.Cells.{refreshing}
-use mathlib.Core.Path.{◌≡◌}
-use Prim.Native.Nat.{◌≤◌}
+use Rattle.std.proofs.Common.{◌≡◌, ◌≤◌}
 use Rattle.races.proofs.refresh_at.Given as goal
 
 -- No row from index i up to row y refreshes for row y, so the rows below i decide.

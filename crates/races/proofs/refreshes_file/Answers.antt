@@ -1,7 +1,6 @@
 -- `races::refreshes_file` meets its contract.
-use mathlib.Core.Path.{sym, ◌∙◌}
+use Rattle.std.proofs.Common.{sym, ◌∙◌, eq-eqb, ne_eqb}
 use mathlib.Core.Bool.{and-true, and-false}
-use borrow.Author.Tests.{eq-eqb, ne_eqb}
 use Rattle.models.specs.Table.{refreshes}
 use Rattle.races.proofs.refreshes_file.Goals as goal
 

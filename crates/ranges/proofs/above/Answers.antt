@@ -1,7 +1,5 @@
 -- `ranges::above` meets its contract.
-use native.Mathlib.Omega.{arith}
-use Prim.Native.Nat.{ℕ, ◌+◌, ◌*◌, ◌-◌, ◌%◌}
-use mathlib.Core.Path.{◌≡◌, ap, ◌∙◌}
+use Rattle.std.proofs.Common.{arith, ℕ, ◌+◌, ◌*◌, ◌-◌, ◌%◌, ◌≡◌, ap, ◌∙◌}
 use Rattle.ranges.specs.Ranges.{TOP}
 use Rattle.ranges.proofs.Differences.{rise}
 use Rattle.ranges.proofs.above.Goals as goal

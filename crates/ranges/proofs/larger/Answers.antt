@@ -1,6 +1,5 @@
 -- `ranges::larger` meets its contract.
-use Prim.Native.Nat.{ℕ, ◌+◌}
-use mathlib.Core.Path.{ap, ◌∙◌}
+use Rattle.std.proofs.Common.{ℕ, ◌+◌, ap, ◌∙◌}
 use Rattle.ranges.proofs.Differences.{raised}
 use Rattle.ranges.proofs.larger.Goals as goal
 

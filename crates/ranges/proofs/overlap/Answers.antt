@@ -1,8 +1,5 @@
 -- `ranges::overlap` meets its contract.
-use native.Mathlib.Omega.{arith}
-use Prim.Native.Nat.{ℕ, ◌-◌}
-use mathlib.Core.Path.{ap, ◌∙◌}
-use mathlib.Core.Bool.{cond}
+use Rattle.std.proofs.Common.{arith, ℕ, ◌-◌, ap, ◌∙◌, cond}
 use lib.Dec.{leb}
 use Rattle.ranges.proofs.Differences.{one-most, told}
 use Rattle.ranges.proofs.overlap.Goals as goal

@@ -1,6 +1,5 @@
 -- `ranges::smaller` meets its contract.
-use Prim.Native.Nat.{ℕ, ◌-◌}
-use mathlib.Core.Path.{ap, ◌∙◌}
+use Rattle.std.proofs.Common.{ℕ, ◌-◌, ap, ◌∙◌}
 use Rattle.ranges.proofs.Differences.{lowered}
 use Rattle.ranges.proofs.smaller.Goals as goal
 

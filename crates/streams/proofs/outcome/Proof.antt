@@ -1,6 +1,5 @@
 -- `streams::outcome` meets its contract.
-use borrow.Author.Rules.{rules}
-use mathlib.Core.Path.{sym, ◌∙◌}
+use Rattle.std.proofs.Common.{rules, sym, ◌∙◌}
 use Rattle.streams.proofs.Outcomes.{interrupted, other, erred, ended, counted, took}
 use Rattle.streams.proofs.outcome.Statement.{statement}
 use Rattle.streams.proofs.outcome.Tie as tie

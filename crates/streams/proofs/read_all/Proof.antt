@@ -1,9 +1,5 @@
 -- `streams::read_all` meets its contract. The loop's invariant: the bytes read so far lie within the buffer, whose length stays.
-use Prim.Native.Nat.{◌≤◌, ◌+◌, ◌-◌}
-use native.Mathlib.Omega.{arith}
-use mathlib.Core.Path.{◌≡◌, sym, ◌∙◌}
-use borrow.Author.Rules.{rules}
-use lib.ListN.{length}
+use Rattle.std.proofs.Common.{◌≤◌, ◌+◌, ◌-◌, arith, ◌≡◌, sym, ◌∙◌, rules, length}
 use Rattle.streams.proofs.Outcomes.{took-some, sub_positive, within-rest, is_within, back-length, back-within}
 use Rattle.streams.proofs.read_all.Statement.{statement}
 use Rattle.streams.proofs.read_all.Tie as tie

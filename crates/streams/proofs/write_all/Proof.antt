@@ -1,9 +1,5 @@
 -- `streams::write_all` meets its contract. The loop's invariant: the bytes written so far are no more than there are.
-use Prim.Native.Nat.{◌≤◌, ◌+◌, ◌-◌}
-use native.Mathlib.Omega.{arith}
-use mathlib.Core.Path.{◌≡◌, sym, ◌∙◌}
-use borrow.Author.Rules.{rules}
-use lib.ListN.{length}
+use Rattle.std.proofs.Common.{◌≤◌, ◌+◌, ◌-◌, arith, ◌≡◌, sym, ◌∙◌, rules, length}
 use Rattle.streams.proofs.Outcomes.{took-some, sub_positive, within-rest}
 use Rattle.streams.proofs.write_all.Statement.{statement}
 use Rattle.streams.proofs.write_all.Tie as tie

@@ -2,8 +2,7 @@
 use Rattle.trace.proofs.Asking.{few-rows, few-counts, bad-model, no_rows, many-rows, bad-processes, bad-header, all_asked}
 use Rattle.rows.proofs.Products.{product}
 use Rattle.rows.proofs.Bools.{refused, passed}
-use mathlib.Core.Bool.{not}
-use mathlib.Core.Path.{ap}
+use Rattle.std.proofs.Common.{not, ap}
 use Rattle.trace.proofs.ask_call.Goals as goal
 
 pub returns-then-rows_len-row_limit : goal.returns-then-rows_len-row_limit

@@ -3,10 +3,7 @@ use Rattle.trace.proofs.Whole.{call-passed, call-refused, first_three, accepted-
 use Rattle.trace.proofs.Laws.{legal, refused-from_four}
 use Rattle.trace.specs.Questions.{check_trace, checked_of, Holds}
 use Rattle.csv_records.specs.Reading.{records}
-use lib.ListN.{length, replicate}
-use Prim.Native.Nat.{ℕ}
-use native.Mathlib.Omega.{arith}
-use mathlib.Core.Path.{sym, ap, ◌∙◌}
+use Rattle.std.proofs.Common.{length, replicate, ℕ, arith, sym, ap, ◌∙◌}
 use Rattle.trace.proofs.check_trace.Goals as goal
 
 pub returns-then-no-ne0 : goal.returns-then-no-ne0

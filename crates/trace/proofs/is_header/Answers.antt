@@ -1,9 +1,6 @@
 -- `trace::is_header` meets its contract.
 use Rattle.trace.proofs.Asking.{Named, not_six, none_named, named, other_name, last_name}
-use lib.ListN.{length}
-use mathlib.Core.Path.{◌≡◌, refl}
-use native.Mathlib.Omega.{arith}
-use Prim.Native.Nat.{ℕ}
+use Rattle.std.proofs.Common.{length, ◌≡◌, refl, arith, ℕ}
 use Rattle.trace.proofs.is_header.Goals as goal
 use Rattle.trace.proofs.is_header.Goals.{Else-count-ne-FIELDS, Else-not-is_word, Else-not-is_word-2, Else-not-is_word-3, Else-not-is_word-4, Else-not-is_word-5, Start}
 

@@ -4,7 +4,7 @@ use Rattle.trace.proofs.Turns.{header-missing, header-malformed, header-over, re
 use Rattle.trace.specs.Questions.{checked_of}
 use Rattle.csv_records.proofs.Answers.{tells}
 use Rattle.csv_records.specs.Reading.{read_at}
-use mathlib.Core.Path.{sym, ap, ◌∙◌}
+use Rattle.std.proofs.Common.{sym, ap, ◌∙◌}
 use Rattle.trace.proofs.read_records.Goals as goal
 
 pub read_rows-requires : goal.read_rows-requires

@@ -1,6 +1,6 @@
 -- `trace::read_trace` meets its contract.
 use Rattle.csv_records.specs.Reading.{records}
-use mathlib.Core.Path.{sym, ◌∙◌}
+use Rattle.std.proofs.Common.{sym, ◌∙◌}
 use Rattle.trace.proofs.Whole.{record_refused, rows_have_room, barriers-passed, barriers-refused}
 use Rattle.trace.proofs.read_trace.Goals as goal
 

@@ -1,9 +1,7 @@
 -- `trace_fields::filled_as_used` meets its contract.
 use Rattle.trace_fields.proofs.Judging.{fills-not_process, fills-not_file, fills-not_offset, fills-not_length, fills-message}
 use Rattle.rows.proofs.Bools.{refused, passed}
-use mathlib.Core.Path.{◌∙◌}
-use mathlib.Core.Bool.{not}
-use mathlib.Core.Path.{ap}
+use Rattle.std.proofs.Common.{◌∙◌, not, ap}
 use Rattle.trace_fields.proofs.filled_as_used.Goals as goal
 
 pub returns-then-not-as_used : goal.returns-then-not-as_used

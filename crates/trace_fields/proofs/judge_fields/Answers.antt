@@ -1,9 +1,7 @@
 -- `trace_fields::judge_fields` meets its contract.
 use Rattle.trace_fields.proofs.Judging.{Known, Filled, no_kind, no_filled, no_number, no_end, kept}
 use Rattle.rows.proofs.Bools.{refused, passed}
-use native.Mathlib.Omega.{arith}
-use mathlib.Core.Bool.{not}
-use mathlib.Core.Path.{ap}
+use Rattle.std.proofs.Common.{arith, not, ap}
 use Rattle.trace_fields.proofs.judge_fields.Goals as goal
 use Rattle.trace_fields.proofs.judge_fields.Goals.{After-used_by-used, Else-not-filled_as_used}
 
@@ -25,17 +23,20 @@ known c =
 -- the record where its fields are filled as used
 abbrev filled : (c : Else-not-filled_as_used) → Filled
 filled c =
-    record { of = (let a = c.args in
     record {
-      limit = a.process_limit;
-      text = a.text.now;
-      spans = a.spans;
-      kind = c.kind_of-kind.result;
-      used = c.used_by-used.result;
-      kind-is = c.kind_of-kind.ensures;
-      known = c.if-kind-ge-KINDS.false;
-      used-is = c.used_by-used.ensures;
-    }); filled = passed c.filled_as_used.ensures (ap not c.if-not-filled_as_used.false) }
+      of = (let a = c.args in
+          record {
+            limit = a.process_limit;
+            text = a.text.now;
+            spans = a.spans;
+            kind = c.kind_of-kind.result;
+            used = c.used_by-used.result;
+            kind-is = c.kind_of-kind.ensures;
+            known = c.if-kind-ge-KINDS.false;
+            used-is = c.used_by-used.ensures;
+          });
+      filled = passed c.filled_as_used.ensures (ap not c.if-not-filled_as_used.false);
+    }
 
 pub returns-then-kind-ge-KINDS : goal.returns-then-kind-ge-KINDS
 returns-then-kind-ge-KINDS c =

@@ -2,7 +2,7 @@
 use Rattle.csv_content.specs.Content.{content_of}
 use Rattle.trace_fields.specs.Rows.{kind_words}
 use Rattle.trace_fields.proofs.Words.{Past, start, next, here, none}
-use lib.ListN.{drop}
+use Rattle.std.proofs.Common.{drop}
 use Rattle.trace_fields.proofs.kind_of.Goals as goal
 use Rattle.trace_fields.proofs.kind_of.Goals.{Else-is_word, Else-is_word-10, Else-is_word-2, Else-is_word-3, Else-is_word-4, Else-is_word-5, Else-is_word-6, Else-is_word-7, Else-is_word-8, Else-is_word-9}
 

@@ -1,11 +1,7 @@
 -- `trace_numbers::digits` meets its contract.
 use Rattle.rows.proofs.Bools.{refused, passed}
 use Rattle.trace_numbers.proofs.Numbers.{plain-some, number-start, number-none, digit_low, digit_high, digit_on, digit_past, digits_end}
-use Prim.Native.Nat.{◌<◌}
-use native.Mathlib.Omega.{arith}
-use mathlib.Core.Path.{sym, ◌∙◌}
-use mathlib.Core.Bool.{not}
-use mathlib.Core.Path.{ap}
+use Rattle.std.proofs.Common.{◌<◌, arith, sym, ◌∙◌, not, ap}
 use Rattle.trace_numbers.proofs.digits.Goals as goal
 use Rattle.trace_numbers.proofs.digits.Goals.{After-loop-i}
 

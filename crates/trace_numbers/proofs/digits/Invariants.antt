@@ -1,9 +1,7 @@
 -- `trace_numbers::digits` meets its contract.
 use Rattle.trace_numbers.specs.Numbers.{number_below}
 use Rattle.trace_numbers.proofs.Numbers.{number_from}
-use Prim.Native.Nat.{◌-◌, ◌≤◌, ◌<◌}
-use mathlib.Core.Path.{◌≡◌}
-use lib.ListN.{length, drop}
+use Rattle.std.proofs.Common.{◌-◌, ◌≤◌, ◌<◌, ◌≡◌, length, drop}
 use Rattle.trace_numbers.proofs.digits.Given as goal
 
 -- The number of s is that of the digits from i on behind the value v of those before i, and v is below the bound once a digit is read.

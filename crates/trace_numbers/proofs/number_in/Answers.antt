@@ -1,8 +1,8 @@
 -- `trace_numbers::number_in` meets its contract.
+use Rattle.std.proofs.Common.{◌∙◌}
 use borrow.Author.Tests.{not-true, not-false}
 use Rattle.csv_content.specs.Content.{content_of}
 use Rattle.trace_numbers.proofs.Numbers.{number-unused, number-used}
-use mathlib.Core.Path.{◌∙◌}
 use Rattle.trace_numbers.proofs.number_in.Goals as goal
 
 pub returns-then-not-used : goal.returns-then-not-used

@@ -1,8 +1,7 @@
 -- `writer::ask_call` meets its contract.
 use Rattle.rows.proofs.Bools.{refused, passed}
 use Rattle.writer.proofs.Questions.{few-numbers, bad-processes, many-rows, other_word, all_asked}
-use mathlib.Core.Bool.{not}
-use mathlib.Core.Path.{ap}
+use Rattle.std.proofs.Common.{not, ap}
 use Rattle.writer.proofs.ask_call.Goals as goal
 
 pub returns-then-rows_len-n : goal.returns-then-rows_len-n

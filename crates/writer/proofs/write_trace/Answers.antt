@@ -1,10 +1,7 @@
 -- `writer::write_trace` meets its contract.
-use mathlib.Core.Path.{refl, sym, ◌∙◌}
-use lib.ListN.{length}
+use Rattle.std.proofs.Common.{refl, sym, ◌∙◌, length, not, ap}
 use Rattle.writer.proofs.Questions.{call-legal}
 use Rattle.writer.proofs.Whole.{call-no, row-no, rows_have_room, lines-bound, barriers-no, no-space, header-room, lines-room, text-written}
-use mathlib.Core.Bool.{not}
-use mathlib.Core.Path.{ap}
 use Rattle.writer.proofs.write_trace.Goals as goal
 
 pub returns-then-no-ne0 : goal.returns-then-no-ne0

@@ -1,5 +1,5 @@
 -- `writer_line::put_near_end` meets its contract.
-use native.Mathlib.Omega.{arith}
+use Rattle.std.proofs.Common.{arith}
 use Rattle.print.proofs.Laying.{put-none}
 use Rattle.writer_line.specs.Lines.{record_of}
 use Rattle.writer_line.proofs.Putting.{record_put}

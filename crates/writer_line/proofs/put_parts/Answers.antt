@@ -1,5 +1,5 @@
 -- `writer_line::put_parts` meets its contract.
-use native.Mathlib.Omega.{arith}
+use Rattle.std.proofs.Common.{arith}
 use Rattle.print.proofs.Parts.{put-laid}
 use Rattle.writer_line.proofs.Putting.{room, process-laid, kind-laid, two-laid, record_laid}
 use Rattle.writer_line.proofs.put_parts.Goals as goal

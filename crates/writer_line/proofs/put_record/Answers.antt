@@ -1,5 +1,5 @@
 -- `writer_line::put_record` meets its contract.
-use native.Mathlib.Omega.{arith}
+use Rattle.std.proofs.Common.{arith}
 use Rattle.writer_line.proofs.Contents.{record_most}
 use Rattle.writer_line.proofs.Putting.{record_put}
 use Rattle.writer_line.proofs.put_record.Goals as goal

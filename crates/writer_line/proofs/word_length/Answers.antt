@@ -1,5 +1,5 @@
 -- `writer_line::word_length` meets its contract.
-use native.Mathlib.Omega.{arith}
+use Rattle.std.proofs.Common.{arith}
 use Rattle.rows.specs.Kinds.{KINDS}
 use Rattle.writer_line.proofs.Contents.{word_none}
 use Rattle.writer_line.proofs.Putting.{past_all}

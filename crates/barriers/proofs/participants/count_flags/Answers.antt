@@ -1,8 +1,5 @@
 -- `barriers::participants::count_flags` meets its contract.
-use Prim.Native.Nat.{ℕ}
-use native.Mathlib.Omega.{arith}
-use mathlib.Core.Path.{sym, ◌∙◌}
-use mathlib.Core.Bool.{Bool, false}
+use Rattle.std.proofs.Common.{ℕ, arith, sym, ◌∙◌, Bool, false}
 use lib.ListN.{get_or}
 use Rattle.rows.proofs.Below.{count-below}
 use Rattle.barriers.proofs.Codes.{count_none, count_yes, count_no, count-all}

@@ -1,7 +1,5 @@
 -- `barriers::participants::count_flags` meets its contract.
-use Prim.Native.Nat.{◌-◌, ◌≤◌}
-use mathlib.Core.Path.{◌≡◌}
-use mathlib.Core.Bool.{false}
+use Rattle.std.proofs.Common.{◌-◌, ◌≤◌, ◌≡◌, false}
 use lib.ListN.{get_or}
 use Rattle.rows.specs.Limits.{PROCESSES}
 use Rattle.rows.specs.Counting.{count_below}

@@ -1,6 +1,5 @@
 -- `barriers::participants::flag_at` meets its contract.
-use mathlib.Core.Path.{sym}
-use mathlib.Core.Bool.{false}
+use Rattle.std.proofs.Common.{sym, false}
 use lib.ListN.{get_or-eq_default}
 use Rattle.barriers.proofs.participants.flag_at.Goals as goal
 

@@ -1,9 +1,5 @@
 -- `barriers::participants::flag_processes` meets its contract.
-use borrow.Author.Rules.{rules}
-use native.Mathlib.Omega.{arith}
-use mathlib.Core.Path.{ap, ◌∙◌}
-use mathlib.Core.Bool.{true}
-use lib.ListN.{length, length-set}
+use Rattle.std.proofs.Common.{rules, arith, ap, ◌∙◌, true, length, length-set}
 use Rattle.barriers.proofs.Codes.{flagged-none, flagged-row, flagged-all}
 use Rattle.barriers.proofs.participants.flag_processes.Goals as goal
 

@@ -1,7 +1,5 @@
 -- `barriers::participants::flag_processes` meets its contract.
-use Prim.Native.Nat.{◌-◌, ◌≤◌}
-use mathlib.Core.Path.{◌≡◌}
-use lib.ListN.{length}
+use Rattle.std.proofs.Common.{◌-◌, ◌≤◌, ◌≡◌, length}
 use Rattle.rows.specs.Limits.{PROCESSES}
 use Rattle.rows.specs.Rows.{rows_in}
 use Rattle.barriers.specs.Participants.{flagged}

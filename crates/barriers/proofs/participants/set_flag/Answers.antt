@@ -1,6 +1,5 @@
 -- `barriers::participants::set_flag` meets its contract.
-use mathlib.Core.Path.{sym}
-use mathlib.Core.Bool.{true}
+use Rattle.std.proofs.Common.{sym, true}
 use lib.Seq.{set_out}
 use Rattle.barriers.proofs.participants.set_flag.Goals as goal
 

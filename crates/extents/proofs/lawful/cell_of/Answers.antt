@@ -1,5 +1,5 @@
 -- `extents::lawful::cell_of` meets its contract.
-use native.Mathlib.Omega.{arith}
+use Rattle.std.proofs.Common.{arith}
 use Rattle.extents.proofs.lawful.cell_of.Goals as goal
 
 pub overflow_mul-result : goal.overflow_mul-result

@@ -1,7 +1,5 @@
 -- `extents::lawful::lacks` meets its contract.
-use Prim.Native.Nat.{◌-◌}
-use native.Mathlib.Omega.{arith}
-use mathlib.Core.Path.{ap}
+use Rattle.std.proofs.Common.{◌-◌, arith, ap}
 use lib.Dec.{ltb}
 use Rattle.extents_meaning.specs.Maps.{bytes_of}
 use Rattle.extents_pair.proofs.Rooms.{map_enough, map_counted}
@@ -17,7 +15,7 @@ returns-then-runs_in-room c =
     c.runs_in.ensures (omega (arith, c.if-runs_in-room.true))
 
 pub count-requires : goal.count-requires
-count-requires c = record { map_value = (c.requires.0, c.requires.0); from_le_to = (c.requires.1, omega arith) }
+count-requires c = record { lawful_map = (c.requires.0, c.requires.0); rising = (c.requires.1, omega arith) }
 
 pub returns : goal.returns
 returns c =

@@ -4,11 +4,7 @@ use Rattle.extents_pair.proofs.Rooms.{pieces-there, slice_short, slice_enough}
 use Rattle.extents_meaning.specs.Maps.{listed_in, bytes_of}
 use Rattle.extents.specs.Entries.{listed_count}
 use Rattle.extents_meaning.specs.Runs.{Run, pieces_of}
-use lib.ListN.{length}
-use mathlib.Core.List.{List}
-use mathlib.Core.Path.{ap}
-use native.Mathlib.Omega.{arith}
-use Prim.Native.Nat.{◌+◌, ◌-◌}
+use Rattle.std.proofs.Common.{length, List, ap, arith, ◌+◌, ◌-◌}
 use Rattle.extents.proofs.lawful.list_range.Goals as goal
 
 pub returns-then-start-length : goal.returns-then-start-length
@@ -39,21 +35,24 @@ overflow_add-start-2 c = omega (arith, c.if-start-length.false)
 pub list-n-requires : goal.list-n-requires
 list-n-requires c =
     let a = c.args in
-    let f = bytes_of a.map.now in record { map_value = (c.requires, omega arith); from_in_bounds = omega (
+    let f = bytes_of a.map.now in record {
+      lawful_map = (c.requires, omega arith);
+      list_room = omega (
         arith,
         ap (λ (l : List Run). length l) (pieces-there f a.start a.length),
         slice_enough f a.start a.length (length a.out.now) c.lacks.ensures c.if-lacks.false,
-      ) }
+      );
+    }
 
 pub overflow_cast-result : goal.overflow_cast-result
 overflow_cast-result c =
     let a = c.args in
     let n = a.start + a.length - a.start in
-    omega (arith, c.list-n.ensures.value, pieces-most (bytes_of a.map.now) a.start n, c.ranges.length)
+    omega (arith, c.list-n.ensures.answer, pieces-most (bytes_of a.map.now) a.start n, c.ranges.length)
 
 pub returns : goal.returns
 returns c =
     let a = c.args in
     let enough = slice_enough (bytes_of a.map.now) a.start a.length (length a.out.now) c.lacks.ensures c.if-lacks.false in
     accepted-list a.map.now a.start a.length a.out.now (list-fits a.map.now a.start a.length (length a.out.now)
-    (omega arith) (omega arith) c.requires (omega (arith, c.if-start-length.false)) enough) c.list-n.ensures.value c.list-n.ensures.out_after
+    (omega arith) (omega arith) c.requires (omega (arith, c.if-start-length.false)) enough) c.list-n.ensures.answer c.list-n.ensures.out_after

@@ -1,6 +1,5 @@
 -- `extents::lawful::lookup` meets its contract.
-use native.Mathlib.Omega.{arith}
-use mathlib.Core.Path.{ap, ◌∙◌}
+use Rattle.std.proofs.Common.{arith, ap, ◌∙◌}
 use Rattle.extents_meaning.specs.Cells.{number_in, mark_in}
 use Rattle.extents_map.proofs.Looking.{passing-part}
 use Rattle.extents.proofs.Entering.{lookup-past, lookup-found, looked_whole}

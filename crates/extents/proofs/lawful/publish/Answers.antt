@@ -3,21 +3,18 @@ use Rattle.extents.proofs.Doubles.{publish-enough, publish-short, publish-full, 
 use Rattle.extents.specs.Entries.{published_maps}
 use Rattle.extents.proofs.Entering.{refused}
 use Rattle.extents.specs.declared.Answer.TheVariants.{Done}
-use mathlib.Core.Path.{refl}
-use native.Mathlib.Omega.{arith}
+use Rattle.std.proofs.Common.{refl, arith, not, ap}
 use Rattle.extents_pair.proofs.Pairing.{two-told}
-use mathlib.Core.Bool.{not}
-use mathlib.Core.Path.{ap}
 use Rattle.extents.proofs.lawful.publish.Goals as goal
 
 pub own_runs-own-requires : goal.own_runs-own-requires
 own_runs-own-requires c =
     let a = c.args in
     let t = two-told a.space a.view a.below a.maps.now c.requires in
-    record { space_in_bounds = t.view_within; maps_value = t.view-law }
+    record { map_inside = t.view_within; lawful_maps = t.view-law }
 
 pub fits-requires : goal.fits-requires
-fits-requires c = record { maps_value = c.requires; mode_value = (refl, omega arith, c.own_runs-own.ensures) }
+fits-requires c = record { lawful_maps = c.requires; known_mode = (refl, omega arith, c.own_runs-own.ensures) }
 
 pub returns-then-not-fits : goal.returns-then-not-fits
 returns-then-not-fits c =
@@ -28,11 +25,15 @@ returns-then-not-fits c =
 
 pub share-requires : goal.share-requires
 share-requires c =
-    let a = c.args in record { maps_value = c.requires; start_le_end = (omega arith, λ l. absurd (omega (arith, l)), omega arith, c.own_runs-own.ensures); maps_len_bound = share-fits a.space a.view a.below a.maps.now c.requires
-            (publish-enough a.space a.view a.below a.maps.now c.fits.ensures (ap not c.if-not-fits.false)) }
+    let a = c.args in record {
+      lawful_maps = c.requires;
+      range_and_number = (omega arith, λ l. absurd (omega (arith, l)), omega arith, c.own_runs-own.ensures);
+      runs_fit = share-fits a.space a.view a.below a.maps.now c.requires
+          (publish-enough a.space a.view a.below a.maps.now c.fits.ensures (ap not c.if-not-fits.false));
+    }
 
 pub mark_published-requires : goal.mark_published-requires
-mark_published-requires c = c.share.ensures.maps_after_2
+mark_published-requires c = c.share.ensures.lawful_after
 
 pub returns : goal.returns
 returns c =

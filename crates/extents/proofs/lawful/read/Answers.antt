@@ -6,12 +6,8 @@ use Rattle.extents_meaning.specs.Maps.{listed_in}
 use Rattle.extents_meaning.specs.Pairs.{view_of, below_of}
 use Rattle.extents_meaning.specs.Runs.{Run}
 use Rattle.extents_meaning.specs.Cells.{refreshed}
-use lib.ListN.{length}
-use mathlib.Core.List.{List}
-use mathlib.Core.Path.{refl, ap, ◌∙◌}
-use native.Mathlib.Omega.{arith}
+use Rattle.std.proofs.Common.{length, List, refl, ap, ◌∙◌, arith, not}
 use Rattle.extents_pair.proofs.Pairing.{two-told}
-use mathlib.Core.Bool.{not}
 use Rattle.extents.proofs.lawful.read.Goals as goal
 
 pub returns-then-start-length : goal.returns-then-start-length
@@ -27,10 +23,10 @@ pub own_runs-own-requires : goal.own_runs-own-requires
 own_runs-own-requires c =
     let a = c.args in
     let t = two-told a.space a.view a.below a.maps.now c.requires in
-    record { space_in_bounds = t.view_within; maps_value = t.view-law }
+    record { map_inside = t.view_within; lawful_maps = t.view-law }
 
 pub fits-requires : goal.fits-requires
-fits-requires c = record { maps_value = c.requires; mode_value = (refl, omega arith, c.own_runs-own.ensures) }
+fits-requires c = record { lawful_maps = c.requires; known_mode = (refl, omega arith, c.own_runs-own.ensures) }
 
 pub returns-then-not-fits : goal.returns-then-not-fits
 returns-then-not-fits c =
@@ -40,7 +36,7 @@ returns-then-not-fits c =
     a.space a.view a.below a.maps.now c.fits.ensures (ap not c.if-not-fits.true))) (omega arith)
 
 pub lacks-requires : goal.lacks-requires
-lacks-requires c = record { maps_value = c.requires; from_le_to = (omega arith, c.own_runs-own.ensures) }
+lacks-requires c = record { lawful_maps = c.requires; rising = (omega arith, c.own_runs-own.ensures) }
 
 pub returns-then-lacks : goal.returns-then-lacks
 returns-then-lacks c =
@@ -53,7 +49,7 @@ returns-then-lacks c =
     (omega arith)
 
 pub refresh-requires : goal.refresh-requires
-refresh-requires c = let a = c.args in record { maps_value = (c.requires, c.own_runs-own.ensures); maps_len_bound = refresh-enough a.space a.view a.below a.maps.now c.fits.ensures (ap not c.if-not-fits.false) }
+refresh-requires c = let a = c.args in record { lawful_maps = (c.requires, c.own_runs-own.ensures); runs_fit = refresh-enough a.space a.view a.below a.maps.now c.fits.ensures (ap not c.if-not-fits.false) }
 
 pub list-n-requires : goal.list-n-requires
 list-n-requires c =
@@ -62,7 +58,7 @@ list-n-requires c =
     let fit = refresh-enough a.space a.view a.below a.maps.now c.fits.ensures (ap not c.if-not-fits.false) in
     let enough = slice_enough f a.start a.length (length a.out.now) c.lacks.ensures c.if-lacks.false in
     let fresh = pieces-fresh a.space a.view a.below a.maps.now c.requires fit c.refresh.ensures a.start a.length
-    (omega (arith, c.if-start-length.false, c.ranges.start)) in record { space_in_bounds = view-in-fresh a.space a.view a.below a.maps.now c.requires fit c.refresh.ensures; maps_value = (view-law-fresh a.space a.view a.below a.maps.now c.requires fit c.refresh.ensures, omega arith); from_in_bounds = omega (arith, ap (λ (l : List Run). length l) fresh, enough) }
+    (omega (arith, c.if-start-length.false, c.ranges.start)) in record { map_inside = view-in-fresh a.space a.view a.below a.maps.now c.requires fit c.refresh.ensures; lawful_maps = (view-law-fresh a.space a.view a.below a.maps.now c.requires fit c.refresh.ensures, omega arith); list_room = omega (arith, ap (λ (l : List Run). length l) fresh, enough) }
 
 pub overflow_cast-listed : goal.overflow_cast-listed
 overflow_cast-listed c =
@@ -71,7 +67,7 @@ overflow_cast-listed c =
     let fit = refresh-enough a.space a.view a.below a.maps.now c.fits.ensures (ap not c.if-not-fits.false) in
     let fresh = pieces-fresh a.space a.view a.below a.maps.now c.requires fit c.refresh.ensures a.start a.length
     (omega (arith, c.if-start-length.false, c.ranges.start)) in
-    let count = c.list-n.ensures.value ∙ ap (λ (l : List Run). length l) fresh in
+    let count = c.list-n.ensures.answer ∙ ap (λ (l : List Run). length l) fresh in
     omega (arith, count, pieces-most f a.start a.length, c.ranges.length)
 
 pub returns : goal.returns
@@ -84,6 +80,6 @@ returns c =
     (omega (arith, c.if-start-length.false, c.ranges.start)) in
     let t = read_done a.space a.view a.below a.maps.now a.start a.length (length a.out.now) (omega (arith, c.ranges.start))
     (omega (arith, c.ranges.length)) c.requires (omega (arith, c.if-start-length.false, c.ranges.start)) fit a.out.now enough
-    (c.list-n.ensures.value ∙ ap (λ (l : List Run). length l) fresh) c.refresh.ensures
+    (c.list-n.ensures.answer ∙ ap (λ (l : List Run). length l) fresh) c.refresh.ensures
     (c.list-n.ensures.out_after ∙ ap (λ (l : List Run). listed_in l a.out.now) fresh) in
     record { answer = t.0; left = t.1.0; listed = t.1.1 }

@@ -3,21 +3,18 @@ use Rattle.extents.proofs.Doubles.{refresh-enough, refresh-short, refresh-full, 
 use Rattle.extents.specs.Entries.{refreshed_maps}
 use Rattle.extents.proofs.Entering.{refused}
 use Rattle.extents.specs.declared.Answer.TheVariants.{Done}
-use mathlib.Core.Path.{refl}
-use native.Mathlib.Omega.{arith}
+use Rattle.std.proofs.Common.{refl, arith, not, ap}
 use Rattle.extents_pair.proofs.Pairing.{two-told}
-use mathlib.Core.Bool.{not}
-use mathlib.Core.Path.{ap}
 use Rattle.extents.proofs.lawful.refresh.Goals as goal
 
 pub own_runs-own-requires : goal.own_runs-own-requires
 own_runs-own-requires c =
     let a = c.args in
     let t = two-told a.space a.view a.below a.maps.now c.requires in
-    record { space_in_bounds = t.view_within; maps_value = t.view-law }
+    record { map_inside = t.view_within; lawful_maps = t.view-law }
 
 pub fits-requires : goal.fits-requires
-fits-requires c = record { maps_value = c.requires; mode_value = (refl, omega arith, c.own_runs-own.ensures) }
+fits-requires c = record { lawful_maps = c.requires; known_mode = (refl, omega arith, c.own_runs-own.ensures) }
 
 pub returns-then-not-fits : goal.returns-then-not-fits
 returns-then-not-fits c =
@@ -27,7 +24,7 @@ returns-then-not-fits c =
     a.space a.view a.below a.maps.now c.fits.ensures (ap not c.if-not-fits.true))) (omega arith)
 
 pub refresh-requires : goal.refresh-requires
-refresh-requires c = let a = c.args in record { maps_value = (c.requires, c.own_runs-own.ensures); maps_len_bound = refresh-enough a.space a.view a.below a.maps.now c.fits.ensures (ap not c.if-not-fits.false) }
+refresh-requires c = let a = c.args in record { lawful_maps = (c.requires, c.own_runs-own.ensures); runs_fit = refresh-enough a.space a.view a.below a.maps.now c.fits.ensures (ap not c.if-not-fits.false) }
 
 pub returns : goal.returns
 returns c =

@@ -2,7 +2,7 @@
 use Rattle.extents.proofs.Entering.{refused, write_low, write-high, write-past, write-none, write_done, write-not, cell-fine}
 use Rattle.extents.specs.Entries.{written_map}
 use Rattle.extents.specs.declared.Answer.TheVariants.{Done}
-use native.Mathlib.Omega.{arith}
+use Rattle.std.proofs.Common.{arith}
 use Rattle.extents.proofs.lawful.write.Goals as goal
 
 pub returns-then-number-lt1 : goal.returns-then-number-lt1
@@ -43,8 +43,11 @@ cell_of-requires c = omega (arith, c.if-number-gt-ROWS.false)
 
 pub lay-requires : goal.lay-requires
 lay-requires c =
-    let a = c.args in record { map_value = (c.requires, omega (arith, c.if-length-eq0.false)); fact = cell-fine a.number
-          a.unpublished (omega (arith, c.if-number-lt1.false)) (omega (arith, c.if-number-gt-ROWS.false)) c.cell_of.ensures }
+    let a = c.args in record {
+      lawful_map = (c.requires, omega (arith, c.if-length-eq0.false));
+      legal_cell = cell-fine a.number
+          a.unpublished (omega (arith, c.if-number-lt1.false)) (omega (arith, c.if-number-gt-ROWS.false)) c.cell_of.ensures;
+    }
 
 pub returns-then-lay : goal.returns-then-lay
 returns-then-lay c =
@@ -53,7 +56,7 @@ returns-then-lay c =
       arith,
       c.if-number-lt1.false,
     )) (omega (arith, c.if-number-gt-ROWS.false)) (omega (arith, c.if-start-length.false))
-    c.cell_of.ensures c.lay.ensures.value c.lay.ensures.map_after c.if-lay.true
+    c.cell_of.ensures c.lay.ensures.answer c.lay.ensures.map_after c.if-lay.true
 
 pub returns-else-lay : goal.returns-else-lay
 returns-else-lay c =
@@ -62,4 +65,4 @@ returns-else-lay c =
       arith,
       c.if-number-lt1.false,
     )) (omega (arith, c.if-number-gt-ROWS.false)) (omega (arith, c.if-start-length.false))
-    c.cell_of.ensures c.lay.ensures.value c.lay.ensures.map_after c.if-lay.false
+    c.cell_of.ensures c.lay.ensures.answer c.lay.ensures.map_after c.if-lay.false

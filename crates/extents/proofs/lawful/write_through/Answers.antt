@@ -2,13 +2,9 @@
 use Rattle.extents.proofs.Doubles.{view-in-as-published, view-law-as-published, write-through-lay, write-through-done, write-through-empty, write-through-enough, write-through-short, mark-published-enough, mark-published-short, cell-zero, write-through-low, write-through-high, write-through-past, write-through-full, write-through-view-full, write-through-share}
 use Rattle.extents.proofs.Entering.{cell-fine, refused}
 use Rattle.extents.specs.Entries.{written_through_maps}
-use mathlib.Core.Bool.{false}
+use Rattle.std.proofs.Common.{false, refl, arith, not, ap}
 use Rattle.extents.specs.declared.Answer.TheVariants.{Done}
-use mathlib.Core.Path.{refl}
-use native.Mathlib.Omega.{arith}
 use Rattle.extents_pair.proofs.Pairing.{two-told}
-use mathlib.Core.Bool.{not}
-use mathlib.Core.Path.{ap}
 use Rattle.extents.proofs.lawful.write_through.Goals as goal
 
 pub returns-then-number-lt1 : goal.returns-then-number-lt1
@@ -45,10 +41,10 @@ pub own_runs-own-requires : goal.own_runs-own-requires
 own_runs-own-requires c =
     let a = c.args in
     let t = two-told a.space a.view a.below a.maps.now c.requires in
-    record { space_in_bounds = t.view_within; maps_value = t.view-law }
+    record { map_inside = t.view_within; lawful_maps = t.view-law }
 
 pub fits-requires : goal.fits-requires
-fits-requires c = record { maps_value = c.requires; mode_value = (refl, omega arith, c.own_runs-own.ensures) }
+fits-requires c = record { lawful_maps = c.requires; known_mode = (refl, omega arith, c.own_runs-own.ensures) }
 
 pub returns-then-not-fits : goal.returns-then-not-fits
 returns-then-not-fits c =
@@ -62,7 +58,7 @@ returns-then-not-fits c =
     a.number) c.fits.ensures (ap not c.if-not-fits.true))) (omega arith)
 
 pub fits-requires-2 : goal.fits-requires-2
-fits-requires-2 c = record { maps_value = c.requires; mode_value = (refl, omega arith, c.own_runs-own.ensures) }
+fits-requires-2 c = record { lawful_maps = c.requires; known_mode = (refl, omega arith, c.own_runs-own.ensures) }
 
 pub returns-then-not-fits-2 : goal.returns-then-not-fits-2
 returns-then-not-fits-2 c =
@@ -77,42 +73,51 @@ returns-then-not-fits-2 c =
 
 pub share-requires : goal.share-requires
 share-requires c =
-    let a = c.args in record { maps_value = c.requires; start_le_end = (
-          omega arith,
-          λ l. omega (arith, c.if-number-lt1.false),
-          omega (arith, c.if-number-gt-ROWS.false),
-          c.own_runs-own.ensures,
-        ); maps_len_bound = write-through-share a.space a.view a.below a.maps.now a.start a.length a.number (omega arith) (omega
-            arith) c.requires (omega (arith, c.if-number-lt1.false)) (omega (
-              arith,
-              c.if-number-gt-ROWS.false,
-            )) (omega (arith, c.if-start-length.false)) (write-through-enough a.space a.view a.below a.maps.now
-            a.start a.length a.number (cell-zero a.number) c.fits.ensures (ap not c.if-not-fits.false)) (mark-published-enough a.space a.view
-            a.below a.maps.now a.start a.length a.number (cell-zero a.number) c.fits-2.ensures (ap not c.if-not-fits-2.false)) }
+    let a = c.args in record {
+      lawful_maps = c.requires;
+      range_and_number = (
+        omega arith,
+        λ l. omega (arith, c.if-number-lt1.false),
+        omega (arith, c.if-number-gt-ROWS.false),
+        c.own_runs-own.ensures,
+      );
+      runs_fit = write-through-share a.space a.view a.below a.maps.now a.start a.length a.number (omega arith) (omega
+          arith) c.requires (omega (arith, c.if-number-lt1.false)) (omega (
+            arith,
+            c.if-number-gt-ROWS.false,
+          )) (omega (arith, c.if-start-length.false)) (write-through-enough a.space a.view a.below a.maps.now
+          a.start a.length a.number (cell-zero a.number) c.fits.ensures (ap not c.if-not-fits.false)) (mark-published-enough a.space a.view
+          a.below a.maps.now a.start a.length a.number (cell-zero a.number) c.fits-2.ensures (ap not c.if-not-fits-2.false));
+    }
 
 pub mark_published-requires : goal.mark_published-requires
-mark_published-requires c = c.share.ensures.maps_after_2
+mark_published-requires c = c.share.ensures.lawful_after
 
 pub lay-requires : goal.lay-requires
 lay-requires c =
-    let a = c.args in record { space_in_bounds = view-in-as-published a.space a.view a.below a.maps.now a.start a.length a.number (omega arith) (omega arith) c.requires
+    let a = c.args in record {
+      map_inside = view-in-as-published a.space a.view a.below a.maps.now a.start a.length a.number (omega arith) (omega arith) c.requires
           (omega (arith, c.if-number-lt1.false)) (omega (arith, c.if-number-gt-ROWS.false))
           (omega (arith, c.if-start-length.false)) (write-through-enough a.space a.view a.below a.maps.now a.start a.length
           a.number (cell-zero a.number) c.fits.ensures (ap not c.if-not-fits.false)) (mark-published-enough a.space a.view a.below a.maps.now a.start a.length a.number (cell-zero a.number) c.fits-2.ensures (ap not c.if-not-fits-2.false)) c.share.ensures.maps_after
-          c.mark_published.ensures; maps_value = view-law-as-published a.space a.view a.below a.maps.now a.start a.length a.number (omega arith) (omega arith) c.requires
-            (omega (arith, c.if-number-lt1.false)) (omega (arith, c.if-number-gt-ROWS.false))
-            (omega (arith, c.if-start-length.false)) (write-through-enough a.space a.view a.below a.maps.now a.start a.length
-            a.number (cell-zero a.number) c.fits.ensures (ap not c.if-not-fits.false)) (mark-published-enough a.space a.view a.below a.maps.now a.start a.length a.number (cell-zero a.number) c.fits-2.ensures (ap not c.if-not-fits-2.false)) c.share.ensures.maps_after
-            c.mark_published.ensures; start_lt_end = (c.if-start-end.true, cell-fine a.number false (omega (arith, c.if-number-lt1.false)) (omega (arith, c.if-number-gt-ROWS.false)) (cell-zero a.number)); maps_len_bound = write-through-lay
-              a.space a.view a.below a.maps.now a.start a.length a.number (omega arith) (omega arith) c.requires (omega
-              (arith, c.if-number-lt1.false)) (omega (arith, c.if-number-gt-ROWS.false)) (omega (
-                arith,
-                c.if-start-length.false,
-              )) (write-through-enough a.space a.view a.below a.maps.now a.start a.length a.number
-              (cell-zero a.number) c.fits.ensures (ap not c.if-not-fits.false)) (mark-published-enough a.space a.view a.below a.maps.now
-              a.start a.length a.number (cell-zero a.number) c.fits-2.ensures (ap not c.if-not-fits-2.false)) c.share.ensures.maps_after
-              c.mark_published.ensures (cell-zero
-              a.number) }
+          c.mark_published.ensures;
+      lawful_maps = view-law-as-published a.space a.view a.below a.maps.now a.start a.length a.number (omega arith) (omega arith) c.requires
+          (omega (arith, c.if-number-lt1.false)) (omega (arith, c.if-number-gt-ROWS.false))
+          (omega (arith, c.if-start-length.false)) (write-through-enough a.space a.view a.below a.maps.now a.start a.length
+          a.number (cell-zero a.number) c.fits.ensures (ap not c.if-not-fits.false)) (mark-published-enough a.space a.view a.below a.maps.now a.start a.length a.number (cell-zero a.number) c.fits-2.ensures (ap not c.if-not-fits-2.false)) c.share.ensures.maps_after
+          c.mark_published.ensures;
+      range_and_cell = (c.if-start-end.true, cell-fine a.number false (omega (arith, c.if-number-lt1.false)) (omega (arith, c.if-number-gt-ROWS.false)) (cell-zero a.number));
+      runs_fit = write-through-lay
+          a.space a.view a.below a.maps.now a.start a.length a.number (omega arith) (omega arith) c.requires (omega
+          (arith, c.if-number-lt1.false)) (omega (arith, c.if-number-gt-ROWS.false)) (omega (
+            arith,
+            c.if-start-length.false,
+          )) (write-through-enough a.space a.view a.below a.maps.now a.start a.length a.number
+          (cell-zero a.number) c.fits.ensures (ap not c.if-not-fits.false)) (mark-published-enough a.space a.view a.below a.maps.now
+          a.start a.length a.number (cell-zero a.number) c.fits-2.ensures (ap not c.if-not-fits-2.false)) c.share.ensures.maps_after
+          c.mark_published.ensures (cell-zero
+          a.number);
+    }
 
 pub returns-then-start-end : goal.returns-then-start-end
 returns-then-start-end c =

@@ -1,6 +1,5 @@
 -- `extents_map::list::list` meets its contract.
-use native.Mathlib.Omega.{arith}
-use mathlib.Core.Path.{refl, ◌∙◌}
+use Rattle.std.proofs.Common.{arith, refl, ◌∙◌}
 use Rattle.extents_meaning.specs.Runs.{pieces_of}
 use Rattle.extents_map.proofs.Listing.{list_start, list_room, list_done, values_of, look_further, look_room, look_next}
 use Rattle.extents_map.proofs.Looking.{passing-part}
@@ -10,7 +9,7 @@ pub loop-x-init : goal.loop-x-init
 unfolding pieces_of
 loop-x-init c =
     let a = c.args in
-    (list_start (values_of a.map.now) a.from a.to a.out.now c.requires.map_value.1 c.requires.from_in_bounds, c.seek-i.ensures)
+    (list_start (values_of a.map.now) a.from a.to a.out.now c.requires.lawful_map.1 c.requires.list_room, c.seek-i.ensures)
 
 pub see-s-requires : goal.see-s-requires
 see-s-requires c = passing-part c.loop-x.invariant.1 (omega arith)
@@ -32,4 +31,4 @@ shape_of-out c = c.turn-last.auto.out ∙ c.loop-x.invariant.0.size
 
 pub returns : goal.returns
 unfolding pieces_of
-returns c = let both = list_done c.loop-x.invariant.0 (λ h. absurd (omega (arith, c.loop-x-test.false))) c.turn-last.ensures c.loop-x-test.false refl in record { value = both.0; out_after = both.1 }
+returns c = let both = list_done c.loop-x.invariant.0 (λ h. absurd (omega (arith, c.loop-x-test.false))) c.turn-last.ensures c.loop-x-test.false refl in record { answer = both.0; out_after = both.1 }

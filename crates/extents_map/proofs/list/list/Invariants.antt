@@ -1,5 +1,5 @@
 -- `extents_map::list::list` meets its contract.
-use Prim.Native.Nat.{◌-◌}
+use Rattle.std.proofs.Common.{◌-◌}
 use Rattle.extents_map.specs.Cursors.{Passing}
 use Rattle.extents_map.proofs.Listing.{Listing, values_of}
 use Rattle.extents_map.proofs.list.list.Given as goal

@@ -1,8 +1,5 @@
 -- `extents_map::list::turn` meets its contract.
-use native.Mathlib.Omega.{arith}
-use mathlib.Core.Path.{refl}
-use Prim.Native.Nat.{◌+◌, ◌*◌, ◌≤◌}
-use lib.ListN.{length, length-set}
+use Rattle.std.proofs.Common.{arith, refl, ◌+◌, ◌*◌, ◌≤◌, length, length-set}
 use Rattle.extents_map.proofs.Listing.{turn-none, turn-put}
 use Rattle.extents_map.proofs.list.turn.Goals as goal
 use Rattle.extents_map.proofs.list.turn.Goals.{After-struct_known-3-1}

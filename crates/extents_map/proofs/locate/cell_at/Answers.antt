@@ -1,6 +1,5 @@
 -- `extents_map::locate::cell_at` meets its contract.
-use native.Mathlib.Omega.{arith}
-use mathlib.Core.Path.{◌∙◌}
+use Rattle.std.proofs.Common.{arith, ◌∙◌}
 use Rattle.extents_map.proofs.Places.{Here, here}
 use Rattle.extents_map.proofs.locate.cell_at.Goals as goal
 use Rattle.extents_map.proofs.locate.cell_at.Goals.{Start}

@@ -1,6 +1,5 @@
 -- `extents_map::locate::first_past` meets its contract.
-use native.Mathlib.Omega.{arith}
-use mathlib.Core.Path.{◌≡◌}
+use Rattle.std.proofs.Common.{arith, ◌≡◌}
 use Rattle.extents_map.proofs.Parted.{before-next}
 use Rattle.extents_map.proofs.locate.first_past.Goals as goal
 
@@ -26,4 +25,4 @@ returns c =
     let k = c.loop-lo.invariant in
     let e = c.requires.1 in
     let z : c.loop-lo.hi ≡ c.loop-lo.lo = omega (arith, c.loop-lo-test.false) in
-    record { upper_bound = omega arith; result_bound = k.2; x_bound = λ l. rw z at (k.3 (omega arith)) }
+    record { within = omega arith; passed = k.2; not_passed = λ l. rw z at (k.3 (omega arith)) }

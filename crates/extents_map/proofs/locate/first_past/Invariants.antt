@@ -1,6 +1,5 @@
 -- `extents_map::locate::first_past` meets its contract.
-use Prim.Native.Nat.{◌-◌, ◌≤◌, ◌<◌}
-use lib.ListN.{length}
+use Rattle.std.proofs.Common.{◌-◌, ◌≤◌, ◌<◌, length}
 use Rattle.extents_meaning.specs.Maps.{runs}
 use Rattle.extents_map.specs.Beside.{end_of, run_no, run_before}
 use Rattle.extents_map.proofs.locate.first_past.Given as goal

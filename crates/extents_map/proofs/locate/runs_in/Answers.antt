@@ -1,6 +1,5 @@
 -- `extents_map::locate::runs_in` meets its contract.
-use native.Mathlib.Omega.{arith}
-use mathlib.Core.Path.{sym, ◌∙◌}
+use Rattle.std.proofs.Common.{arith, sym, ◌∙◌}
 use Rattle.extents_meaning.proofs.Trips.{lawful-map}
 use Rattle.extents_map.proofs.Places.{count-some, count_none}
 use Rattle.extents_map.proofs.locate.runs_in.Goals as goal

@@ -1,6 +1,5 @@
 -- `extents_map::locate::runs_in` meets its contract.
-use Prim.Native.Nat.{◌-◌, ◌≤◌}
-use lib.ListN.{length}
+use Rattle.std.proofs.Common.{◌-◌, ◌≤◌, length}
 use Rattle.extents_meaning.specs.Maps.{runs, space_in}
 use Rattle.extents_map.proofs.locate.runs_in.Given as goal
 

@@ -1,5 +1,5 @@
 -- `extents_map::locate::start_at` meets its contract.
-use native.Mathlib.Omega.{arith}
+use Rattle.std.proofs.Common.{arith}
 use Rattle.extents_map.proofs.Places.{Here, here}
 use Rattle.extents_map.proofs.locate.start_at.Goals as goal
 use Rattle.extents_map.proofs.locate.start_at.Goals.{Start}

@@ -1,5 +1,5 @@
 -- `extents_map::scan::begins` meets its contract.
-use mathlib.Core.Path.{sym}
+use Rattle.std.proofs.Common.{sym}
 use Rattle.extents_meaning.proofs.Points.{begins-zero, begins-same, begins-one}
 use Rattle.extents_map.proofs.scan.begins.Goals as goal
 

@@ -1,5 +1,5 @@
 -- `extents_map::scan::count` meets its contract.
-use native.Mathlib.Omega.{arith}
+use Rattle.std.proofs.Common.{arith}
 use Rattle.extents_meaning.proofs.Points.{begins-most}
 use Rattle.extents_map.proofs.Counting.{count_most, count-end, further, count_next}
 use Rattle.extents_map.proofs.Looking.{passing-part}
@@ -11,17 +11,17 @@ loop-x-init c = record { sum = omega arith; view = c.seek-i.ensures; under = c.s
 pub see_both-s-requires : goal.see_both-s-requires
 see_both-s-requires c =
     let k = c.loop-x.invariant in
-    (passing-part k.view (omega arith), passing-part k.under (omega arith), c.requires.from_le_to.1)
+    (passing-part k.view (omega arith), passing-part k.under (omega arith), c.requires.rising.1)
 
 pub overflow_add-n : goal.overflow_add-n
 overflow_add-n c = omega (arith, count_most c.loop-x.invariant, begins-most c.mixed-here.result c.loop-x.last, c.begins-n.ensures)
 
 pub loop-x-smaller : goal.loop-x-smaller
-loop-x-smaller c = omega (arith, further c.loop-x.invariant c.loop-x-test.true (omega arith) c.requires.from_le_to.1 c.see_both-s.ensures c.least-x.ensures)
+loop-x-smaller c = omega (arith, further c.loop-x.invariant c.loop-x-test.true (omega arith) c.requires.rising.1 c.see_both-s.ensures c.least-x.ensures)
 
 pub loop-x-preserved : goal.loop-x-preserved
 loop-x-preserved c =
-    count_next c.loop-x.invariant c.loop-x-test.true (omega arith) c.requires.from_le_to.1 c.see_both-s.ensures c.least-x.ensures
+    count_next c.loop-x.invariant c.loop-x-test.true (omega arith) c.requires.rising.1 c.see_both-s.ensures c.least-x.ensures
     c.mixed-here.ensures c.begins-n.ensures
 
 pub returns : goal.returns

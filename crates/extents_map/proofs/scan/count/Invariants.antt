@@ -1,5 +1,5 @@
 -- `extents_map::scan::count` meets its contract.
-use Prim.Native.Nat.{◌-◌}
+use Rattle.std.proofs.Common.{◌-◌}
 use Rattle.extents_map.proofs.Counting.{Counted}
 use Rattle.extents_map.proofs.scan.count.Given as goal
 

@@ -1,6 +1,5 @@
 -- `extents_map::scan::edge` meets its contract.
-use native.Mathlib.Omega.{arith}
-use borrow.Author.Tests.{lt-ltb, le-ltb}
+use Rattle.std.proofs.Common.{arith, lt-ltb, le-ltb}
 use Rattle.extents_map.proofs.scan.edge.Goals as goal
 
 pub returns-then-x-start : goal.returns-then-x-start

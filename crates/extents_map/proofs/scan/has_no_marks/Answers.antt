@@ -1,9 +1,6 @@
 -- `extents_map::scan::has_no_marks` meets its contract.
-use Prim.Native.Nat.{◌-◌, ◌%◌}
+use Rattle.std.proofs.Common.{◌-◌, ◌%◌, arith, ◌≡◌, sym, ◌∙◌, eq-eqb, ne_eqb}
 use native.Mathlib.Nat.{sub-zero}
-use native.Mathlib.Omega.{arith}
-use mathlib.Core.Path.{◌≡◌, sym, ◌∙◌}
-use borrow.Author.Tests.{eq-eqb, ne_eqb}
 use Rattle.extents_meaning.specs.Maps.{space_in, runs_in, no_marks}
 use Rattle.extents_meaning.proofs.Trips.{run_at_lem, read-stop, read-on}
 use Rattle.extents_map.proofs.scan.has_no_marks.Goals as goal

@@ -1,7 +1,5 @@
 -- `extents_map::scan::has_no_marks` meets its contract.
-use Prim.Native.Nat.{◌*◌, ◌-◌}
-use mathlib.Core.Path.{◌≡◌}
-use lib.ListN.{drop}
+use Rattle.std.proofs.Common.{◌*◌, ◌-◌, ◌≡◌, drop}
 use Rattle.extents_meaning.specs.Maps.{runs_in, runs, no_marks}
 use Rattle.extents_map.proofs.scan.has_no_marks.Given as goal
 

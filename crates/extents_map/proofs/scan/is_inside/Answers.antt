@@ -1,8 +1,5 @@
 -- `extents_map::scan::is_inside` meets its contract.
-use native.Mathlib.Omega.{arith}
-use mathlib.Core.Path.{◌≡◌, sym}
-use borrow.Author.Tests.{le-leb}
-use Prim.Native.Nat.{◌+◌, ◌-◌}
+use Rattle.std.proofs.Common.{arith, ◌≡◌, sym, le-leb, ◌+◌, ◌-◌}
 use Rattle.extents_meaning.proofs.Longest.{range-before}
 use Rattle.extents_map.proofs.scan.is_inside.Goals as goal
 

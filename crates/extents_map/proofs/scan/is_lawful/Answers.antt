@@ -1,14 +1,9 @@
 -- `extents_map::scan::is_lawful` meets its contract.
-use Prim.Native.Nat.{◌-◌}
+use Rattle.std.proofs.Common.{◌-◌, arith, ◌≡◌, sym, ◌∙◌, eq-eqb, ne_eqb, not, ap}
 use native.Mathlib.Nat.{sub-zero}
-use native.Mathlib.Omega.{arith}
-use mathlib.Core.Path.{◌≡◌, sym, ◌∙◌}
-use borrow.Author.Tests.{eq-eqb, ne_eqb}
 use Rattle.extents_meaning.specs.Maps.{space_in, lawful_from, lawful}
 use Rattle.extents_meaning.proofs.Trips.{scan_stop, scan_bad, scan_on}
 use Rattle.extents_map.proofs.Scanning.{may_range}
-use mathlib.Core.Bool.{not}
-use mathlib.Core.Path.{ap}
 use Rattle.extents_map.proofs.scan.is_lawful.Goals as goal
 
 pub returns-then-map-ne0 : goal.returns-then-map-ne0

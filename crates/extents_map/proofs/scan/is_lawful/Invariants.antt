@@ -1,7 +1,5 @@
 -- `extents_map::scan::is_lawful` meets its contract.
-use Prim.Native.Nat.{◌*◌, ◌-◌}
-use mathlib.Core.Path.{◌≡◌}
-use lib.ListN.{drop}
+use Rattle.std.proofs.Common.{◌*◌, ◌-◌, ◌≡◌, drop}
 use Rattle.extents_meaning.specs.Maps.{lawful_from, lawful}
 use Rattle.extents_map.proofs.scan.is_lawful.Given as goal
 

@@ -1,5 +1,5 @@
 -- `extents_map::scan::is_published` meets its contract.
-use mathlib.Core.Path.{sym, ◌∙◌}
+use Rattle.std.proofs.Common.{sym, ◌∙◌}
 use Rattle.extents_map.proofs.scan.is_published.Goals as goal
 
 pub returns-then-not-is_lawful : goal.returns-then-not-is_lawful

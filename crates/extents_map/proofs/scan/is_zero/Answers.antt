@@ -1,5 +1,5 @@
 -- `extents_map::scan::is_zero` meets its contract.
-use mathlib.Core.Path.{refl, sym, ◌∙◌}
+use Rattle.std.proofs.Common.{refl, sym, ◌∙◌}
 use Rattle.extents_map.proofs.Scanning.{zero_end, zero_on}
 use Rattle.extents_map.proofs.scan.is_zero.Goals as goal
 

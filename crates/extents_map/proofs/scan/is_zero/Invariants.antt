@@ -1,8 +1,5 @@
 -- `extents_map::scan::is_zero` meets its contract.
-use Prim.Native.Nat.{◌-◌}
-use mathlib.Core.Path.{◌≡◌}
-use mathlib.Core.Bool.{◌&&◌}
-use lib.ListN.{length, drop}
+use Rattle.std.proofs.Common.{◌-◌, ◌≡◌, ◌&&◌, length, drop}
 use lib.Dec.{eqb}
 use Rattle.extents_meaning.specs.Maps.{all_zero}
 use Rattle.extents_map.proofs.scan.is_zero.Given as goal

@@ -1,7 +1,5 @@
 -- `extents_map::scan::may_follow` meets its contract.
-use borrow.Author.Rules.{rules}
-use native.Mathlib.Omega.{arith}
-use mathlib.Core.Path.{sym}
+use Rattle.std.proofs.Common.{rules, arith, sym}
 use Rattle.extents_meaning.proofs.Trips.{may_in, may_not}
 use Rattle.extents_map.proofs.scan.may_follow.Goals as goal
 

@@ -1,6 +1,5 @@
 -- `extents_map::scan::mixed` meets its contract.
-use native.Mathlib.Omega.{arith}
-use borrow.Author.Tests.{eq-eqb, ne_eqb}
+use Rattle.std.proofs.Common.{arith, eq-eqb, ne_eqb}
 use Rattle.extents_map.specs.Mixes.{mixed as Mixes·mixed}
 use Rattle.extents_map.proofs.scan.mixed.Goals as goal
 

@@ -1,5 +1,5 @@
 -- `extents_map::scan::see` meets its contract.
-use native.Mathlib.Omega.{arith}
+use Rattle.std.proofs.Common.{arith}
 use Rattle.extents_map.proofs.Looking.{passing-start, look_stop, look_end, look-cell, look-inside, look-before, look_in, look-on}
 use Rattle.extents_map.proofs.scan.see.Goals as goal
 

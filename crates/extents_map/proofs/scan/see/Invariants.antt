@@ -1,5 +1,5 @@
 -- `extents_map::scan::see` meets its contract.
-use Prim.Native.Nat.{◌-◌, ◌<◌}
+use Rattle.std.proofs.Common.{◌-◌, ◌<◌}
 use Rattle.rows.specs.Limits.{OFFSET_MAX}
 use Rattle.extents_map.specs.Cursors.{Passing}
 use Rattle.extents_map.proofs.scan.see.Given as goal

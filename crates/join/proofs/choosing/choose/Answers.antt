@@ -1,5 +1,5 @@
 -- `join::choosing::choose` meets its contract.
-use mathlib.Core.Path.{sym, ◌∙◌}
+use Rattle.std.proofs.Common.{sym, ◌∙◌}
 use Rattle.join.proofs.Choices.{turn-first, turn-second, stuck-first, stuck-second, turn-over}
 use Rattle.join.proofs.choosing.choose.Goals as goal
 

@@ -1,5 +1,5 @@
 -- `join::choosing::next_at` meets its contract.
-use mathlib.Core.Path.{sym, ap, ◌∙◌}
+use Rattle.std.proofs.Common.{sym, ap, ◌∙◌}
 use Rattle.join.specs.Choosing.{next_row}
 use Rattle.join.proofs.Choices.{next-end, next-malformed, next-limit, next-record}
 use Rattle.join.proofs.choosing.next_at.Goals as goal

@@ -1,5 +1,5 @@
 -- `join::choosing::row_of` meets its contract.
-use mathlib.Core.Path.{ap}
+use Rattle.std.proofs.Common.{ap}
 use Rattle.join.specs.declared.choosing.Next.{Next}
 use Rattle.join.proofs.choosing.row_of.Goals as goal
 

@@ -1,5 +1,5 @@
 -- `join::joining::join_entries` meets its contract.
-use mathlib.Core.Path.{sym, ◌∙◌}
+use Rattle.std.proofs.Common.{sym, ◌∙◌}
 use Rattle.join.proofs.Asked.{asked-refused, asked-no, asked-yes, joined-fit}
 use Rattle.join.proofs.Going.{outcome}
 use Rattle.join.proofs.joining.join_entries.Goals as goal
@@ -8,7 +8,7 @@ pub place_of-place-requires : goal.place_of-place-requires
 place_of-place-requires c =
     let a = c.args in
     joined-fit a.call.row_limit a.call.process_limit a.call.first_header a.call.second_header a.first.now a.second.now
-    c.requires.fits.few-processes c.requires.read_as c.requires.read_as_2 a.rows.now c.join_records.new.rows a.parts.now c.join_records.new.parts (sym c.in-Accepted.is ∙ c.join_records.ensures.answer) c.join_records.ensures.held
+    c.requires.fits.few-processes c.requires.first_read c.requires.second_read a.rows.now c.join_records.new.rows a.parts.now c.join_records.new.parts (sym c.in-Accepted.is ∙ c.join_records.ensures.answer) c.join_records.ensures.held
 
 pub returns-then-place-ne0 : goal.returns-then-place-ne0
 returns-then-place-ne0 c =

@@ -1,6 +1,5 @@
 -- `join::joining::join_records` meets its contract.
-use native.Mathlib.Omega.{arith}
-use mathlib.Core.Path.{refl, ap, ◌∙◌}
+use Rattle.std.proofs.Common.{arith, refl, ap, ◌∙◌}
 use Rattle.join.specs.Choosing.{next_in}
 use Rattle.join.proofs.Going.{begin, fits_kept, refusal, over, stuck, row-refused, room, goes_on_lem}
 use Rattle.join.proofs.joining.join_records.Goals as goal
@@ -9,7 +8,7 @@ pub loop-choice-init : goal.loop-choice-init
 loop-choice-init c =
     let a = c.args in (
       begin a.call.row_limit a.call.process_limit a.call.first_header a.call.second_header a.first.now a.second.now a.rows.now a.parts.now
-          c.requires.read_as c.requires.read_as_2 c.requires.fits.few-processes c.requires.processes_value
+          c.requires.first_read c.requires.second_read c.requires.fits.few-processes c.requires.told_processes
           (c.next_at-a.ensures ∙ ap (next_in a.call.process_limit a.first.now) c.start_of.ensures)
           (c.next_at-b.ensures ∙ ap (next_in a.call.process_limit a.second.now) c.start_of-2.ensures),
       refl,

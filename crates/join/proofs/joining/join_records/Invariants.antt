@@ -1,7 +1,5 @@
 -- `join::joining::join_records` meets its contract.
-use Prim.Native.Nat.{◌-◌}
-use mathlib.Core.Path.{◌≡◌}
-use lib.ListN.{length}
+use Rattle.std.proofs.Common.{◌-◌, ◌≡◌, length}
 use Rattle.join.proofs.Going.{Going, outcome, both_of}
 use Rattle.join.proofs.joining.join_records.Given as goal
 

@@ -1,6 +1,5 @@
 -- `join::joining::put_part` meets its contract.
-use native.Mathlib.Omega.{arith}
-use lib.ListN.{length-set}
+use Rattle.std.proofs.Common.{arith, length-set}
 use Rattle.join.proofs.Taking.{part_none, part-some}
 use Rattle.join.proofs.joining.put_part.Goals as goal
 

@@ -1,9 +1,7 @@
 -- `join::sharing::is_any_flagged` meets its contract.
-use native.Mathlib.Omega.{arith}
-use mathlib.Core.Path.{ap, ◌∙◌}
+use Rattle.std.proofs.Common.{arith, ap, ◌∙◌, false}
 use lib.ListN.{get_or}
 use Rattle.rows.specs.declared.Row.{Row}
-use mathlib.Core.Bool.{false}
 use Rattle.rows.proofs.Searching.{search_none, search_over, search_on, search_found}
 use Rattle.join.proofs.sharing.is_any_flagged.Goals as goal
 

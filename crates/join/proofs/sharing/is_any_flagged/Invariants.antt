@@ -1,7 +1,5 @@
 -- `join::sharing::is_any_flagged` meets its contract.
-use Prim.Native.Nat.{◌-◌, ◌≤◌}
-use mathlib.Core.Path.{◌≡◌}
-use mathlib.Core.Bool.{false}
+use Rattle.std.proofs.Common.{◌-◌, ◌≤◌, ◌≡◌, false}
 use Rattle.rows.specs.Rows.{rows_in}
 use Rattle.join.specs.Sharing.{any_flagged}
 use Rattle.join.proofs.sharing.is_any_flagged.Given as goal

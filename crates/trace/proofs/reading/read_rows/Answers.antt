@@ -4,10 +4,7 @@ use Rattle.trace.proofs.Turns.{at-end, end-held, malformed_here, limit-here, ref
 use Rattle.rows.proofs.Slices.{with_room}
 use Rattle.csv_records.proofs.Answers.{tells}
 use Rattle.csv_records.specs.Reading.{read_at}
-use lib.ListN.{length}
-use Prim.Native.Nat.{◌+◌, ◌*◌, ◌≤◌}
-use native.Mathlib.Omega.{arith}
-use mathlib.Core.Path.{refl, ◌∙◌}
+use Rattle.std.proofs.Common.{length, ◌+◌, ◌*◌, ◌≤◌, arith, refl, ◌∙◌}
 use Rattle.trace.proofs.reading.read_rows.Goals as goal
 
 pub loop-spans-init : goal.loop-spans-init

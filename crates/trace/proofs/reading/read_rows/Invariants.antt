@@ -1,9 +1,7 @@
 -- `trace::reading::read_rows` meets its contract.
 use Rattle.trace.proofs.Going.{WithTable}
 use Rattle.csv_records.proofs.Answers.{tells}
-use lib.ListN.{length}
-use Prim.Native.Nat.{◌-◌}
-use mathlib.Core.Path.{◌≡◌}
+use Rattle.std.proofs.Common.{length, ◌-◌, ◌≡◌}
 use Rattle.trace.proofs.reading.read_rows.Given as goal
 
 -- The outcome is that of the records from `at` on behind the n rows read so far, the slice holds those rows, and the table tells of them.

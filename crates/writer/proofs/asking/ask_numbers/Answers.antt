@@ -1,8 +1,6 @@
 -- `writer::asking::ask_numbers` meets its contract.
-use borrow.Author.Rules.{rules}
+use Rattle.std.proofs.Common.{rules, not, ap}
 use Rattle.writer.proofs.Questions.{no_kind, used-no, range-no, end-no, numbers-yes}
-use mathlib.Core.Bool.{not}
-use mathlib.Core.Path.{ap}
 use Rattle.writer.proofs.asking.ask_numbers.Goals as goal
 
 pub returns-then-row-ge-KINDS : goal.returns-then-row-ge-KINDS

@@ -1,5 +1,5 @@
 -- `writer::asking::ask_rows` meets its contract.
-use native.Mathlib.Omega.{arith}
+use Rattle.std.proofs.Common.{arith}
 use Rattle.writer.proofs.Passing.{asking_none, asking_end, numbers-no, message-no, row-yes}
 use Rattle.writer.proofs.asking.ask_rows.Goals as goal
 

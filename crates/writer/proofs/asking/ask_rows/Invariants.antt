@@ -1,5 +1,5 @@
 -- `writer::asking::ask_rows` meets its contract.
-use Prim.Native.Nat.{◌-◌}
+use Rattle.std.proofs.Common.{◌-◌}
 use Rattle.writer.proofs.Passing.{Asking}
 use Rattle.writer.proofs.asking.ask_rows.Given as goal
 

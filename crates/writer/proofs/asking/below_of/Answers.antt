@@ -1,9 +1,7 @@
 -- `writer::asking::below_of` meets its contract.
-use borrow.Author.Rules.{rules}
+use Rattle.std.proofs.Common.{rules, not, ap}
 use Rattle.rows.proofs.Bools.{refused, passed}
 use Rattle.writer.proofs.Questions.{large_process, large-file, message-below}
-use mathlib.Core.Bool.{not}
-use mathlib.Core.Path.{ap}
 use Rattle.writer.proofs.asking.below_of.Goals as goal
 
 pub returns-then-process_limit-row : goal.returns-then-process_limit-row

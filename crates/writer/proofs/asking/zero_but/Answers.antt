@@ -1,8 +1,7 @@
 -- `writer::asking::zero_but` meets its contract.
 use Rattle.rows.proofs.Bools.{refused, passed}
 use Rattle.writer.proofs.Questions.{other-file, other_offset, other_length, message-left}
-use mathlib.Core.Bool.{not}
-use mathlib.Core.Path.{ap}
+use Rattle.std.proofs.Common.{not, ap}
 use Rattle.writer.proofs.asking.zero_but.Goals as goal
 
 pub returns-then-not-zero_unless : goal.returns-then-not-zero_unless

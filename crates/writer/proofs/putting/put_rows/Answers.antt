@@ -1,5 +1,5 @@
 -- `writer::putting::put_rows` meets its contract.
-use native.Mathlib.Omega.{arith}
+use Rattle.std.proofs.Common.{arith}
 use Rattle.print.proofs.Parts.{laid-length, laid-within}
 use Rattle.writer.proofs.Lines.{lines_none, record_next, lines_laid}
 use Rattle.writer.proofs.putting.put_rows.Goals as goal

@@ -1,5 +1,5 @@
 -- `writer::putting::put_rows` meets its contract.
-use Prim.Native.Nat.{◌-◌, ◌≤◌}
+use Rattle.std.proofs.Common.{◌-◌, ◌≤◌}
 use Rattle.print.proofs.Parts.{Laid}
 use Rattle.rows.specs.Rows.{rows_in}
 use Rattle.writer.specs.Writing.{lines_of}

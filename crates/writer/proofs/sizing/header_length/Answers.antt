@@ -1,6 +1,5 @@
 -- `writer::sizing::header_length` meets its contract.
-use mathlib.Core.Path.{sym, ap}
-use lib.ListN.{length}
+use Rattle.std.proofs.Common.{sym, ap, length}
 use Rattle.writer.proofs.Lines.{header-size, header-none}
 use Rattle.writer.proofs.sizing.header_length.Goals as goal
 

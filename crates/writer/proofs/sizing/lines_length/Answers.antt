@@ -1,5 +1,5 @@
 -- `writer::sizing::lines_length` meets its contract.
-use native.Mathlib.Omega.{arith}
+use Rattle.std.proofs.Common.{arith}
 use Rattle.writer_line.proofs.Contents.{record_most}
 use Rattle.writer.proofs.Lines.{measured_none, measured_few, measured_next, measured_all}
 use Rattle.writer.proofs.sizing.lines_length.Goals as goal

@@ -1,5 +1,5 @@
 -- `writer::sizing::lines_length` meets its contract.
-use Prim.Native.Nat.{◌-◌}
+use Rattle.std.proofs.Common.{◌-◌}
 use Rattle.writer.proofs.Lines.{Measured}
 use Rattle.writer.proofs.sizing.lines_length.Given as goal
 

@@ -1,5 +1,5 @@
 -- `writer::sizing::text_fits` meets its contract.
-use native.Mathlib.Omega.{arith}
+use Rattle.std.proofs.Common.{arith}
 use Rattle.rows.specs.Rows.{rows_in}
 use Rattle.writer.proofs.Lines.{header-most}
 use Rattle.writer.proofs.Sizes.{fits-past, fits-roomy, fits-measured}
