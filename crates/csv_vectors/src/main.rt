@@ -13,8 +13,8 @@
 ghost use Rattle.std.specs.Prelude.{◌≤◌, ◌<◌, length};
 ghost use Rattle.io.specs.Counts.{IsPrefixLen};
 
-use csv_field::Span;
 use csv_records::Status;
+use csv_field::Span;
 
 const STDIN: i32 = 0;
 

@@ -1,5 +1,7 @@
 -- `bench::line_end` meets its contract.
-use Rattle.std.proofs.Common.{rules, ◌≤◌, ◌-◌, length}
+use borrow.Author.Rules.{rules}
+use Prim.Native.Nat.{◌≤◌, ◌-◌}
+use lib.ListN.{length}
 use Rattle.bench.proofs.line_end.Statement.{statement}
 use Rattle.bench.proofs.line_end.Tie as tie
 

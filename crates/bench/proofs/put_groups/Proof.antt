@@ -1,5 +1,7 @@
 -- `bench::put_groups` is safe and ends.
-use Rattle.std.proofs.Common.{rules, ◌≤◌, ◌-◌, length}
+use borrow.Author.Rules.{rules}
+use Prim.Native.Nat.{◌≤◌, ◌-◌}
+use lib.ListN.{length}
 use Rattle.bench.proofs.put_groups.Statement.{statement}
 use Rattle.bench.proofs.put_groups.Tie as tie
 

@@ -1,5 +1,8 @@
 -- `bench::run_lines` is safe and ends.
-use Rattle.std.proofs.Common.{rules, ◌-◌, ◌≡◌, length}
+use borrow.Author.Rules.{rules}
+use Prim.Native.Nat.{◌-◌}
+use mathlib.Core.Path.{◌≡◌}
+use lib.ListN.{length}
 use Rattle.bench.proofs.run_lines.Statement.{statement}
 use Rattle.bench.proofs.run_lines.Tie as tie
 

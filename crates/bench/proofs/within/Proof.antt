@@ -1,5 +1,6 @@
 -- `bench::within` meets its contract.
-use Rattle.std.proofs.Common.{rules, arith}
+use borrow.Author.Rules.{rules}
+use native.Mathlib.Omega.{arith}
 use Rattle.io.proofs.Counting.{prefix_len_of_le}
 use Rattle.bench.proofs.within.Statement.{statement}
 use Rattle.bench.proofs.within.Tie as tie

@@ -1,5 +1,9 @@
 -- `csv_vectors::decode` meets its contract.
-use Rattle.std.proofs.Common.{rules, ◌≤◌, ◌-◌, arith, ◌≡◌, ◌∙◌, length, length-set}
+use borrow.Author.Rules.{rules}
+use Prim.Native.Nat.{◌≤◌, ◌-◌}
+use native.Mathlib.Omega.{arith}
+use mathlib.Core.Path.{◌≡◌, ◌∙◌}
+use lib.ListN.{length, length-set}
 use Rattle.io.proofs.Counting.{prefix_len_of_le}
 use Rattle.csv_vectors.proofs.decode.Statement.{statement}
 use Rattle.csv_vectors.proofs.decode.Tie as tie

@@ -1,5 +1,7 @@
 -- `csv_vectors::line_end` meets its contract.
-use Rattle.std.proofs.Common.{rules, ◌≤◌, ◌-◌, length}
+use borrow.Author.Rules.{rules}
+use Prim.Native.Nat.{◌≤◌, ◌-◌}
+use lib.ListN.{length}
 use Rattle.csv_vectors.proofs.line_end.Statement.{statement}
 use Rattle.csv_vectors.proofs.line_end.Tie as tie
 

@@ -1,5 +1,6 @@
 -- `csv_vectors::put_records` is safe and ends.
-use Rattle.std.proofs.Common.{rules, ◌≤◌, ◌-◌}
+use borrow.Author.Rules.{rules}
+use Prim.Native.Nat.{◌≤◌, ◌-◌}
 use Rattle.csv_vectors.proofs.put_records.Statement.{statement}
 use Rattle.csv_vectors.proofs.put_records.Tie as tie
 

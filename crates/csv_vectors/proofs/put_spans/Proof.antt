@@ -1,5 +1,6 @@
 -- `csv_vectors::put_spans` is safe and ends.
-use Rattle.std.proofs.Common.{rules, ◌≤◌, ◌-◌}
+use borrow.Author.Rules.{rules}
+use Prim.Native.Nat.{◌≤◌, ◌-◌}
 use Rattle.csv_vectors.proofs.put_spans.Statement.{statement}
 use Rattle.csv_vectors.proofs.put_spans.Tie as tie
 

@@ -1,5 +1,7 @@
 -- `csv_vectors::run_lines` is safe and ends.
-use Rattle.std.proofs.Common.{rules, ◌-◌, length}
+use borrow.Author.Rules.{rules}
+use Prim.Native.Nat.{◌-◌}
+use lib.ListN.{length}
 use Rattle.csv_vectors.proofs.run_lines.Statement.{statement}
 use Rattle.csv_vectors.proofs.run_lines.Tie as tie
 
