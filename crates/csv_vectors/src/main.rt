@@ -10,15 +10,13 @@
 //
 // In a text and in a word `%` and two hexadecimal digits (`0` to `9`, `A` to `F`) are one byte, and every other byte stands for itself. A line
 // of another form is written out behind the word `unreadable`.
+#![tactic(auto)]
+
 ghost use Rattle.std.specs.Prelude.{◌≤◌, ◌<◌, length};
-ghost use Rattle.io.specs.Counts.{IsPrefixLen};
 
-use csv_records::Status;
 use csv_field::Span;
-
-const STDIN: i32 = 0;
-
-const STDOUT: i32 = 1;
+use csv_records::Status;
+use std::io::{self, Read, Write};
 
 // The limit of a case that meets no limit.
 const NO_LIMIT: usize = 1000;
@@ -45,88 +43,97 @@ const TEXT: usize = 2;
 const NO_DIGIT: u8 = 16;
 
 // Writes bytes.
-fn put(text: &[u8]) {
-    io::write_all(STDOUT, text);
+fn put<W: Write>(out: &mut W, text: &[u8]) -> io::Result<()> {
+    out.write_all(text)
 }
 
 // Writes two words, each with a number behind it.
-fn put_pair(word: &[u8], n: usize, second: &[u8], m: usize) {
-    io::write_all(STDOUT, word);
-    io::print_decimal(STDOUT, n as u64);
-    io::write_all(STDOUT, second);
-    io::print_decimal(STDOUT, m as u64);
+fn put_pair<W: Write>(
+    out: &mut W,
+    word: &[u8],
+    n: usize,
+    second: &[u8],
+    m: usize,
+) -> io::Result<()> {
+    put(out, word)?;
+    write!(out, "{n}")?;
+    put(out, second)?;
+    write!(out, "{m}")
 }
 
 // Writes a span: its start, its length, `"` where two quotes stand in the span, and `-` where its content is empty.
-fn put_span(text: &[u8], span: Span) {
+fn put_span<W: Write>(out: &mut W, text: &[u8], span: Span) -> io::Result<()> {
     let start = span.start;
     let len = span.len;
     let doubled = span.doubled;
-    put_pair(b" ", start, b"+", len);
+    put_pair(out, b" ", start, b"+", len)?;
     if doubled {
-        put(b"\"");
+        put(out, b"\"")?;
     }
     if csv_content::is_empty(text, span) {
-        put(b"-");
+        put(out, b"-")?;
     }
+    Ok(())
 }
 
 // Writes the number of a record's fields and the spans of the first six.
-fn put_spans(text: &[u8], count: usize, spans: [Span; 6]) {
-    put(b" ");
-    io::print_decimal(STDOUT, count as u64);
-    put(b" fields");
+fn put_spans<W: Write>(out: &mut W, text: &[u8], count: usize, spans: [Span; 6]) -> io::Result<()> {
+    put(out, b" ")?;
+    write!(out, "{count}")?;
+    put(out, b" fields")?;
     for i in 0..SPANS {
-        put_span(text, spans[i]);
+        put_span(out, text, spans[i])?;
     }
+    Ok(())
 }
 
 // Writes one record and answers the place after the record, or the end of the text where no record stands there.
-fn put_record(text: &[u8], at: usize, limit: usize) -> usize {
+fn put_record<W: Write>(out: &mut W, text: &[u8], at: usize, limit: usize) -> io::Result<usize> {
     let r = csv_records::read_record(text, at, limit);
     let status = r.status;
     match status {
-        Status::End => put(b" end\n"),
-        Status::Malformed => put(b" malformed\n"),
-        Status::Limit => put(b" limit\n"),
+        Status::End => put(out, b" end\n")?,
+        Status::Malformed => put(out, b" malformed\n")?,
+        Status::Limit => put(out, b" limit\n")?,
         Status::Record => {
             let spans = r.spans;
-            put_spans(text, r.count, spans);
-            put_pair(b" end ", r.end, b" next ", r.next);
-            put(b"\n");
-            return r.next;
+            put_spans(out, text, r.count, spans)?;
+            put_pair(out, b" end ", r.end, b" next ", r.next)?;
+            put(out, b"\n")?;
+            return Ok(r.next);
         }
     }
-    text.len()
+    Ok(text.len())
 }
 
 // Writes the records of a text, each on a line.
-fn put_records(text: &[u8], limit: usize) {
+fn put_records<W: Write>(out: &mut W, text: &[u8], limit: usize) -> io::Result<()> {
     let mut at = 0;
     for _ in 0..RECORDS {
-        let next = put_record(text, at, limit);
+        let next = put_record(out, text, at, limit)?;
         if next <= at {
-            return;
+            return Ok(());
         }
         at = next;
     }
+    Ok(())
 }
 
 // Writes a text's length, its limit and its records.
-fn show(text: &[u8], limit: usize) {
-    put_pair(b"text of ", text.len(), b" limit ", limit);
-    put(b"\n");
-    put_records(text, limit);
+fn show<W: Write>(out: &mut W, text: &[u8], limit: usize) -> io::Result<()> {
+    put_pair(out, b"text of ", text.len(), b" limit ", limit)?;
+    put(out, b"\n")?;
+    put_records(out, text, limit)
 }
 
 // Writes whether the first field of a text is the word.
-fn compare(text: &[u8], word: &[u8]) {
+fn compare<W: Write>(out: &mut W, text: &[u8], word: &[u8]) -> io::Result<()> {
     let r = csv_records::read_record(text, 0, text.len());
     let spans = r.spans;
     if csv_content::is_word(text, spans[0], word) {
-        put(b"same\n");
+        put(out, b"same\n")
     } else {
-        put(b"other\n");
+        put(out, b"other\n")
     }
 }
 
@@ -196,7 +203,7 @@ struct Decoded {
 
 // Decodes the text that starts at a place of a line, to the front of `bytes` and as far as there is room.
 fn decode(line: &[u8], from: usize, bytes: &mut [u8]) -> Decoded
-    ensures { IsPrefixLen result.count bytes.new }
+    ensures { result.count ≤ length bytes.new }
 {
     let mut at = from;
     let mut count = 0;
@@ -230,26 +237,26 @@ fn is_closed(line: &[u8], at: usize) -> bool {
 }
 
 // Writes a line of another form.
-fn put_unreadable(line: &[u8]) {
-    put(b"unreadable: ");
-    put(line);
-    put(b"\n");
+fn put_unreadable<W: Write>(out: &mut W, line: &[u8]) -> io::Result<()> {
+    put(out, b"unreadable: ")?;
+    put(out, line)?;
+    put(out, b"\n")
 }
 
 // Runs the line of a text.
-fn run_text(line: &[u8], limit: usize) {
+fn run_text<W: Write>(out: &mut W, line: &[u8], limit: usize) -> io::Result<()> {
     let mut text = [0u8; ROOM];
     let decoded = decode(line, TEXT, &mut text);
     let n = decoded.count;
     if is_closed(line, decoded.end) {
-        show(&text[..n], limit);
+        show(out, &text[..n], limit)
     } else {
-        put_unreadable(line);
+        put_unreadable(out, line)
     }
 }
 
 // Runs the line of a text and a word.
-fn run_word(line: &[u8]) {
+fn run_word<W: Write>(out: &mut W, line: &[u8]) -> io::Result<()> {
     let mut text = [0u8; ROOM];
     let decoded = decode(line, TEXT, &mut text);
     let n = decoded.count;
@@ -257,27 +264,26 @@ fn run_word(line: &[u8]) {
     let decoded_word = decode(line, behind_bar(line, decoded.end), &mut word);
     let m = decoded_word.count;
     if is_closed(line, decoded_word.end) {
-        compare(&text[..n], &word[..m]);
+        compare(out, &text[..n], &word[..m])
     } else {
-        put_unreadable(line);
+        put_unreadable(out, line)
     }
 }
 
 // Runs one line.
-fn run_line(line: &[u8]) {
+fn run_line<W: Write>(out: &mut W, line: &[u8]) -> io::Result<()> {
     let kind = raw_at(line, 0);
     if kind == b'#' {
-        return;
+        return Ok(());
     }
     if raw_at(line, FIRST_BAR) != BAR {
-        put_unreadable(line);
-        return;
+        return put_unreadable(out, line);
     }
     match kind {
-        b'-' => run_text(line, NO_LIMIT),
-        b'0'..=b'9' => run_text(line, (kind - b'0') as usize),
-        b'=' => run_word(line),
-        _ => put_unreadable(line),
+        b'-' => run_text(out, line, NO_LIMIT),
+        b'0'..=b'9' => run_text(out, line, (kind - b'0') as usize),
+        b'=' => run_word(out, line),
+        _ => put_unreadable(out, line),
     }
 }
 
@@ -297,17 +303,18 @@ fn line_end(input: &[u8], from: usize) -> usize
 }
 
 // Runs each line of the input.
-fn run_lines(input: &[u8]) {
+fn run_lines<W: Write>(out: &mut W, input: &[u8]) -> io::Result<()> {
     let mut at = 0;
     while at < input.len() {
         let end = line_end(input, at);
-        run_line(&input[at..end]);
+        run_line(out, &input[at..end])?;
         at = end + 1;
     }
+    Ok(())
 }
 
-fn main() {
-    let mut input = io::large_buffer();
-    let n = io::read_full(STDIN, &mut input);
-    run_lines(&input[..n]);
+fn main(rt: HostRuntime) -> io::Result<()> {
+    let mut input = Vec::new(rt.alloc());
+    rt.stdin().read_to_end(&mut input)?;
+    run_lines(&mut rt.stdout(), &input)
 }
