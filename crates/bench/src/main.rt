@@ -20,19 +20,17 @@
 //     m                        makes the machine; n makes the plain file
 //     a PROCESS KIND S L N     puts a row to the machine under row number N; b puts it to the plain file
 //     q RUNS                   writes the first runs of the maps
+#![tactic(auto)]
+
 ghost use Rattle.std.specs.Prelude.{◌≤◌, ◌<◌, length};
-ghost use Rattle.io.specs.Counts.{IsPrefixLen};
 
 use checker::Judged;
 use extents::Answer;
 use machine::Made;
 use machine_state::Machine;
 use rows::Row;
+use std::io::{self, Read, Write};
 use trace::Call;
-
-const STDIN: i32 = 0;
-
-const STDOUT: i32 = 1;
 
 // The most bytes of a text.
 const TEXT_ROOM: usize = 160;
@@ -55,107 +53,108 @@ const PROCESSES: u32 = 2;
 
 const FILE: u32 = 1;
 
-fn put(text: &[u8]) {
-    io::write_all(STDOUT, text);
+fn put<W: Write>(out: &mut W, text: &[u8]) -> io::Result<()> {
+    out.write_all(text)
 }
 
-fn put_number(n: u32) {
-    io::print_decimal(STDOUT, n as u64);
+fn put_number<W: Write>(out: &mut W, n: u32) -> io::Result<()> {
+    write!(out, "{n}")
 }
 
 // Writes what stands before the number at a place of a run or a piece.
-fn put_before(place: usize) {
+fn put_before<W: Write>(out: &mut W, place: usize) -> io::Result<()> {
     if place == 0 {
-        put(b" (");
+        put(out, b" (")
     } else {
-        put(b",");
+        put(out, b",")
     }
 }
 
 // Writes numbers in groups of `width`, which are runs or pieces.
-fn put_groups(numbers: &[u32], width: usize)
+fn put_groups<W: Write>(out: &mut W, numbers: &[u32], width: usize) -> io::Result<()>
     requires { 0 < width }
 {
     for i in 0..numbers.len() {
         let place = i % width;
-        put_before(place);
-        put_number(numbers[i]);
+        put_before(out, place)?;
+        put_number(out, numbers[i])?;
         if place == width - 1 {
-            put(b")");
+            put(out, b")")?;
         }
     }
+    Ok(())
 }
 
 // Writes two words, each with a number behind it, and a line end.
-fn put_two(word: &[u8], n: u32, second: &[u8], m: u32) {
-    put(word);
-    put_number(n);
-    put(second);
-    put_number(m);
-    put(b"\n");
+fn put_two<W: Write>(out: &mut W, word: &[u8], n: u32, second: &[u8], m: u32) -> io::Result<()> {
+    put(out, word)?;
+    put_number(out, n)?;
+    put(out, second)?;
+    put_number(out, m)?;
+    put(out, b"\n")
 }
 
 // Writes what the whole call answers to a text.
-fn put_judged(judged: Judged) {
+fn put_judged<W: Write>(out: &mut W, judged: Judged) -> io::Result<()> {
     match judged {
         Judged::Free(n) => {
-            put_number(n);
-            put(b" rows: free\n");
+            put_number(out, n)?;
+            put(out, b" rows: free\n")
         }
         Judged::Race(n, earlier, later) => {
-            put_number(n);
-            put_two(b" rows: race ", earlier, b" ", later);
+            put_number(out, n)?;
+            put_two(out, b" rows: race ", earlier, b" ", later)
         }
-        Judged::Refused(number, place) => put_two(b"refused ", number, b" at ", place),
+        Judged::Refused(number, place) => put_two(out, b"refused ", number, b" at ", place),
     }
 }
 
 // Writes what an entry of the map of pieces answers.
-fn put_answer(answer: Answer) {
+fn put_answer<W: Write>(out: &mut W, answer: Answer) -> io::Result<()> {
     match answer {
-        Answer::Done => put(b"done:"),
+        Answer::Done => put(out, b"done:"),
         Answer::Listed(n) => {
-            put_number(n);
-            put(b" pieces:");
+            put_number(out, n)?;
+            put(out, b" pieces:")
         }
         Answer::Refused(n) => {
-            put(b"refused ");
-            put_number(n);
-            put(b":");
+            put(out, b"refused ")?;
+            put_number(out, n)?;
+            put(out, b":")
         }
     }
 }
 
 // Writes whether a machine or a plain file was made.
-fn put_made(made: Made) {
+fn put_made<W: Write>(out: &mut W, made: Made) -> io::Result<()> {
     match made {
-        Made::Made => put(b" made\n"),
+        Made::Made => put(out, b" made\n"),
         Made::Refused(n) => {
-            put(b" refused ");
-            put_number(n);
-            put(b"\n");
+            put(out, b" refused ")?;
+            put_number(out, n)?;
+            put(out, b"\n")
         }
     }
 }
 
 // As many numbers as are asked for, and at most all.
 fn within(n: usize, numbers: &[u32]) -> usize
-    ensures { IsPrefixLen result numbers.now }
+    ensures { result ≤ length numbers.now }
 {
     if n < numbers.len() { n } else { numbers.len() }
 }
 
 // Writes what a step answers, and the pieces of a read.
-fn put_step(answer: Answer, pieces: &[u32]) {
+fn put_step<W: Write>(out: &mut W, answer: Answer, pieces: &[u32]) -> io::Result<()> {
     match answer {
-        Answer::Done => put(b" done"),
+        Answer::Done => put(out, b" done"),
         Answer::Listed(n) => {
             let end = within(n as usize * PIECE, pieces);
-            put_groups(&pieces[..end], PIECE);
+            put_groups(out, &pieces[..end], PIECE)
         }
         Answer::Refused(n) => {
-            put(b" refused ");
-            put_number(n);
+            put(out, b" refused ")?;
+            put_number(out, n)
         }
     }
 }
@@ -210,7 +209,7 @@ fn text_byte(byte: u8) -> u8 {
 
 // Puts the text that starts at a place of a line to the front of `text`, as far as there is room, and answers how many bytes it has.
 fn decode(line: &[u8], from: usize, text: &mut [u8]) -> usize
-    ensures { IsPrefixLen result text.new }
+    ensures { result ≤ length text.new }
 {
     let mut at = from;
     let mut count = 0;
@@ -226,14 +225,14 @@ fn decode(line: &[u8], from: usize, text: &mut [u8]) -> usize
 }
 
 // Judges the text of a line, with room for 16 rows of 2 processes.
-fn run_judge(line: &[u8]) {
+fn run_judge<W: Write>(out: &mut W, line: &[u8]) -> io::Result<()> {
     let mut space = [0u8; TEXT_ROOM];
     let n = decode(line, TEXT_AT, &mut space);
     let mut row_space = [7u32; 96];
     let rows: &mut [u32] = &mut row_space;
     let mut count_space = [7u16; 32];
     let counts: &mut [u16] = &mut count_space;
-    put(b" ");
+    put(out, b" ")?;
     let header = with_digit(0, true, byte_at(line, HEADER_AT));
     let call = Call {
         header,
@@ -242,7 +241,7 @@ fn run_judge(line: &[u8]) {
         process_limit: 2,
         byte_limit: 8192,
     };
-    put_judged(checker::judge(&space[..n], call, rows, counts));
+    put_judged(out, checker::judge(&space[..n], call, rows, counts))
 }
 
 fn store(maps: &mut [u32], at: usize, value: u32) {
@@ -261,36 +260,39 @@ fn run_set(line: &[u8], maps: &mut [u32]) {
 }
 
 // Writes to the first map, and shows it.
-fn run_write(line: &[u8], map: &mut [u32]) {
-    put_answer(extents::write(
-        map,
-        number(line, 1),
-        number(line, 2),
-        number(line, 3),
-        number(line, 4) == 1,
-    ));
-    put_groups(map, RUN);
-    put(b"\n");
+fn run_write<W: Write>(out: &mut W, line: &[u8], map: &mut [u32]) -> io::Result<()> {
+    put_answer(
+        out,
+        extents::write(
+            map,
+            number(line, 1),
+            number(line, 2),
+            number(line, 3),
+            number(line, 4) == 1,
+        ),
+    )?;
+    put_groups(out, map, RUN)?;
+    put(out, b"\n")
 }
 
 // Shows the numbers of a listing as they stand in the answer slice, four by four.
-fn put_listed(answer: Answer, pieces: &[u32]) {
-    put_answer(answer);
+fn put_listed<W: Write>(out: &mut W, answer: Answer, pieces: &[u32]) -> io::Result<()> {
+    put_answer(out, answer)?;
     match answer {
-        Answer::Listed(_) => put_groups(pieces, RUN),
+        Answer::Listed(_) => put_groups(out, pieces, RUN)?,
         Answer::Done => {}
         Answer::Refused(_) => {}
     }
-    put(b"\n");
+    put(out, b"\n")
 }
 
 // Lists a range of the first map.
-fn run_list(line: &[u8], map: &[u32]) {
+fn run_list<W: Write>(out: &mut W, line: &[u8], map: &[u32]) -> io::Result<()> {
     let mut space = [7u32; 12];
     let pieces: &mut [u32] = &mut space;
     let room = within(number(line, 1) as usize, pieces);
     let answer = extents::list_range(map, number(line, 2), number(line, 3), &mut pieces[..room]);
-    put_listed(answer, pieces);
+    put_listed(out, answer, pieces)
 }
 
 // What an entry that serves a view and the published map does.
@@ -316,22 +318,22 @@ fn share(line: &[u8], maps: &mut [u32]) -> Answer {
 }
 
 // Shows two maps of one size, the published one first.
-fn put_pair(maps: &[u32]) {
+fn put_pair<W: Write>(out: &mut W, maps: &[u32]) -> io::Result<()> {
     let mid = within(maps.len() / 2, maps);
-    put_groups(&maps[..mid], RUN);
-    put(b" |");
-    put_groups(&maps[mid..], RUN);
-    put(b"\n");
+    put_groups(out, &maps[..mid], RUN)?;
+    put(out, b" |")?;
+    put_groups(out, &maps[mid..], RUN)?;
+    put(out, b"\n")
 }
 
 // Publishes, refreshes, syncs or writes through, and shows both maps.
-fn run_share(line: &[u8], maps: &mut [u32]) {
-    put_answer(share(line, maps));
-    put_pair(maps);
+fn run_share<W: Write>(out: &mut W, line: &[u8], maps: &mut [u32]) -> io::Result<()> {
+    put_answer(out, share(line, maps))?;
+    put_pair(out, maps)
 }
 
 // Refreshes a view, reads it, and shows the pieces and both maps.
-fn run_read(line: &[u8], maps: &mut [u32]) {
+fn run_read<W: Write>(out: &mut W, line: &[u8], maps: &mut [u32]) -> io::Result<()> {
     let mut space = [7u32; 12];
     let pieces: &mut [u32] = &mut space;
     let answer = extents::read(
@@ -343,8 +345,8 @@ fn run_read(line: &[u8], maps: &mut [u32]) {
         number(line, 5),
         pieces,
     );
-    put_listed(answer, pieces);
-    put_pair(maps);
+    put_listed(out, answer, pieces)?;
+    put_pair(out, maps)
 }
 
 // The row of a line that puts one.
@@ -360,61 +362,77 @@ fn row_of(line: &[u8]) -> Row {
 }
 
 // Puts a row to the machine.
-fn run_step(line: &[u8], header: Machine, maps: &mut [u32]) {
+fn run_step<W: Write>(
+    out: &mut W,
+    line: &[u8],
+    header: Machine,
+    maps: &mut [u32],
+) -> io::Result<()> {
     let mut space = [7u32; 12];
     let pieces: &mut [u32] = &mut space;
     let answer = machine::step(header, maps, row_of(line), number(line, 5), pieces);
-    put_step(answer, pieces);
+    put_step(out, answer, pieces)
 }
 
 // Puts a row to the plain file.
-fn run_step_plain(line: &[u8], header: Machine, map: &mut [u32]) {
+fn run_step_plain<W: Write>(
+    out: &mut W,
+    line: &[u8],
+    header: Machine,
+    map: &mut [u32],
+) -> io::Result<()> {
     let mut space = [7u32; 12];
     let pieces: &mut [u32] = &mut space;
     let answer = machine::step_plain(header, map, row_of(line), number(line, 5), pieces);
-    put_step(answer, pieces);
+    put_step(out, answer, pieces)
 }
 
 // Runs the line of a machine or a plain file.
-fn run_machine(line: &[u8], header: Machine, maps: &mut [u32]) {
+fn run_machine<W: Write>(
+    out: &mut W,
+    line: &[u8],
+    header: Machine,
+    maps: &mut [u32],
+) -> io::Result<()> {
     let kind = byte_at(line, 0);
     match kind {
-        b'm' => put_made(machine::make(header, maps)),
-        b'n' => put_made(machine::make_plain(header, maps)),
-        b'a' => run_step(line, header, maps),
-        b'b' => run_step_plain(line, header, maps),
-        _ => {}
+        b'm' => put_made(out, machine::make(header, maps)),
+        b'n' => put_made(out, machine::make_plain(header, maps)),
+        b'a' => run_step(out, line, header, maps),
+        b'b' => run_step_plain(out, line, header, maps),
+        _ => Ok(()),
     }
 }
 
 // Runs the line of an entry of the map of pieces: the first map has three runs, and so have a view and its published map.
-fn run_map(line: &[u8], maps: &mut [u32]) {
+fn run_map<W: Write>(out: &mut W, line: &[u8], maps: &mut [u32]) -> io::Result<()> {
     let map = within(3 * RUN, maps);
     let pair = within(6 * RUN, maps);
     let kind = byte_at(line, 0);
     match kind {
-        b'w' => run_write(line, &mut maps[..map]),
-        b'l' => run_list(line, &maps[..map]),
-        b'p' | b'r' | b'y' | b't' => run_share(line, &mut maps[..pair]),
-        b'd' => run_read(line, &mut maps[..pair]),
-        _ => {}
+        b'w' => run_write(out, line, &mut maps[..map]),
+        b'l' => run_list(out, line, &maps[..map]),
+        b'p' | b'r' | b'y' | b't' => run_share(out, line, &mut maps[..pair]),
+        b'd' => run_read(out, line, &mut maps[..pair]),
+        _ => Ok(()),
     }
 }
 
 // Writes the words of a line, behind its first byte, on a line of their own where `anew` says so.
-fn put_words(line: &[u8], anew: bool) {
+fn put_words<W: Write>(out: &mut W, line: &[u8], anew: bool) -> io::Result<()> {
     if anew {
-        put(b"\n");
+        put(out, b"\n")?;
     }
     if 0 < line.len() {
-        put(&line[1..]);
+        put(out, &line[1..])?;
     }
+    Ok(())
 }
 
 // Writes the first runs of the maps.
-fn put_runs(line: &[u8], maps: &[u32]) {
+fn put_runs<W: Write>(out: &mut W, line: &[u8], maps: &[u32]) -> io::Result<()> {
     let end = within(number(line, 1) as usize * RUN, maps);
-    put_groups(&maps[..end], RUN);
+    put_groups(out, &maps[..end], RUN)
 }
 
 // The header behind a line.
@@ -426,16 +444,27 @@ fn header_after(line: &[u8], header: Machine) -> Machine {
 }
 
 // Runs a line.
-fn run_line(line: &[u8], header: Machine, maps: &mut [u32]) {
+fn run_line<W: Write>(
+    out: &mut W,
+    line: &[u8],
+    header: Machine,
+    maps: &mut [u32],
+) -> io::Result<()> {
     let kind = byte_at(line, 0);
     match kind {
-        b'\'' | b'.' => put_words(line, kind == b'.'),
-        b'j' => run_judge(line),
-        b'z' => rows::clear(maps),
-        b'u' => run_set(line, maps),
-        b'q' => put_runs(line, maps),
-        b'm' | b'n' | b'a' | b'b' => run_machine(line, header, maps),
-        _ => run_map(line, maps),
+        b'\'' | b'.' => put_words(out, line, kind == b'.'),
+        b'j' => run_judge(out, line),
+        b'z' => {
+            rows::clear(maps);
+            Ok(())
+        }
+        b'u' => {
+            run_set(line, maps);
+            Ok(())
+        }
+        b'q' => put_runs(out, line, maps),
+        b'm' | b'n' | b'a' | b'b' => run_machine(out, line, header, maps),
+        _ => run_map(out, line, maps),
     }
 }
 
@@ -454,21 +483,22 @@ fn line_end(input: &[u8], from: usize) -> usize
     at
 }
 
-fn run_lines(input: &[u8], maps: &mut [u32]) {
+fn run_lines<W: Write>(out: &mut W, input: &[u8], maps: &mut [u32]) -> io::Result<()> {
     let mut header = Machine::fresh(0, PROCESSES, FILE, 0);
     let mut at = 0;
     while at < input.len() {
         let end = line_end(input, at);
         let line = &input[at..end];
         header = header_after(line, header);
-        run_line(line, header, maps);
+        run_line(out, line, header, maps)?;
         at = end + 1;
     }
+    Ok(())
 }
 
-fn main() {
+fn main(rt: HostRuntime) -> io::Result<()> {
     let mut maps = [0u32; 48];
-    let mut input = io::large_buffer();
-    let n = io::read_full(STDIN, &mut input);
-    run_lines(&input[..n], &mut maps);
+    let mut input = Vec::new(rt.alloc());
+    rt.stdin().read_to_end(&mut input)?;
+    run_lines(&mut rt.stdout(), &input, &mut maps)
 }
