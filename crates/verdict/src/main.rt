@@ -1,23 +1,42 @@
 // Reads a trace with header from standard input and writes its verdict under each model, or its refusal. Of a longer input only the byte
 // behind the 8,192nd matters, and only that it is there. Where reading fails, nothing is written to standard output.
+#![tactic(auto)]
+
+use std::io;
 use streams::Read;
-
-const STDIN: i32 = 0;
-
-const STDOUT: i32 = 1;
 
 // Room for every report.
 const REPORT: usize = 256;
 
-fn main() {
+// What stands between the system's words for an error and the error's number, where an error is written out.
+const NUMBER: &str = " (os error ";
+
+// The system's words for an error that is written out.
+fn words(text: &str) -> &str {
+    match text.split_once(NUMBER) {
+        Some((words, _)) => words,
+        None => text,
+    }
+}
+
+// Says on standard error which stream failed, and why.
+fn say(rt: &(impl Eprint + Alloc), stream: &str, error: io::Error) -> io::Result<()> {
+    let text = format!(in rt.alloc(); "{error}")?;
+    let reason = words(text.as_str());
+    eprintln!(rt; "verdict: {stream}: {reason}")
+}
+
+fn main(rt: HostRuntime) {
     let mut input = [0u8; checker::INPUT];
-    match streams::read_all(STDIN, &mut input) {
-        Read::Failed => os::fail(b"verdict: standard input"),
+    match streams::read_all(&mut rt.stdin(), &mut input) {
+        Read::Failed(error) => {
+            let _ = say(&rt, "standard input", error);
+        }
         Read::Whole(n) => {
             let mut lines = [0u8; REPORT];
             let m = checker::report_input(&input, n, &mut lines);
-            if !streams::write_all(STDOUT, &lines[..m]) {
-                os::fail(b"verdict: standard output");
+            if let Err(error) = streams::write_all(&mut rt.stdout(), &lines[..m]) {
+                let _ = say(&rt, "standard output", error);
             }
         }
     }
