@@ -18,7 +18,7 @@ returns-then-map-to c =
     let m = c.middle_length-middle.ensures in
     let b = c.first_behind-behind.ensures in
     let n = c.runs_in-all.ensures in
-    record { answer = not-laid _ c.requires.lawful_map.0 c.left_side-left.result c.right_side-right.result c.requires.lawful_map.1 n b c.left_side-left.ensures c.right_side-right.ensures (m.value, m.covered) c.count_parts.ensures c.if-map-to.true; map_after = refl }
+    record { answer = not-laid _ c.requires.lawful_map.0 c.left_side-left.result c.right_side-right.result c.requires.lawful_map.1 n b c.left_side-left.ensures c.right_side-right.ensures (m.cleared, m.covered) c.count_parts.ensures c.if-map-to.true; map_after = refl }
 
 pub overflow_mul-behind : goal.overflow_mul-behind
 overflow_mul-behind c =
@@ -47,6 +47,6 @@ returns c =
     let both = let m = c.middle_length-middle.ensures in
     let b = c.first_behind-behind.ensures in
     let n = c.runs_in-all.ensures in
-    all_laid _ c.requires.lawful_map.0 c.left_side-left.result c.right_side-right.result c.requires.lawful_map.1 n b c.left_side-left.ensures c.right_side-right.ensures (m.value, m.covered) c.count_parts.ensures
+    all_laid _ c.requires.lawful_map.0 c.left_side-left.result c.right_side-right.result c.requires.lawful_map.1 n b c.left_side-left.ensures c.right_side-right.ensures (m.cleared, m.covered) c.count_parts.ensures
     c.if-map-to.false c.put_part-second.new.map c.put_part-third.new.map c.move_to.ensures
     (c.put_part-second.ensures.answer, c.put_part-second.ensures.runs_put) (c.put_part-third.ensures.answer, c.put_part-third.ensures.runs_put) (c.put_part.ensures.answer, c.put_part.ensures.runs_put) in record { answer = both.0; map_after = both.1 }
