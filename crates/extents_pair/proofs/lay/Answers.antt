@@ -20,4 +20,4 @@ returns c =
     let f = overwrite a.start (a.end - a.start) a.cell in
     let m = lent_map a.space a.k xs in
     made-home a.space a.k xs c.requires.map_inside f
-    (laid-fit m (f (bytes_of m)) (rw (map_lent a.space a.k xs) (omega (arith, c.requires.runs_fit, map_space a.space a.k xs c.requires.map_inside))) r.value r.map_after)
+    (laid-fit m (f (bytes_of m)) (rw (map_lent a.space a.k xs) (omega (arith, c.requires.runs_fit, map_space a.space a.k xs c.requires.map_inside))) r.answer r.map_after)
