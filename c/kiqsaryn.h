@@ -1,4 +1,4 @@
-/* The proved library for C. Link target/staticlib/libkiqsaryn.a, which `rt staticlib kiqsaryn` writes.
+/* The proved library for C. Link crates/kiqsaryn/out/libkiqsaryn.a, which `rt lib` in crates/kiqsaryn writes.
  *
  * Every call is total: it ends for all numbers and for all lengths of slices, and reads and writes nothing outside them. A slice is a pointer
  * and then how many elements it has; the pointer must not be null and must be aligned, also where the length is 0, and a slice lent for

@@ -184,7 +184,7 @@ fn leaves_all(s: &Scratch) {
 #[test]
 fn what_is_missing_is_built() {
     let s = Scratch::new("builds");
-    for folder in ["bin", "repo", "repo/c", "repo/docs", "repo/rust"] {
+    for folder in ["bin", "repo", "repo/c", "repo/crates", "repo/crates/kiqsaryn", "repo/docs", "repo/rust"] {
         fs::create_dir(s.path(folder)).expect("a folder");
     }
     fs::copy(Path::new(ROOT).join("install"), s.path("repo/install")).expect("a copy");
@@ -196,16 +196,13 @@ fn what_is_missing_is_built() {
     };
     let line = "PATH=\"$PWD/bin:/usr/bin:/bin\" CARGO_TARGET_DIR=\"$PWD/built\" repo/install out";
     if !Path::new("/usr/bin/rt").exists() && !Path::new("/bin/rt").exists() {
-        let missing = format!("{}/repo/target/staticlib/libkiqsaryn.a", s.0.display());
+        let missing = format!("{}/repo/crates/kiqsaryn/out/libkiqsaryn.a", s.0.display());
         fails(&s.sh(line), &format!("install: {missing} is missing, and the Rattle toolchain (rt) that makes it is not installed"));
     }
     put("bin/rt", "#!/bin/sh\nexit 1\n");
     put("bin/cargo", "#!/bin/sh\nexit 101\n");
     fails(&s.sh(line), "install: the library is not made");
-    put(
-        "bin/rt",
-        "#!/bin/sh\n[ \"$*\" = 'staticlib kiqsaryn' ] && mkdir -p target/staticlib && echo library > target/staticlib/libkiqsaryn.a\n",
-    );
+    put("bin/rt", "#!/bin/sh\n[ \"${PWD##*/}: $*\" = 'kiqsaryn: lib' ] && mkdir -p out && echo library > out/libkiqsaryn.a\n");
     fails(&s.sh(line), "install: the command is not built");
     assert!(!s.path("out").exists());
     put("bin/cargo", "#!/bin/sh\nmkdir -p \"$CARGO_TARGET_DIR/release\" && cp command \"$CARGO_TARGET_DIR/release/kiqsaryn\"\n");

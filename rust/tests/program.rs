@@ -14,11 +14,11 @@ use running::{err, example_traces, feed, status};
 use std::path::Path;
 use std::process::Command;
 
-const PROGRAM: &str = concat!(env!("CARGO_MANIFEST_DIR"), "/../target/bin/verdict");
+const PROGRAM: &str = concat!(env!("CARGO_MANIFEST_DIR"), "/../crates/verdict/out/verdict");
 
 /// What the program writes to standard output of a trace on standard input.
 fn printed(text: &[u8]) -> Vec<u8> {
-    assert!(Path::new(PROGRAM).exists(), "`rt check verdict` builds {PROGRAM}");
+    assert!(Path::new(PROGRAM).exists(), "`rt run` in crates/verdict builds {PROGRAM}");
     let o = feed(&mut Command::new(PROGRAM), text);
     assert_eq!((status(&o), err(&o)), (0, String::new()));
     o.stdout

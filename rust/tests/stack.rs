@@ -48,7 +48,7 @@ fn every_call_keeps_to_the_stack_that_the_header_names() {
         .args(["-std=c11", "-Wall", "-Wextra", "-Werror", "-O1", "-I"])
         .arg(root.join("c"))
         .arg(source)
-        .arg(root.join("target/staticlib/libkiqsaryn.a"))
+        .arg(root.join("crates/kiqsaryn/out/libkiqsaryn.a"))
         .args(["-lpthread", "-o"])
         .arg(&program)
         .status()
@@ -85,9 +85,9 @@ fn disassembled(file: &Path) -> Vec<(String, Vec<String>)> {
 /// r11 holds nothing, and wrong behind early returns, to which the compiler may move it (docs/DECISIONS.md, Forms).
 #[test]
 fn large_frames_are_made_at_the_entry() {
-    let built = Path::new(env!("CARGO_MANIFEST_DIR")).join("../target");
+    let built = Path::new(env!("CARGO_MANIFEST_DIR")).join("../crates");
     let mut large = 0;
-    for file in ["staticlib/libkiqsaryn.a", "bin/verdict"] {
+    for file in ["kiqsaryn/out/libkiqsaryn.a", "verdict/out/verdict"] {
         for (name, instructions) in disassembled(&built.join(file)) {
             let Some(probe) = instructions.iter().position(|i| i == "mov %rsp,%r11") else {
                 continue;

@@ -1,7 +1,7 @@
 //! Reading next to the plain version and to csv-core, which finds the fields alone: it copies their bytes and asks no question.
 //!
 //!     apt install librust-csv-core-dev
-//!     rt staticlib kiqsaryn
+//!     (cd crates/kiqsaryn && rt lib)
 //!     cd rust/csv-core && cargo run --release --offline
 
 #[path = "../../src/bin/bench/barriers.rs"]
