@@ -6,9 +6,10 @@ use std::path::{Path, PathBuf};
 
 const ABOUT: &str = "# Public functions and their contracts
 
-Every public function of every library, with its contract as the source has it. `now (x .entry)` is what a lent slice holds when the function is
-called, `now (x .exit)` what it holds afterwards. A function without `requires` answers for every input. The gate compares this list with the
-sources; `KIQSARYN_WRITE=1 cargo test --offline --manifest-path rust/Cargo.toml --test contracts` writes it anew.
+Every public function of every library, with its contract as the source has it. `x.now` is what a parameter that is lent to be read (`&`) holds,
+`x.old` and `x.new` are what one that is lent to be written (`&mut`) holds when the function is called and afterwards, and `result` is the answer.
+Between the word `ensures` or `requires` and the brace may stand the clause's name. A function without `requires` answers for every input. The gate
+compares this list with the sources; `KIQSARYN_WRITE=1 cargo test --offline --manifest-path rust/Cargo.toml --test contracts` writes it anew.
 ";
 
 fn root() -> PathBuf {
@@ -19,10 +20,11 @@ fn read(path: &Path) -> String {
     std::fs::read_to_string(path).unwrap_or_else(|e| panic!("{}: {e}", path.display()))
 }
 
-/// The crates of `crates.txt` that are libraries, in its order.
+/// The crates of `crates.txt` that are libraries, in its order. A line is `NAME: ..` or `NAME staticlib: ..`.
 fn libraries() -> Vec<String> {
     let text = read(&root().join("crates.txt"));
-    let names = text.lines().filter(|l| !l.starts_with('#')).filter_map(|l| l.split_once(':')).map(|(name, _)| name.to_string());
+    let names = text.lines().filter(|l| !l.starts_with('#')).filter_map(|l| l.split_once(':'));
+    let names = names.filter_map(|(crate_words, _)| crate_words.split_whitespace().next()).map(str::to_string);
     names.filter(|name| root().join("crates").join(name).join("src/lib.rt").exists()).collect()
 }
 
@@ -49,47 +51,70 @@ fn squeezed(text: &str) -> String {
     words.replace("( ", "(").replace(", )", ")").replace(",)", ")")
 }
 
-/// The head of a function, from its `pub` to the brace that opens its body.
-fn head(lines: &[&str]) -> String {
-    let mut all = String::new();
-    for line in lines {
-        if line.trim() == "{" {
-            break;
+/// Where in a text the first line starts whose first word is that of a clause.
+fn clause_in(text: &str) -> Option<usize> {
+    let mut at = 0;
+    for line in text.split_inclusive('\n') {
+        let word = line.trim_start().split(|c: char| !c.is_alphanumeric() && c != '_').next();
+        if ["ensures", "requires"].iter().any(|w| word == Some(w)) {
+            return Some(at);
         }
-        all.push_str(line.strip_suffix(" {").unwrap_or(line));
-        all.push('\n');
-        if line.ends_with(" {") && !line.contains("ensures") && !line.contains("requires") {
-            break;
-        }
+        at += line.len();
     }
-    all
+    None
 }
 
-/// The signature and the clauses of a head.
-fn parts(head: &str) -> (String, Vec<String>) {
-    let mut parts: Vec<String> = vec![String::new()];
-    for line in head.lines() {
-        let word = line.trim_start();
-        if word.starts_with("ensures") || word.starts_with("requires") {
-            parts.push(String::new());
+/// The place behind the brace that closes the one at a place.
+fn closed(text: &str, open: usize) -> usize {
+    let mut depth = 0;
+    for (k, c) in text[open..].char_indices() {
+        match c {
+            '{' => depth += 1,
+            '}' => depth -= 1,
+            _ => {}
         }
-        let last = parts.last_mut().expect("one part at least");
-        last.push_str(line);
-        last.push('\n');
+        if depth == 0 {
+            return open + k + 1;
+        }
     }
-    (squeezed(&parts[0]), parts[1..].iter().map(|p| squeezed(p)).collect())
+    panic!("a brace is not closed: {}", &text[open..])
+}
+
+/// The signature and the clauses of the function that a text starts with. A clause is a word, perhaps a name, and braces around what it says, on one
+/// line or several; the first braces without such a word are those of the body.
+fn parts(text: &str) -> (String, Vec<String>) {
+    let (mut signature, mut clauses, mut rest) = (None, Vec::new(), text);
+    loop {
+        let open = rest.find('{').expect("a function has a body");
+        let clause = clause_in(&rest[..open]);
+        signature.get_or_insert_with(|| squeezed(&rest[..clause.unwrap_or(open)]));
+        let Some(at) = clause else {
+            return (signature.expect("it was put"), clauses);
+        };
+        let end = closed(rest, open);
+        clauses.push(squeezed(&rest[at..end]));
+        rest = &rest[end..];
+    }
 }
 
 /// The functions of a file that are `pub`, in the file's order, each with the comment above it.
 fn functions(path: &str, text: &str) -> Vec<Function> {
-    let lines: Vec<&str> = text.lines().collect();
     let (mut found, mut about, mut owner) = (Vec::new(), Vec::new(), String::new());
-    for (i, line) in lines.iter().enumerate() {
+    let (mut at, mut attribute) = (0, 0);
+    for whole in text.split_inclusive('\n') {
+        let (start, line) = (at, whole.trim_end());
+        at += whole.len();
         let word = line.trim_start();
         if let Some(name) = line.strip_prefix("impl ").and_then(|l| l.strip_suffix(" {")) {
             owner = format!("{name}::");
-        } else if *line == "}" {
+        } else if line == "}" {
             owner.clear();
+        }
+        // An attribute, such as `#[tactic(..)]`, may stand on several lines between the comment and the function.
+        if attribute > 0 || word.starts_with("#[") {
+            attribute += line.matches('[').count();
+            attribute -= line.matches(']').count();
+            continue;
         }
         if let Some(comment) = word.strip_prefix("// ") {
             about.push(comment);
@@ -98,12 +123,10 @@ fn functions(path: &str, text: &str) -> Vec<Function> {
         let rest = word.strip_prefix("pub extern \"C\" fn ").or_else(|| word.strip_prefix("pub fn "));
         if let Some(rest) = rest {
             let name = rest.split(['(', '<']).next().expect("a name");
-            let (signature, clauses) = parts(&head(&lines[i..]));
+            let (signature, clauses) = parts(&text[start..]);
             found.push(Function { name: format!("{path}::{owner}{name}"), about: about.join(" "), signature, clauses });
         }
-        if !word.starts_with("#[") {
-            about.clear();
-        }
+        about.clear();
     }
     found
 }
