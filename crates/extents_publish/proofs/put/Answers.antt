@@ -20,4 +20,4 @@ returns c =
     let a = c.args in
     let p = c.requires in
     let l = c.lay.ensures in
-    let xs = a.maps.now in record { below = put-fits a.size a.w a.start a.end a.cell xs p.part_inside.0 p.part_inside.1 l.value l.map_after (omega (arith, c.ranges.end)) p.legal_cell; maps_unchanged = put-kept a.size a.w a.start a.end a.cell xs p.part_inside.0 p.part_inside.1 l.value l.map_after }
+    let xs = a.maps.now in record { below = put-fits a.size a.w a.start a.end a.cell xs p.part_inside.0 p.part_inside.1 l.answer l.map_after (omega (arith, c.ranges.end)) p.legal_cell; maps_unchanged = put-kept a.size a.w a.start a.end a.cell xs p.part_inside.0 p.part_inside.1 l.answer l.map_after }
