@@ -19,11 +19,15 @@ fn words(text: &str) -> &str {
     }
 }
 
-// Says on standard error which stream failed, and why.
+// Says on standard error which stream failed, and why. Where there is no memory for the words alone, the error's number stands behind them.
 fn say(rt: &(impl Eprint + Alloc), stream: &str, error: io::Error) -> io::Result<()> {
-    let text = format!(in rt.alloc(); "{error}")?;
-    let reason = words(text.as_str());
-    eprintln!(rt; "verdict: {stream}: {reason}")
+    match format!(in rt.alloc(); "{error}") {
+        Ok(text) => {
+            let reason = words(text.as_str());
+            eprintln!(rt; "verdict: {stream}: {reason}")
+        }
+        Err(_) => eprintln!(rt; "verdict: {stream}: {error}"),
+    }
 }
 
 fn main(rt: HostRuntime) {
