@@ -1,88 +1,104 @@
--- What the outcome of a call says of the answer that it was decided from.
-use Rattle.std.proofs.Common.{◌≡◌, ℕ, zero, suc, ◌<◌, ◌≤◌, min, List, length, Bool, true, false, ℤ, pos, negsuc, Result, Ok, Err, IfOk, arith, refl, ap, sym, ◌∙◌, subst, ◌+◌, ◌++◌, ◌-◌, take, drop, MatchResult, length-take-le}
-use Rattle.std.proofs.lemmas.Int.{to_z-of_z}
-use mir.Syntax.{w64}
-use mir.Val.{SFits, to_z, of_z}
-use Rattle.std.proofs.Math.Seq.{take-append-add, take-append-le, take-add, take-take}
-use borrow.Rule.Slice.PartMut.{put_mid, post_of}
-use Rattle.std.specs.Io.{ReadsAtMost, WritesAtMost}
-use Rattle.std.specs.Prelude.{cond, eqb}
-use Rattle.std.specs.declared.io.Error.{Error}
+-- What the tests on a call's answer and on errno say of the outcome. A signed number is tested by its bits.
+use Rattle.std.proofs.Common.{ℕ, zero, suc, min, ◌+◌, ◌<◌, ◌≤◌, ◌-◌, ◌^◌, arith, lt_of_le_of_lt, ◌≡◌, refl, sym, ap, subst, ◌∙◌, Bool, true, false, cond, ℤ, pos, negsuc, List, length, take, length-take-le, T, lit<, ne_eqb, ltb-true, w32, w64, Fits, SFits, to_z, of_z}
+use mathlib.Core.Bool.{false≢true}
+use lib.IntN.{nat_abs}
+use lib.Signed.{mag, lt_z, non_neg, nat_abs-le}
+use lib.Dec.{eqb}
+use borrow.Rule.Slice.PartMut.{mid_of, put_mid, same_len_mid}
+use mir.Val.{hbits}
+use mir.ValLaws.{to_z-of_z}
+use Rattle.streams.specs.declared.Moved.{Moved}
 use Rattle.streams.specs.declared.Moved.TheVariants.{Took, End, Again, Failed}
-use Rattle.streams.specs.Moves.{EINTR, failure, outcome_of, AreNumbersOf}
+use Rattle.streams.specs.Moves.{EINTR, failure, outcome_of}
 
--- An error is no number of bytes and not the end.
-not_took : (number : ℤ) (n : ℕ) → Took n ≡ failure number → ⊥
-not_took (pos m) n e = go (eqb m EINTR) e
+-- An error whose bits are EINTR's is an interruption.
+pub interrupted : (error : ℤ) → SFits w32 error → of_z w32 error ≡ EINTR → failure error ≡ Again
+interrupted error f e = subst (λ (z : ℤ). failure z ≡ Again) (sym (sym (to_z-of_z w32 error f) ∙ ap (to_z w32) e)) refl
+
+-- Any other error is a failure.
+pub other : (error : ℤ) → (of_z w32 error ≡ EINTR → ⊥) → failure error ≡ Failed
+other (pos n) d = ap (λ b. cond b Again Failed) (ne_eqb n EINTR d)
+other (negsuc n) d = refl
+
+module _ (got : ℤ) (room : ℕ) (error : ℤ) (f : SFits w64 got) where
+  -- The machine reads back the number from its bits.
+  read : to_z w64 (of_z w64 got) ≡ got
+  read = to_z-of_z w64 got f
+
+  -- An answer below 0 is an error.
+  pub erred : lt_z (to_z w64 (of_z w64 got)) (pos 0) ≡ true → outcome_of got room error ≡ failure error
+  unfolding outcome_of
+  erred e = go got (subst (λ (z : ℤ). lt_z z (pos 0) ≡ true) read e)
+    where
+      go : (z : ℤ) → lt_z z (pos 0) ≡ true → outcome_of z room error ≡ failure error
+      go (pos n) t = let low : n < 0 = ltb-true n 0 t in absurd (omega arith)
+      go (negsuc n) t = refl
+
+  -- An answer of 0 is the end.
+  pub ended : of_z w64 got ≡ 0 → outcome_of got room error ≡ End
+  unfolding outcome_of
+  ended e = subst (λ (z : ℤ). outcome_of z room error ≡ End) (sym (sym read ∙ ap (to_z w64) e)) refl
+
+  -- An answer that is not below 0 is a natural number.
+  pub counted : lt_z (to_z w64 (of_z w64 got)) (pos 0) ≡ false → T (non_neg (to_z w64 (of_z w64 got))) × Fits w64 (nat_abs (to_z w64 (of_z w64 got)))
+  counted e = subst (λ (z : ℤ). lt_z z (pos 0) ≡ false → T (non_neg z) × Fits w64 (nat_abs z)) (sym read) (go got f.sfits) e
+    where
+      go : (z : ℤ) → mag z < 2 ^ hbits w64 → lt_z z (pos 0) ≡ false → T (non_neg z) × Fits w64 (nat_abs z)
+      go (pos n) low t = (tt, record { fits = lt_of_le_of_lt (nat_abs-le (pos n) low) (lit< tt) })
+      go (negsuc n) low t = absurd (false≢true (sym t))
+
+  -- An answer above 0 is a number of bytes.
+  pub took : lt_z (to_z w64 (of_z w64 got)) (pos 0) ≡ false → (of_z w64 got ≡ 0 → ⊥) → (n : ℕ) → n ≡ min (nat_abs (to_z w64 (of_z w64 got))) room →
+      outcome_of got room error ≡ Took n
+  unfolding outcome_of
+  took e d n m =
+      go got (subst (λ (z : ℤ). lt_z z (pos 0) ≡ false) read e) d (m ∙ ap (λ (z : ℤ). min (nat_abs z) room) read)
+    where
+      go : (z : ℤ) → lt_z z (pos 0) ≡ false → (of_z w64 z ≡ 0 → ⊥) → n ≡ min (nat_abs z) room → outcome_of z room error ≡ Took n
+      go (pos zero) t d q = absurd (d refl)
+      go (pos (suc k)) t d q = ap Took (sym q)
+      go (negsuc k) t d q = absurd (false≢true (sym t))
+
+-- One more than the bytes that a call moved, and 0 where there are none to tell.
+size : Moved → ℕ
+size (Took n) = suc n
+size End = 0
+size Again = 0
+size Failed = 0
+
+-- A call that moved bytes moved one at least, and no more than there was room for.
+pub took-some : (got : ℤ) (room : ℕ) (error : ℤ) (n : ℕ) → 0 < room → outcome_of got room error ≡ Took n → (0 < n) × (n ≤ room)
+unfolding size outcome_of
+took-some (pos zero) room error n h e = let z : 0 ≡ suc n = ap size e in absurd (omega arith)
+took-some (pos (suc k)) room error n h e = let z : suc (min (suc k) room) ≡ suc n = ap size e in (omega arith, omega arith)
+took-some (negsuc k) room (negsuc m) n h e = let z : 0 ≡ suc n = ap size e in absurd (omega arith)
+took-some (negsuc k) room (pos m) n h e = let z = none (eqb m EINTR) ∙ ap size e in absurd (omega arith)
   where
-    go : (b : Bool) → Took n ≡ cond b Again Failed → ⊥
-    go true e = cc
-    go false e = cc
-not_took (negsuc m) n e = cc
+    none : (b : Bool) → 0 ≡ size (cond b Again Failed)
+    none true = refl
+    none false = refl
 
-not_ended : (number : ℤ) → End ≡ failure number → ⊥
-not_ended (pos m) e = go (eqb m EINTR) e
-  where
-    go : (b : Bool) → End ≡ cond b Again Failed → ⊥
-    go true e = cc
-    go false e = cc
-not_ended (negsuc m) e = cc
+-- What is left of a longer buffer is not empty.
+pub sub_positive : {done all : ℕ} → done < all → 0 < all - done
+sub_positive h = omega arith
 
--- The bytes that a call answered fit the room.
-pub fits_room : (answer : Result ℕ Error) (part : List ℕ) (room : ℕ) → ReadsAtMost answer part → length part ≤ room → IfOk answer (λ m. m ≤ room)
-fits_room (Ok m) part room fits e = omega (arith, fits.0)
-fits_room (Err error) part room fits e = tt
+-- No more bytes than are left end within the buffer.
+pub within-rest : {done n all : ℕ} → n ≤ all - done → done ≤ all → done + n ≤ all
+within-rest h d = omega arith
 
--- Bytes that fit a part that fits the room.
-pub fits_part : (answer : Result ℕ Error) (part : List ℕ) (room : ℕ) → WritesAtMost answer part → length part ≤ room → IfOk answer (λ m. m ≤ room)
-fits_part (Ok m) part room fits e = omega arith
-fits_part (Err error) part room fits e = tt
+-- A number of bytes up to the buffer's length is within the buffer.
+pub is_within : (n : ℕ) (buf : List ℕ) → n ≤ length buf → (n ≤ length buf) × (n ≡ length (take n buf))
+is_within n buf h = (h, sym (length-take-le n buf h))
 
-module _ (got number : ℤ) (f : SFits w64 got) (room : ℕ) (error : ℤ) where
-  -- A call that took bytes took as many as it answered, and one at least.
-  pub took : (answer : Result ℕ Error) (n : ℕ) → AreNumbersOf answer got number → IfOk answer (λ m. m ≤ room) → Took n ≡ outcome_of (to_z w64 (of_z w64 got)) room error
-      → (answer ≡ Ok n) × (0 < n) × (n ≤ room)
-  unfolding outcome_of
-  took answer n a fits e = go answer a fits (subst (λ z. Took n ≡ outcome_of z room error) (to_z-of_z w64 got f) e)
-    where
-      go : (answer : Result ℕ Error) → AreNumbersOf answer got number → IfOk answer (λ m. m ≤ room) → Took n ≡ outcome_of got room error → (answer ≡ Ok n) × (0 < n) × (n ≤ room)
-      go (Ok zero) a fits e = let h : Took n ≡ End = subst (λ z. Took n ≡ outcome_of z room error) a.0 e in absurd (cc)
-      go (Ok (suc m)) a fits e =
-          let h : Took n ≡ Took (min (suc m) room) = subst (λ z. Took n ≡ outcome_of z room error) a.0 e in
-          let same : n ≡ min (suc m) room = cc in
-          let whole : n ≡ suc m = omega arith in
-          (ap Ok (sym whole), omega arith, omega arith)
-      go (Err err) a fits e = absurd (not_took error n (subst (λ z. Took n ≡ outcome_of z room error) a.0 e))
+module _ (done : ℕ) (buf last : List ℕ) (e : length last ≡ length (mid_of done (length buf - done) buf)) where
+  -- The buffer whose bytes from `done` on were lent and came back as `last`.
+  abbrev back : List ℕ
+  back = put_mid done (length buf - done) buf last
 
-  -- A call that met the end answered that no byte moved.
-  pub ended : (answer : Result ℕ Error) → AreNumbersOf answer got number → End ≡ outcome_of (to_z w64 (of_z w64 got)) room error → answer ≡ Ok 0
-  unfolding outcome_of
-  ended answer a e = go answer a (subst (λ z. End ≡ outcome_of z room error) (to_z-of_z w64 got f) e)
-    where
-      go : (answer : Result ℕ Error) → AreNumbersOf answer got number → End ≡ outcome_of got room error → answer ≡ Ok 0
-      go (Ok zero) a e = refl
-      go (Ok (suc m)) a e = let h : End ≡ Took (min (suc m) room) = subst (λ z. End ≡ outcome_of z room error) a.0 e in absurd (cc)
-      go (Err err) a e = absurd (not_ended error (subst (λ z. End ≡ outcome_of z room error) a.0 e))
+  -- Lending the rest of a buffer keeps its length.
+  pub back-length : length back ≡ length buf
+  back-length = same_len_mid done (length buf - done) buf last e
 
-  -- A call that was interrupted answered an error.
-  pub interrupted : (answer : Result ℕ Error) (P : ℕ → Type 0) (Q : Type 0) → AreNumbersOf answer got number → Again ≡ outcome_of (to_z w64 (of_z w64 got)) room error
-      → MatchResult answer P (λ _. Q) → Q
-  unfolding outcome_of
-  interrupted answer P Q a e h = go answer a (subst (λ z. Again ≡ outcome_of z room error) (to_z-of_z w64 got f) e) h
-    where
-      go : (answer : Result ℕ Error) → AreNumbersOf answer got number → Again ≡ outcome_of got room error → MatchResult answer P (λ _. Q) → Q
-      go (Ok zero) a e h = let k : Again ≡ End = subst (λ z. Again ≡ outcome_of z room error) a.0 e in absurd (cc)
-      go (Ok (suc m)) a e h = let k : Again ≡ Took (min (suc m) room) = subst (λ z. Again ≡ outcome_of z room error) a.0 e in absurd (cc)
-      go (Err err) a e h = h
-
-module _ (at : ℕ) (room : ℕ) (buf part : List ℕ) (within : at ≤ length buf) where
-  -- The front of a buffer whose bytes from `at` on were lent and came back as `part`.
-  pub take_more : (n : ℕ) → n ≤ length part → take (at + n) (put_mid at room buf part) ≡ take at buf ++ take n part
-  take_more n fits =
-      let e : length (take at buf) ≡ at = length-take-le at buf within in
-      subst (λ k. take (k + n) (put_mid at room buf part) ≡ take at buf ++ take n part) e
-      (take-append-add (take at buf) (part ++ post_of at room buf) n ∙ ap (λ l. take at buf ++ l) (take-append-le n part (post_of at room buf) fits))
-
--- The front of the bytes that were written, of which a call took n more from the part that it was given.
-pub take_part : (at n : ℕ) (bytes : List ℕ) → n ≤ length bytes - at → take at bytes ++ take n (take (length bytes - at) (drop at bytes)) ≡ take (at + n) bytes
-take_part at n bytes h = ap (λ l. take at bytes ++ l) (take-take n (length bytes - at) (drop at bytes) h) ∙ sym (take-add at n bytes)
+  -- A number of bytes that was within the buffer still is.
+  pub back-within : (n : ℕ) → n ≤ length buf → (n ≤ length back) × (n ≡ length (take n back))
+  back-within n h = is_within n back (subst (λ m. n ≤ m) (sym back-length) h)

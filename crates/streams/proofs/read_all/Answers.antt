@@ -2,7 +2,7 @@ use Rattle.std.proofs.Common.{rules, arith, ◌-◌, length, refl, sym, subst, �
 use Rattle.std.proofs.lemmas.Slice.{take-put_mid_below}
 use Rattle.std.proofs.KnownBytes.{Consumes-trans, Consumes-kept}
 use Rattle.std.specs.Io.KnownBytes.{Consumes, ReadConsumes}
-use Rattle.streams.proofs.Outcomes.{fits_room, took, ended, interrupted, take_more}
+use Rattle.streams.proofs.Moving.{fits_room, took, ended, interrupted, take_more}
 use Rattle.streams.proofs.read_all.Goals as goal
 
 pub overflow_add-done : goal.overflow_add-done

@@ -1,7 +1,7 @@
 use Rattle.std.proofs.Common.{rules, arith, ◌≤◌, ◌-◌, ℕ, length, length-take, take, drop, subst, w64, FitsSigned}
 use Rattle.std.proofs.KnownBytes.{Appends-trans, Appends-kept}
 use Rattle.std.specs.Io.KnownBytes.{Appends, WriteAppends}
-use Rattle.streams.proofs.Outcomes.{fits_part, took, interrupted, take_part}
+use Rattle.streams.proofs.Moving.{fits_part, took, interrupted, take_part}
 use Rattle.streams.proofs.write_all.Goals as goal
 
 pub overflow_add-done : goal.overflow_add-done
