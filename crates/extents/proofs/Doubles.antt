@@ -19,7 +19,6 @@ use Rattle.extents_map.specs.Mixes.{mixed, mix}
 use Rattle.extents_map.specs.declared.scan.Mode.TheVariants.{Publish, MarkPublished, Refresh}
 use Rattle.extents_meaning.specs.Pairs.{two_maps, view_of, below_of}
 use Rattle.extents.specs.Entries.{or_refused, or_kept, listed_count, both_maps, publish_refusal, published_maps, PublishEntry, refresh_refusal, refreshed_maps, RefreshEntry, sync_refusal, synced_maps, SyncEntry, write_through_refusal, written_through_maps, WriteThroughEntry, read_refusal, ReadEntry}
-use Rattle.extents_pair.specs.Marks.{marked}
 use Rattle.extents.proofs.Entering.{accepted}
 use Rattle.extents_pair.proofs.Pairing.{Told, two-told, two-apart, map_space, map_whole}
 

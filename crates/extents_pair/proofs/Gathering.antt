@@ -2,7 +2,7 @@
 use Rattle.std.proofs.Common.{ℕ, suc, ◌+◌, ◌*◌, ◌≤◌, ◌<◌, arith, ◌≡◌, refl, ap, ◌∙◌, Bool, true, false, cond, not, ◌&&◌, List, [], ◌∷◌, length, drop, drop-cons, eqb-true}
 use lib.ListN.{get_or}
 use borrow.Author.Tests.{eqb-false}
-use Rattle.extents_meaning.specs.Cells.{Bytes, mark_in, unpublished, published, as_published, refreshed}
+use Rattle.extents_meaning.specs.Cells.{Bytes, mark_in, unpublished, as_published, refreshed}
 use Rattle.extents_meaning.specs.Runs.{Run, cell_at, Lawful}
 use Rattle.extents_meaning.specs.Maps.{no_marks, runs, lawful}
 use Rattle.extents_meaning.proofs.Trips.{no_marks-out}

@@ -1,10 +1,10 @@
 -- A pair of maps as the two parts of a slice that a rewrite takes.
-use Rattle.std.proofs.Common.{ℕ, ◌+◌, ◌*◌, ◌-◌, ◌/◌, ◌≤◌, arith, add-mul, one-mul, ◌≡◌, sym, ap, ◌∙◌, ◌⊎◌, inl, inr, true, false, List, length}
+use Rattle.std.proofs.Common.{ℕ, ◌+◌, ◌*◌, ◌/◌, ◌≤◌, arith, add-mul, one-mul, ◌≡◌, sym, ap, ◌∙◌, ◌⊎◌, inl, inr, true, false, List, length}
 use Rattle.extents_meaning.specs.Cells.{Bytes}
 use Rattle.extents_meaning.specs.Runs.{runs_of}
 use Rattle.extents_meaning.specs.Maps.{map_of, map_for, lawful, part_at, with_map, with_part}
 use Rattle.extents_meaning.proofs.Longest.{runs_same}
-use Rattle.extents_map.specs.Mixes.{view_is_target, mix_in, becomes}
+use Rattle.extents_map.specs.Mixes.{view_is_target, mix_in}
 use Rattle.extents_map.specs.declared.scan.Mix.{Mix}
 use Rattle.extents_pair.specs.InPairs.{two_maps_in, view_in, below_in}
 use Rattle.extents_pair.specs.declared.Pair.{Pair}

@@ -1,5 +1,5 @@
 -- A step from a look at both maps.
-use Rattle.std.proofs.Common.{ℕ, ◌-◌, ◌≤◌, ◌<◌, ◌≡◌, sym, ◌∙◌, Bool, true, false, not, List, eq-eqb, ne_eqb}
+use Rattle.std.proofs.Common.{ℕ, ◌≤◌, ◌<◌, ◌≡◌, sym, ◌∙◌, Bool, true, false, not, List, eq-eqb, ne_eqb}
 use lib.Dec.{eqb}
 use Rattle.rows.specs.Limits.{OFFSET_MAX}
 use Rattle.extents_map.specs.Cursors.{BothLooked}

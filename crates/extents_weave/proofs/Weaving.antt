@@ -15,7 +15,7 @@ use Rattle.extents_map.specs.Cursors.{ahead}
 use Rattle.extents_map.specs.Mixes.{becomes_in}
 use Rattle.extents_map.specs.declared.scan.Mix.{Mix}
 use Rattle.extents_pair.proofs.Parts.{lent, part_length}
-use Rattle.extents_weave_meaning.specs.Kept.{Results, result, held, kept, Lasting}
+use Rattle.extents_weave_meaning.specs.Kept.{Results, held, kept, Lasting}
 use Rattle.extents_weave_meaning.proofs.Kept.{pack_room}
 use Rattle.extents_weave_meaning.proofs.Weave.{roomy_more, few-kept, weave_ready, weave_end, kept_either}
 use Rattle.extents_weave.specs.Rewrites.{results_in, woven_in, source_in, source_end, runs_written, OnlyPart, Weavable, Ready, Rewritten}

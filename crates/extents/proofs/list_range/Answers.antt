@@ -6,15 +6,9 @@ use Rattle.extents_meaning.specs.Runs.{pieces_of}
 use Rattle.std.proofs.Common.{length, sym, ◌∙◌, arith}
 use Rattle.extents.proofs.list_range.Goals as goal
 
-pub is_lawful-requires : goal.is_lawful-requires
-is_lawful-requires c = tt
-
 pub returns-then-not-is_lawful : goal.returns-then-not-is_lawful
 returns-then-not-is_lawful c =
     let a = c.args in
     refused 13 (listed_count (pieces_of (bytes_of a.map.now) a.start a.length)) (listed_in (pieces_of (bytes_of a.map.now) a.start
     a.length) a.out.now) a.out.now (list-unlawful a.map.now a.start a.length (length a.out.now) (omega arith) (omega
     arith) (sym c.is_lawful.ensures ∙ c.if-not-is_lawful.true)) (omega arith)
-
-pub list_range-requires : goal.list_range-requires
-list_range-requires c = sym c.is_lawful.ensures ∙ c.if-not-is_lawful.false

@@ -6,14 +6,8 @@ use Rattle.extents.specs.declared.Answer.TheVariants.{Done}
 use Rattle.std.proofs.Common.{sym, ◌∙◌, arith}
 use Rattle.extents.proofs.publish.Goals as goal
 
-pub two_maps-requires : goal.two_maps-requires
-two_maps-requires c = tt
-
 pub returns-then-not-two_maps : goal.returns-then-not-two_maps
 returns-then-not-two_maps c =
     let a = c.args in
     refused 13 Done (published_maps a.space a.view a.below a.maps.now) a.maps.now (publish_unlawful a.space a.view a.below
     a.maps.now (sym c.two_maps.ensures ∙ c.if-not-two_maps.true)) (omega arith)
-
-pub publish-requires : goal.publish-requires
-publish-requires c = sym c.two_maps.ensures ∙ c.if-not-two_maps.false

@@ -6,14 +6,8 @@ use Rattle.extents.specs.declared.Answer.TheVariants.{Done}
 use Rattle.std.proofs.Common.{sym, ◌∙◌, arith}
 use Rattle.extents.proofs.refresh.Goals as goal
 
-pub two_maps-requires : goal.two_maps-requires
-two_maps-requires c = tt
-
 pub returns-then-not-two_maps : goal.returns-then-not-two_maps
 returns-then-not-two_maps c =
     let a = c.args in
     refused 13 Done (refreshed_maps a.space a.view a.below a.maps.now) a.maps.now (refresh_unlawful a.space a.view a.below
     a.maps.now (sym c.two_maps.ensures ∙ c.if-not-two_maps.true)) (omega arith)
-
-pub refresh-requires : goal.refresh-requires
-refresh-requires c = sym c.two_maps.ensures ∙ c.if-not-two_maps.false

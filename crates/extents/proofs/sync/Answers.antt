@@ -6,13 +6,7 @@ use Rattle.extents.specs.declared.Answer.TheVariants.{Done}
 use Rattle.std.proofs.Common.{sym, ◌∙◌, arith}
 use Rattle.extents.proofs.sync.Goals as goal
 
-pub two_maps-requires : goal.two_maps-requires
-two_maps-requires c = tt
-
 pub returns-then-not-two_maps : goal.returns-then-not-two_maps
 returns-then-not-two_maps c =
     let a = c.args in
     refused 13 Done (synced_maps a.space a.view a.below a.maps.now) a.maps.now (sync_unlawful a.space a.view a.below a.maps.now (sym c.two_maps.ensures ∙ c.if-not-two_maps.true)) (omega arith)
-
-pub sync-requires : goal.sync-requires
-sync-requires c = sym c.two_maps.ensures ∙ c.if-not-two_maps.false

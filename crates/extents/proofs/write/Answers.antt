@@ -5,14 +5,8 @@ use Rattle.extents.specs.declared.Answer.TheVariants.{Done}
 use Rattle.std.proofs.Common.{sym, ◌∙◌, arith}
 use Rattle.extents.proofs.write.Goals as goal
 
-pub is_lawful-requires : goal.is_lawful-requires
-is_lawful-requires c = tt
-
 pub returns-then-not-is_lawful : goal.returns-then-not-is_lawful
 returns-then-not-is_lawful c =
     let a = c.args in
     refused 13 Done (written_map a.map.now a.start a.length a.number a.unpublished) a.map.now (write-unlawful a.map.now
     a.start a.length a.number a.unpublished (omega arith) (omega arith) (sym c.is_lawful.ensures ∙ c.if-not-is_lawful.true)) (omega arith)
-
-pub write-requires : goal.write-requires
-write-requires c = sym c.is_lawful.ensures ∙ c.if-not-is_lawful.false

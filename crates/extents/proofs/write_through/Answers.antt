@@ -6,15 +6,9 @@ use Rattle.extents.specs.declared.Answer.TheVariants.{Done}
 use Rattle.std.proofs.Common.{sym, ◌∙◌, arith}
 use Rattle.extents.proofs.write_through.Goals as goal
 
-pub two_maps-requires : goal.two_maps-requires
-two_maps-requires c = tt
-
 pub returns-then-not-two_maps : goal.returns-then-not-two_maps
 returns-then-not-two_maps c =
     let a = c.args in
     refused 13 Done (written_through_maps a.space a.view a.below a.maps.now a.start a.length a.number) a.maps.now (write-through-unlawful
     a.space a.view a.below a.maps.now a.start a.length a.number (omega arith) (omega arith) (sym c.two_maps.ensures ∙
     c.if-not-two_maps.true)) (omega arith)
-
-pub write_through-requires : goal.write_through-requires
-write_through-requires c = sym c.two_maps.ensures ∙ c.if-not-two_maps.false

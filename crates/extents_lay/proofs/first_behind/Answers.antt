@@ -1,11 +1,8 @@
 -- `extents_lay::first_behind` meets its contract.
 use Rattle.std.proofs.Common.{arith, ◌∙◌}
-use Rattle.extents_map.proofs.Parted.{reach_start, reach_next, reach_stop}
+use Rattle.extents_map.proofs.Parted.{reach_stop}
 use Rattle.extents_lay.proofs.Ranges.{order}
 use Rattle.extents_lay.proofs.first_behind.Goals as goal
-
-pub loop-i-init : goal.loop-i-init
-loop-i-init c = reach_start _ _ _ (omega (arith, c.requires.1, c.requires.2))
 
 pub returns-then-end-start : goal.returns-then-end-start
 returns-then-end-start c =
@@ -19,15 +16,3 @@ returns-then-cell_at-cell c =
     let u = c.loop-i.invariant in
     reach_stop u (order _ c.requires.0) c.args.cell (λ h. omega (arith, e, c.if-end-start-2.true))
     (λ h p q. c.if-cell_at-cell.true (c.cell_at.ensures ∙ q))
-
-pub loop-i-preserved : goal.loop-i-preserved
-loop-i-preserved c =
-    let e = c.start_at-start.ensures in
-    let u = c.loop-i.invariant in
-    reach_next u (omega (arith, c.requires.1, c.loop-i-test.true)) (omega (arith, e, c.if-end-start.false))
-
-pub returns : goal.returns
-returns c =
-    let u = c.loop-i.invariant in
-    reach_stop u (order _ c.requires.0) c.args.cell
-    (λ h. absurd (omega (arith, c.requires.1, c.loop-i-test.false))) (λ h. absurd (omega (arith, c.requires.1, c.loop-i-test.false)))

@@ -1,5 +1,5 @@
 -- `extents_lay::lay` meets its contract.
-use Rattle.std.proofs.Common.{arith, refl, ◌∙◌}
+use Rattle.std.proofs.Common.{arith, refl}
 use Rattle.extents_meaning.proofs.Trips.{lawful-map}
 use Rattle.extents_lay.proofs.Ranges.{zeros-behind, not-laid, all_laid}
 use Rattle.extents_lay.proofs.lay.Goals as goal
@@ -9,9 +9,6 @@ overflow_add-to c = let m = lawful-map _ c.requires.lawful_map.0 in omega arith
 
 pub overflow_add-to-2 : goal.overflow_add-to-2
 overflow_add-to-2 c = let m = lawful-map _ c.requires.lawful_map.0 in omega arith
-
-pub shape_of-map-then-map-to : goal.shape_of-map-then-map-to
-shape_of-map-then-map-to c = refl
 
 pub returns-then-map-to : goal.returns-then-map-to
 returns-then-map-to c =
@@ -30,17 +27,11 @@ overflow_mul-all c =
     let m = lawful-map _ c.requires.lawful_map.0 in
     omega (arith, c.runs_in-all.ensures)
 
-pub overflow_mul-to : goal.overflow_mul-to
-overflow_mul-to c = omega (arith, c.well_formed.0.0, c.if-map-to.false)
-
 pub move_to-requires : goal.move_to-requires
 move_to-requires c =
     let m = lawful-map _ c.requires.lawful_map.0 in
     let n = c.runs_in-all.ensures in
     record { move_inside = (omega arith, omega arith, omega arith); zeros_behind = zeros-behind _ c.requires.lawful_map.0 n }
-
-pub shape_of-map : goal.shape_of-map
-shape_of-map c = c.put_part.auto.map ∙ c.put_part-third.auto.map ∙ c.put_part-second.auto.map ∙ c.move_to.auto.map
 
 pub returns : goal.returns
 returns c =

@@ -1,25 +1,15 @@
 -- `extents_lay::move_to` meets its contract.
-use Rattle.std.proofs.Common.{◌∙◌}
-use Rattle.extents_lay.proofs.Moves.{moved_none, moved_up, down_start, down-next, moved_down}
+use Rattle.extents_lay.proofs.Moves.{moved_none, moved_up, down-next, moved_down}
 use Rattle.extents_lay.proofs.move_to.Goals as goal
 
 pub returns-then-from-to : goal.returns-then-from-to
 returns-then-from-to c = moved_none _ _ _ _ (c.requires.move_inside, c.requires.zeros_behind) c.if-from-to.true
 
-pub shape_of-map-then-from-to-2 : goal.shape_of-map-then-from-to-2
-shape_of-map-then-from-to-2 c = c.move_up.auto.map
-
 pub returns-then-from-to-2 : goal.returns-then-from-to-2
 returns-then-from-to-2 c = moved_up _ _ _ _ (c.requires.move_inside, c.requires.zeros_behind) c.if-from-to-2.true c.move_up.ensures
 
-pub loop-i-init : goal.loop-i-init
-loop-i-init c = down_start _ _ _ _ (c.requires.move_inside, c.requires.zeros_behind)
-
 pub loop-i-preserved : goal.loop-i-preserved
 loop-i-preserved c = down-next _ _ _ _ (c.requires.move_inside, c.requires.zeros_behind) c.if-from-to-2.false c.loop-i.invariant c.loop-i-test.true
-
-pub shape_of-map : goal.shape_of-map
-shape_of-map c = c.clear_between.auto.map ∙ c.loop-i.invariant.same
 
 pub returns : goal.returns
 returns c =

@@ -6,9 +6,6 @@ use Rattle.extents_lay.proofs.put_part.Goals as goal
 pub returns-then-length-eq0 : goal.returns-then-length-eq0
 returns-then-length-eq0 c = let both = put-none _ _ _ _ _ c.if-length-eq0.true in record { answer = both.0; runs_put = both.1 }
 
-pub returns-clause-answer : goal.returns-clause-answer
-returns-clause-answer c = let f = c.if-length-eq0.false in omega (arith, f)
-
 pub returns-clause-runs_put : goal.returns-clause-runs_put
 returns-clause-runs_put c =
     let f = c.if-length-eq0.false in

@@ -18,11 +18,6 @@ overflow_add-n-in-loop-i c =
     let more = marked-at c.args.map.now c.requires c.loop-i.i (omega (arith, c.loop-i-test.true, c.runs_in-all.ensures)) in
     omega (arith, marked-fewer (runs c.args.map.now), c.runs_in-all.ensures)
 
-pub overflow_cast-n : goal.overflow_cast-n
-overflow_cast-n c =
-    let more = marked-at c.args.map.now c.requires c.loop-i.i (omega (arith, c.loop-i-test.true, c.runs_in-all.ensures)) in
-    omega (arith, marked-fewer (runs c.args.map.now), c.runs_in-all.ensures)
-
 pub returns : goal.returns
 returns c =
     let l = c.loop-i in

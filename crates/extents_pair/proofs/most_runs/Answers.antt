@@ -1,6 +1,5 @@
 -- `extents_pair::most_runs` meets its contract.
-use Rattle.std.proofs.Common.{arith, sym, ap, ◌∙◌}
-use Rattle.extents_meaning.specs.Maps.{lawful}
+use Rattle.std.proofs.Common.{arith, sym, ◌∙◌}
 use Rattle.extents_pair.proofs.Pairing.{Told, two-told, map-few}
 use Rattle.extents_pair.proofs.Bounds.{marked-room, most}
 use Rattle.extents_pair.proofs.most_runs.Goals as goal
@@ -9,15 +8,6 @@ use Rattle.extents_pair.proofs.most_runs.Goals.{Start}
 -- Both maps stand inside the slice and are lawful.
 told : (c : Start) → let a = c.args in Told a.pair.space a.pair.view a.pair.below a.maps.now
 told c = let a = c.args in two-told a.pair.space a.pair.view a.pair.below a.maps.now c.requires.0
-
-pub is_mark_published-requires : goal.is_mark_published-requires
-is_mark_published-requires c = tt
-
-pub map_at-requires : goal.map_at-requires
-map_at-requires c = (told (goal.at.map_at-requires c).Start).view_within
-
-pub runs_in-requires : goal.runs_in-requires
-runs_in-requires c = ap lawful c.map_at.ensures ∙ (told (goal.at.runs_in-requires c).Start).view-law
 
 pub overflow_add-result : goal.overflow_add-result
 overflow_add-result c =
@@ -31,12 +21,6 @@ returns-then-is_mark_published c =
     let q = sym c.is_mark_published.ensures ∙ c.if-is_mark_published.true in
     let e = rw c.map_at.ensures at c.runs_in.ensures in
     λ start n cell. omega (arith, e, rw q at (most _ _ (told (goal.at.returns-then-is_mark_published c).Start).view-law (told (goal.at.returns-then-is_mark_published c).Start).below-law start n cell c.args.mode c.requires.1))
-
-pub map_at-requires-2 : goal.map_at-requires-2
-map_at-requires-2 c = (told (goal.at.map_at-requires-2 c).Start).below_within
-
-pub runs_in-requires-2 : goal.runs_in-requires-2
-runs_in-requires-2 c = ap lawful c.map_at-2.ensures ∙ (told (goal.at.runs_in-requires-2 c).Start).below-law
 
 pub overflow_add-result-3 : goal.overflow_add-result-3
 overflow_add-result-3 c =

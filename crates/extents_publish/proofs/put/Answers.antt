@@ -1,7 +1,6 @@
 -- `extents_publish::put` meets its contract.
-use Rattle.std.proofs.Common.{arith, refl, sym, ap, ◌∙◌}
-use Rattle.extents_meaning.specs.Maps.{bytes_of, lawful, part_at}
-use Rattle.extents_pair.proofs.Parts.{lent}
+use Rattle.std.proofs.Common.{arith, refl, sym}
+use Rattle.extents_meaning.specs.Maps.{bytes_of, part_at}
 use Rattle.extents_pair.proofs.Sweeps.{over-out}
 use Rattle.extents_publish.proofs.Laying.{below-start, put-fits, put-kept}
 use Rattle.extents_publish.proofs.put.Goals as goal
@@ -11,9 +10,6 @@ returns-then-end-start c =
     let a = c.args in
     let f = bytes_of (part_at a.w a.size a.maps.now) in
     record { below = λ _. below-start c.requires.part_inside.0 c.requires.part_inside.1 (λ b. sym (over-out a.start a.end a.cell f b (λ l. omega (arith, c.if-end-start.true)))); maps_unchanged = λ _. refl }
-
-pub lay-requires : goal.lay-requires
-lay-requires c = record { lawful_map = (ap lawful (lent c.args.w c.args.size c.args.maps.now) ∙ c.requires.part_inside.1, omega (arith, c.if-end-start.false)); legal_cell = c.requires.legal_cell }
 
 pub returns : goal.returns
 returns c =

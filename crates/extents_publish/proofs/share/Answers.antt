@@ -1,6 +1,6 @@
 -- `extents_publish::share` meets its contract.
 use Rattle.std.proofs.Common.{arith, refl}
-use Rattle.extents_publish.proofs.Sharing.{Shared, weavable, layable, laid_end, kept-two, kept-few, woven-end}
+use Rattle.extents_publish.proofs.Sharing.{Shared, layable, laid_end, kept-two, kept-few, woven-end}
 use Rattle.extents_publish.proofs.share.Goals as goal
 use Rattle.extents_publish.proofs.share.Goals.{Start}
 
@@ -9,21 +9,6 @@ call : (c : Start) → Shared c.args.pair c.args.start c.args.end c.args.number 
 call c =
     let asked = c.requires.range_and_number in
     record { two = c.requires.lawful_maps; order = asked.0; inside = omega (arith, c.ranges.end); low = asked.2; own = asked.3; few = c.requires.runs_fit }
-
-pub overflow_mul-size : goal.overflow_mul-size
-overflow_mul-size c =
-    let t = (weavable (call (goal.at.overflow_mul-size c).Start)).two in
-    omega (arith, t.target_within, t.other_in, c.well_formed)
-
-pub overflow_mul-v : goal.overflow_mul-v
-overflow_mul-v c =
-    let t = (weavable (call (goal.at.overflow_mul-v c).Start)).two in
-    omega (arith, t.target_within, t.other_in, c.well_formed)
-
-pub overflow_mul-w : goal.overflow_mul-w
-overflow_mul-w c =
-    let t = (weavable (call (goal.at.overflow_mul-w c).Start)).two in
-    omega (arith, t.target_within, t.other_in, c.well_formed)
 
 pub lay_all-requires : goal.lay_all-requires
 lay_all-requires c = layable (call (goal.at.lay_all-requires c).Start)

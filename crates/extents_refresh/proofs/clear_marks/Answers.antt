@@ -1,15 +1,12 @@
 -- `extents_refresh::clear_marks` meets its contract.
 use Rattle.std.proofs.Common.{◌+◌, ◌*◌, ◌≤◌, arith, ◌≡◌, length}
-use Rattle.extents_refresh.proofs.Clearing.{clear_start, clear_room, clear_skip, clear_one}
+use Rattle.extents_refresh.proofs.Clearing.{clear_room, clear_skip, clear_one}
 use Rattle.extents_refresh.proofs.clear_marks.Goals as goal
 use Rattle.extents_refresh.proofs.clear_marks.Goals.{In-loop-left}
 
 -- the four numbers of run i stand in the slice, which has its length
 room : (c : In-loop-left) → (c.loop-left.i * 4 + 4 ≤ length c.loop-left.map) × (length c.loop-left.map ≡ length c.args.map.now)
 room c = clear_room c.loop-left.invariant c.loop-left-test.true
-
-pub loop-left-init : goal.loop-left-init
-loop-left-init c = clear_start c.args.map.now c.requires.0 c.requires.1
 
 pub overflow_mul-at : goal.overflow_mul-at
 overflow_mul-at c = omega (arith, room (goal.at.overflow_mul-at c).In-loop-left)
@@ -26,30 +23,6 @@ offset_bounds-map-at c = omega (arith, room (goal.at.offset_bounds-map-at c).In-
 pub bounds-map-at : goal.bounds-map-at
 bounds-map-at c = omega (arith, room (goal.at.bounds-map-at c).In-loop-left)
 
-pub meets-requires : goal.meets-requires
-meets-requires c = c.loop-left.invariant.done.law
-
-pub meets-requires-else-meets : goal.meets-requires-else-meets
-meets-requires-else-meets c = c.loop-left.invariant.done.law
-
-pub shape_of-map-then-meets : goal.shape_of-map-then-meets
-shape_of-map-then-meets c = c.loop-left.invariant.done.same
-
-pub returns-then-meets : goal.returns-then-meets
-returns-then-meets c = c.loop-left.invariant.done
-
-pub offset_bounds-map-at-then-map-at-eq1 : goal.offset_bounds-map-at-then-map-at-eq1
-offset_bounds-map-at-then-map-at-eq1 c = omega (arith, room (goal.at.offset_bounds-map-at-then-map-at-eq1 c).In-loop-left)
-
-pub bounds-map-at-then-map-at-eq1 : goal.bounds-map-at-then-map-at-eq1
-bounds-map-at-then-map-at-eq1 c = omega (arith, room (goal.at.bounds-map-at-then-map-at-eq1 c).In-loop-left)
-
-pub overflow_sub-left : goal.overflow_sub-left
-overflow_sub-left c = c.loop-left-test.true
-
-pub loop-left-smaller-else-meets-2 : goal.loop-left-smaller-else-meets-2
-loop-left-smaller-else-meets-2 c = omega (arith, room (goal.at.loop-left-smaller-else-meets-2 c).In-loop-left)
-
 pub loop-left-preserved-else-meets-2 : goal.loop-left-preserved-else-meets-2
 loop-left-preserved-else-meets-2 c =
     clear_one c.loop-left.invariant c.loop-left-test.true c.if-map-at-eq1.true (c.meets.ensures c.if-meets.false)
@@ -60,9 +33,3 @@ loop-left-smaller c = omega (arith, room (goal.at.loop-left-smaller c).In-loop-l
 
 pub loop-left-preserved : goal.loop-left-preserved
 loop-left-preserved c = clear_skip c.loop-left.invariant c.loop-left-test.true c.if-map-at-eq1.false
-
-pub shape_of-map : goal.shape_of-map
-shape_of-map c = c.loop-left.invariant.done.same
-
-pub returns : goal.returns
-returns c = c.loop-left.invariant.done

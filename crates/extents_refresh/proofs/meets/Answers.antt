@@ -1,10 +1,7 @@
 -- `extents_refresh::meets` meets its contract.
-use Rattle.std.proofs.Common.{◌<◌, arith, sym, ap, ◌∙◌, length}
-use borrow.Author.Tests.{eqb-false}
-use Rattle.extents_meaning.specs.Cells.{number_in}
+use Rattle.std.proofs.Common.{◌<◌, arith, length}
 use Rattle.extents_meaning.specs.Maps.{runs}
 use Rattle.extents_meaning.proofs.Trips.{lawful-map}
-use Rattle.extents_map.proofs.Parted.{before_last}
 use Rattle.extents_map.proofs.Places.{count-some, count_none}
 use Rattle.extents_refresh.proofs.Clearing.{first-apart}
 use Rattle.extents_refresh.proofs.meets.Goals as goal
@@ -29,18 +26,8 @@ end_at-requires c = (c.requires, omega (arith, here (goal.at.end_at-requires c).
 pub start_at-requires : goal.start_at-requires
 start_at-requires c = (c.requires, here (goal.at.start_at-requires c).Else-map-i-eq0)
 
-pub returns-then-end_at-start_at : goal.returns-then-end_at-start_at
-returns-then-end_at-start_at c _ h =
-    rw (before_last (runs c.args.map.now) c.args.i (omega (arith, c.if-i-eq0.false)))
-    (λ e _. c.if-end_at-start_at.true (c.end_at.ensures ∙ e ∙ sym c.start_at.ensures))
-
 pub cell_at-requires : goal.cell_at-requires
 cell_at-requires c = (c.requires, omega (arith, here (goal.at.cell_at-requires c).Else-map-i-eq0))
 
 pub cell_at-requires-2 : goal.cell_at-requires-2
 cell_at-requires-2 c = (c.requires, here (goal.at.cell_at-requires-2 c).Else-map-i-eq0)
-
-pub returns : goal.returns
-returns c z h =
-    rw (before_last (runs c.args.map.now) c.args.i (omega (arith, c.if-i-eq0.false)))
-    (λ _ e. eqb-false _ _ z (ap number_in c.cell_at.ensures ∙ e ∙ sym (ap number_in c.cell_at-2.ensures)))

@@ -1,13 +1,8 @@
 -- `extents_refresh::refresh` meets its contract.
 use Rattle.std.proofs.Common.{arith, refl}
 use Rattle.extents_map.specs.Mixes.{mixed}
-use Rattle.extents_refresh.proofs.Viewing.{copy_ready, view-copied}
+use Rattle.extents_refresh.proofs.Viewing.{view-copied}
 use Rattle.extents_refresh.proofs.refresh.Goals as goal
-
-pub copy-requires : goal.copy-requires
-copy-requires c =
-    let both = let p = c.args.pair in
-    copy_ready p.space p.view p.below c.args.maps.now c.requires.lawful_maps.0 in record { map_inside = both.0; lawful_maps = both.1 }
 
 pub returns-then-own-eq0 : goal.returns-then-own-eq0
 returns-then-own-eq0 c =

@@ -13,17 +13,6 @@ returns-then-cell-h c = way_on c.args.h c.args.x c.args.y c.args.cell c.args.nee
 pub returns-then-h-eq0 : goal.returns-then-h-eq0
 returns-then-h-eq0 c = way_begin c.args.h c.args.x c.args.y c.args.cell c.args.need c.args.map.now c.if-cell-h.false c.if-h-eq0.true
 
-pub overflow_mul-h : goal.overflow_mul-h
-overflow_mul-h c = omega (arith, c.requires.1 c.if-cell-h.false c.if-h-eq0.false)
-
-pub put_run-requires : goal.put_run-requires
-put_run-requires c =
-    let r = c.requires.1 c.if-cell-h.false c.if-h-eq0.false in
-    (omega (arith, r), omega (arith, r), omega (arith, r), omega (arith, r))
-
-pub overflow_add-result : goal.overflow_add-result
-overflow_add-result c = omega (arith, c.requires.1 c.if-cell-h.false c.if-h-eq0.false)
-
 pub returns : goal.returns
 unfolding fours
 returns c =

@@ -5,17 +5,11 @@ use Rattle.extents_meaning.specs.Maps.{bytes_of}
 use Rattle.extents_pair.proofs.Rooms.{map_enough, map_counted}
 use Rattle.extents.proofs.lawful.lacks.Goals as goal
 
-pub runs_in-requires : goal.runs_in-requires
-runs_in-requires c = c.requires.0
-
 pub returns-then-runs_in-room : goal.returns-then-runs_in-room
 returns-then-runs_in-room c =
     let a = c.args in
     map_enough a.from (a.to - a.from) a.map.now a.room c.requires.0 (omega (arith, c.requires.1, c.ranges.to))
     c.runs_in.ensures (omega (arith, c.if-runs_in-room.true))
-
-pub count-requires : goal.count-requires
-count-requires c = record { lawful_map = (c.requires.0, c.requires.0); rising = (c.requires.1, omega arith) }
 
 pub returns : goal.returns
 returns c =

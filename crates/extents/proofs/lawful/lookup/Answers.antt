@@ -1,15 +1,11 @@
 -- `extents::lawful::lookup` meets its contract.
 use Rattle.std.proofs.Common.{arith, ap, ◌∙◌}
 use Rattle.extents_meaning.specs.Cells.{number_in, mark_in}
-use Rattle.extents_map.proofs.Looking.{passing-part}
 use Rattle.extents.proofs.Entering.{lookup-past, lookup-found, looked_whole}
 use Rattle.extents.proofs.lawful.lookup.Goals as goal
 
 pub returns-then-byte-eq-OFFSET_MAX : goal.returns-then-byte-eq-OFFSET_MAX
 returns-then-byte-eq-OFFSET_MAX c = lookup-past c.args.map.now c.args.byte c.requires c.if-byte-eq-OFFSET_MAX.true
-
-pub see-seen-requires : goal.see-seen-requires
-see-seen-requires c = passing-part c.seek-from.ensures (omega arith)
 
 pub returns : goal.returns
 returns c =

@@ -3,18 +3,8 @@ use Rattle.extents.proofs.Doubles.{publish-enough, publish-short, publish-full, 
 use Rattle.extents.specs.Entries.{published_maps}
 use Rattle.extents.proofs.Entering.{refused}
 use Rattle.extents.specs.declared.Answer.TheVariants.{Done}
-use Rattle.std.proofs.Common.{refl, arith, not, ap}
-use Rattle.extents_pair.proofs.Pairing.{two-told}
+use Rattle.std.proofs.Common.{arith, not, ap}
 use Rattle.extents.proofs.lawful.publish.Goals as goal
-
-pub own_runs-own-requires : goal.own_runs-own-requires
-own_runs-own-requires c =
-    let a = c.args in
-    let t = two-told a.space a.view a.below a.maps.now c.requires in
-    record { map_inside = t.view_within; lawful_maps = t.view-law }
-
-pub fits-requires : goal.fits-requires
-fits-requires c = record { lawful_maps = c.requires; known_mode = (refl, omega arith, c.own_runs-own.ensures) }
 
 pub returns-then-not-fits : goal.returns-then-not-fits
 returns-then-not-fits c =
@@ -31,9 +21,6 @@ share-requires c =
       runs_fit = share-fits a.space a.view a.below a.maps.now c.requires
           (publish-enough a.space a.view a.below a.maps.now c.fits.ensures (ap not c.if-not-fits.false));
     }
-
-pub mark_published-requires : goal.mark_published-requires
-mark_published-requires c = c.share.ensures.lawful_after
 
 pub returns : goal.returns
 returns c =

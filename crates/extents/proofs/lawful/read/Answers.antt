@@ -6,8 +6,7 @@ use Rattle.extents_meaning.specs.Maps.{listed_in}
 use Rattle.extents_meaning.specs.Pairs.{view_of, below_of}
 use Rattle.extents_meaning.specs.Runs.{Run}
 use Rattle.extents_meaning.specs.Cells.{refreshed}
-use Rattle.std.proofs.Common.{length, List, refl, ap, ◌∙◌, arith, not}
-use Rattle.extents_pair.proofs.Pairing.{two-told}
+use Rattle.std.proofs.Common.{length, List, ap, ◌∙◌, arith, not}
 use Rattle.extents.proofs.lawful.read.Goals as goal
 
 pub returns-then-start-length : goal.returns-then-start-length
@@ -16,27 +15,12 @@ returns-then-start-length c =
     refused-read 11 a.space a.view a.below a.maps.now a.start a.length a.out.now (read_past a.space a.view a.below
     a.maps.now a.start a.length (length a.out.now) (omega arith) (omega arith) c.requires (omega (arith, c.if-start-length.true))) (omega arith)
 
-pub overflow_add-end : goal.overflow_add-end
-overflow_add-end c = omega (arith, c.if-start-length.false)
-
-pub own_runs-own-requires : goal.own_runs-own-requires
-own_runs-own-requires c =
-    let a = c.args in
-    let t = two-told a.space a.view a.below a.maps.now c.requires in
-    record { map_inside = t.view_within; lawful_maps = t.view-law }
-
-pub fits-requires : goal.fits-requires
-fits-requires c = record { lawful_maps = c.requires; known_mode = (refl, omega arith, c.own_runs-own.ensures) }
-
 pub returns-then-not-fits : goal.returns-then-not-fits
 returns-then-not-fits c =
     let a = c.args in
     refused-read 16 a.space a.view a.below a.maps.now a.start a.length a.out.now (read-full a.space a.view a.below
     a.maps.now a.start a.length (length a.out.now) (omega arith) (omega arith) c.requires (omega (arith, c.if-start-length.false)) (refresh-short
     a.space a.view a.below a.maps.now c.fits.ensures (ap not c.if-not-fits.true))) (omega arith)
-
-pub lacks-requires : goal.lacks-requires
-lacks-requires c = record { lawful_maps = c.requires; rising = (omega arith, c.own_runs-own.ensures) }
 
 pub returns-then-lacks : goal.returns-then-lacks
 returns-then-lacks c =

@@ -3,18 +3,8 @@ use Rattle.extents.proofs.Doubles.{refresh-enough, refresh-short, refresh-full, 
 use Rattle.extents.specs.Entries.{refreshed_maps}
 use Rattle.extents.proofs.Entering.{refused}
 use Rattle.extents.specs.declared.Answer.TheVariants.{Done}
-use Rattle.std.proofs.Common.{refl, arith, not, ap}
-use Rattle.extents_pair.proofs.Pairing.{two-told}
+use Rattle.std.proofs.Common.{arith, not, ap}
 use Rattle.extents.proofs.lawful.refresh.Goals as goal
-
-pub own_runs-own-requires : goal.own_runs-own-requires
-own_runs-own-requires c =
-    let a = c.args in
-    let t = two-told a.space a.view a.below a.maps.now c.requires in
-    record { map_inside = t.view_within; lawful_maps = t.view-law }
-
-pub fits-requires : goal.fits-requires
-fits-requires c = record { lawful_maps = c.requires; known_mode = (refl, omega arith, c.own_runs-own.ensures) }
 
 pub returns-then-not-fits : goal.returns-then-not-fits
 returns-then-not-fits c =

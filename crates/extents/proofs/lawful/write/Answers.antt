@@ -1,5 +1,5 @@
 -- `extents::lawful::write` meets its contract.
-use Rattle.extents.proofs.Entering.{refused, write_low, write-high, write-past, write-none, write_done, write-not, cell-fine}
+use Rattle.extents.proofs.Entering.{refused, write_low, write-high, write-past, write-none, write_done, write-not}
 use Rattle.extents.specs.Entries.{written_map}
 use Rattle.extents.specs.declared.Answer.TheVariants.{Done}
 use Rattle.std.proofs.Common.{arith}
@@ -34,20 +34,6 @@ returns-then-length-eq0 c =
       c.if-number-lt1.false,
     )) (omega (arith, c.if-number-gt-ROWS.false)) (omega (arith, c.if-start-length.false))
     c.if-length-eq0.true
-
-pub overflow_add-start : goal.overflow_add-start
-overflow_add-start c = omega (arith, c.if-start-length.false)
-
-pub cell_of-requires : goal.cell_of-requires
-cell_of-requires c = omega (arith, c.if-number-gt-ROWS.false)
-
-pub lay-requires : goal.lay-requires
-lay-requires c =
-    let a = c.args in record {
-      lawful_map = (c.requires, omega (arith, c.if-length-eq0.false));
-      legal_cell = cell-fine a.number
-          a.unpublished (omega (arith, c.if-number-lt1.false)) (omega (arith, c.if-number-gt-ROWS.false)) c.cell_of.ensures;
-    }
 
 pub returns-then-lay : goal.returns-then-lay
 returns-then-lay c =

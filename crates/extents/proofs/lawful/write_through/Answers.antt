@@ -2,9 +2,8 @@
 use Rattle.extents.proofs.Doubles.{view-in-as-published, view-law-as-published, write-through-lay, write-through-done, write-through-empty, write-through-enough, write-through-short, mark-published-enough, mark-published-short, cell-zero, write-through-low, write-through-high, write-through-past, write-through-full, write-through-view-full, write-through-share}
 use Rattle.extents.proofs.Entering.{cell-fine, refused}
 use Rattle.extents.specs.Entries.{written_through_maps}
-use Rattle.std.proofs.Common.{false, refl, arith, not, ap}
+use Rattle.std.proofs.Common.{false, arith, not, ap}
 use Rattle.extents.specs.declared.Answer.TheVariants.{Done}
-use Rattle.extents_pair.proofs.Pairing.{two-told}
 use Rattle.extents.proofs.lawful.write_through.Goals as goal
 
 pub returns-then-number-lt1 : goal.returns-then-number-lt1
@@ -31,21 +30,6 @@ returns-then-start-length c =
     )) (omega (arith, c.if-number-gt-ROWS.false)) (omega (arith, c.if-start-length.true)))
     (omega arith)
 
-pub overflow_add-end : goal.overflow_add-end
-overflow_add-end c = omega (arith, c.if-start-length.false)
-
-pub overflow_mul-cell : goal.overflow_mul-cell
-overflow_mul-cell c = omega (arith, c.if-number-gt-ROWS.false)
-
-pub own_runs-own-requires : goal.own_runs-own-requires
-own_runs-own-requires c =
-    let a = c.args in
-    let t = two-told a.space a.view a.below a.maps.now c.requires in
-    record { map_inside = t.view_within; lawful_maps = t.view-law }
-
-pub fits-requires : goal.fits-requires
-fits-requires c = record { lawful_maps = c.requires; known_mode = (refl, omega arith, c.own_runs-own.ensures) }
-
 pub returns-then-not-fits : goal.returns-then-not-fits
 returns-then-not-fits c =
     let a = c.args in
@@ -56,9 +40,6 @@ returns-then-not-fits c =
     )) (omega (arith, c.if-number-gt-ROWS.false)) (omega (arith, c.if-start-length.false))
     (write-through-short a.space a.view a.below a.maps.now a.start a.length a.number (cell-zero
     a.number) c.fits.ensures (ap not c.if-not-fits.true))) (omega arith)
-
-pub fits-requires-2 : goal.fits-requires-2
-fits-requires-2 c = record { lawful_maps = c.requires; known_mode = (refl, omega arith, c.own_runs-own.ensures) }
 
 pub returns-then-not-fits-2 : goal.returns-then-not-fits-2
 returns-then-not-fits-2 c =
@@ -89,9 +70,6 @@ share-requires c =
           a.start a.length a.number (cell-zero a.number) c.fits.ensures (ap not c.if-not-fits.false)) (mark-published-enough a.space a.view
           a.below a.maps.now a.start a.length a.number (cell-zero a.number) c.fits-2.ensures (ap not c.if-not-fits-2.false));
     }
-
-pub mark_published-requires : goal.mark_published-requires
-mark_published-requires c = c.share.ensures.lawful_after
 
 pub lay-requires : goal.lay-requires
 lay-requires c =

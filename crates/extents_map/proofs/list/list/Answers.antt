@@ -1,8 +1,7 @@
 -- `extents_map::list::list` meets its contract.
-use Rattle.std.proofs.Common.{arith, refl, ◌∙◌}
+use Rattle.std.proofs.Common.{arith, refl}
 use Rattle.extents_meaning.specs.Runs.{pieces_of}
 use Rattle.extents_map.proofs.Listing.{list_start, list_room, list_done, values_of, look_further, look_room, look_next}
-use Rattle.extents_map.proofs.Looking.{passing-part}
 use Rattle.extents_map.proofs.list.list.Goals as goal
 
 pub loop-x-init : goal.loop-x-init
@@ -10,9 +9,6 @@ unfolding pieces_of
 loop-x-init c =
     let a = c.args in
     (list_start (values_of a.map.now) a.from a.to a.out.now c.requires.lawful_map.1 c.requires.list_room, c.seek-i.ensures)
-
-pub see-s-requires : goal.see-s-requires
-see-s-requires c = passing-part c.loop-x.invariant.1 (omega arith)
 
 pub turn-hand-requires : goal.turn-hand-requires
 turn-hand-requires c = look_room c.loop-x.invariant c.loop-x-test.true (omega arith) c.see-s.ensures
@@ -25,9 +21,6 @@ loop-x-preserved c = look_next c.loop-x.invariant c.loop-x-test.true (omega arit
 
 pub turn-last-requires : goal.turn-last-requires
 turn-last-requires c = list_room c.loop-x.invariant.0 (λ h. absurd (omega (arith, c.loop-x-test.false)))
-
-pub shape_of-out : goal.shape_of-out
-shape_of-out c = c.turn-last.auto.out ∙ c.loop-x.invariant.0.size
 
 pub returns : goal.returns
 unfolding pieces_of

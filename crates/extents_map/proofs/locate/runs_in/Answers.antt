@@ -7,12 +7,6 @@ use Rattle.extents_map.proofs.locate.runs_in.Goals as goal
 pub loop-lo-init : goal.loop-lo-init
 loop-lo-init c = let m = lawful-map c.args.map.now c.requires in (omega arith, omega (arith, m.fit), omega arith)
 
-pub middle-mid-requires : goal.middle-mid-requires
-middle-mid-requires c = c.loop-lo-test.true
-
-pub length_of-requires : goal.length_of-requires
-length_of-requires c = omega (arith, (lawful-map c.args.map.now c.requires).fours-in, c.middle-mid.ensures.1)
-
 pub loop-lo-preserved-then-length_of-eq0 : goal.loop-lo-preserved-then-length_of-eq0
 loop-lo-preserved-then-length_of-eq0 c =
     let none = count_none c.args.map.now c.requires _ (sym c.length_of.ensures ∙ c.if-length_of-eq0.true) in

@@ -2,16 +2,7 @@
 use Rattle.std.proofs.Common.{arith}
 use Rattle.extents_meaning.proofs.Points.{begins-most}
 use Rattle.extents_map.proofs.Counting.{count_most, count-end, further, count_next}
-use Rattle.extents_map.proofs.Looking.{passing-part}
 use Rattle.extents_map.proofs.scan.count.Goals as goal
-
-pub loop-x-init : goal.loop-x-init
-loop-x-init c = record { sum = omega arith; view = c.seek-i.ensures; under = c.seek-j.ensures }
-
-pub see_both-s-requires : goal.see_both-s-requires
-see_both-s-requires c =
-    let k = c.loop-x.invariant in
-    (passing-part k.view (omega arith), passing-part k.under (omega arith), c.requires.rising.1)
 
 pub overflow_add-n : goal.overflow_add-n
 overflow_add-n c = omega (arith, count_most c.loop-x.invariant, begins-most c.mixed-here.result c.loop-x.last, c.begins-n.ensures)

@@ -1,12 +1,8 @@
 -- `extents_map::scan::has_no_marks` meets its contract.
 use Rattle.std.proofs.Common.{◌-◌, ◌%◌, arith, ◌≡◌, sym, ◌∙◌, eq-eqb, ne_eqb}
-use native.Mathlib.Nat.{sub-zero}
 use Rattle.extents_meaning.specs.Maps.{space_in, runs_in, no_marks}
 use Rattle.extents_meaning.proofs.Trips.{run_at_lem, read-stop, read-on}
 use Rattle.extents_map.proofs.scan.has_no_marks.Goals as goal
-
-pub loop-i-init : goal.loop-i-init
-loop-i-init c = rw sub-zero
 
 pub returns-then-length_of-eq0 : goal.returns-then-length_of-eq0
 unfolding no_marks

@@ -1,9 +1,8 @@
 -- `extents_map::scan::is_lawful` meets its contract.
-use Rattle.std.proofs.Common.{◌-◌, arith, ◌≡◌, sym, ◌∙◌, eq-eqb, ne_eqb, not, ap}
+use Rattle.std.proofs.Common.{◌-◌, arith, ◌≡◌, sym, ◌∙◌, eq-eqb, ne_eqb}
 use native.Mathlib.Nat.{sub-zero}
 use Rattle.extents_meaning.specs.Maps.{space_in, lawful_from, lawful}
 use Rattle.extents_meaning.proofs.Trips.{scan_stop, scan_bad, scan_on}
-use Rattle.extents_map.proofs.Scanning.{may_range}
 use Rattle.extents_map.proofs.scan.is_lawful.Goals as goal
 
 pub returns-then-map-ne0 : goal.returns-then-map-ne0
@@ -23,18 +22,6 @@ pub returns-then-not-may_stand : goal.returns-then-not-may_stand
 returns-then-not-may_stand c =
     let bad = sym c.may_stand.ensures ∙ c.if-not-may_stand.true in
     sym (c.loop-i.invariant ∙ scan_bad _ _ _ c.loop-i-test.true _ _ (λ z. c.if-length_of-eq0.false (c.length_of.ensures ∙ z)) bad)
-
-pub end_of-end-requires : goal.end_of-end-requires
-end_of-end-requires c =
-    let l = c.loop-i in
-    let m = may_range c.args.map.now l.i l.end l.cell c.may_stand.ensures (ap not c.if-not-may_stand.false) in
-    (omega (arith, c.loop-i-test.true), omega arith)
-
-pub cell_of-cell-requires : goal.cell_of-cell-requires
-cell_of-cell-requires c =
-    let l = c.loop-i in
-    let m = may_range c.args.map.now l.i l.end l.cell c.may_stand.ensures (ap not c.if-not-may_stand.false) in
-    (omega (arith, c.loop-i-test.true), omega arith)
 
 pub loop-i-preserved : goal.loop-i-preserved
 loop-i-preserved c =

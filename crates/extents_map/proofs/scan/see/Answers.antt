@@ -1,10 +1,7 @@
 -- `extents_map::scan::see` meets its contract.
 use Rattle.std.proofs.Common.{arith}
-use Rattle.extents_map.proofs.Looking.{passing-start, look_stop, look_end, look-cell, look-inside, look-before, look_in, look-on}
+use Rattle.extents_map.proofs.Looking.{look_stop, look_end, look-cell, look-inside, look-before, look_in, look-on}
 use Rattle.extents_map.proofs.scan.see.Goals as goal
-
-pub loop-i-init : goal.loop-i-init
-loop-i-init c = (passing-start c.requires, c.requires.below)
 
 pub returns-then-length-eq0 : goal.returns-then-length-eq0
 returns-then-length-eq0 c = look_stop c.loop-i.invariant.0 c.loop-i.invariant.1 c.length_of-length.ensures c.if-length-eq0.true
