@@ -2,7 +2,6 @@
 use Rattle.std.specs.Prelude.{ℕ, ◌+◌, ◌*◌, cond, List, [], ◌∷◌, ◌++◌, length, drop, leb}
 use Rattle.models.specs.Models.{POSIX, COMMIT_MODEL, SESSION, MPI_IO}
 use Rattle.print.specs.Decimal.{decimal_of}
-use Rattle.rows.specs.declared.Row.{Row}
 use Rattle.trace.specs.Questions.{Outcome, refused, accepted, check_trace}
 use Rattle.races_meaning.specs.Races.{Verdict, free, racing, verdict_of}
 

@@ -1,5 +1,5 @@
 -- Laws of packing: what the code packs is the definition's number, and every answer is read back from its number.
-use Rattle.std.proofs.Common.{ℕ, ◌+◌, ◌*◌, ◌/◌, ◌%◌, ◌<◌, arith, ◌≡◌, refl, sym, ap, subst, ◌∙◌, Bool, true, false, cond, List, length, ne_eqb, eqb-true}
+use Rattle.std.proofs.Common.{ℕ, ◌+◌, ◌*◌, ◌/◌, ◌%◌, ◌<◌, arith, ◌≡◌, refl, sym, ap, ◌∙◌, Bool, true, false, cond, List, length, ne_eqb, eqb-true}
 use lib.Dec.{eqb}
 use Rattle.rows.specs.Questions.{first_no}
 use Rattle.rows.specs.Rows.{rows_in}

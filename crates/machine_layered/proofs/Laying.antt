@@ -1,5 +1,5 @@
 -- What a row answers and leaves, from what the entries of the map of pieces answer and leave.
-use Rattle.std.proofs.Common.{ℕ, suc, ◌+◌, ◌*◌, ◌-◌, ◌/◌, ◌≤◌, ◌<◌, add-one, mul-le-mul_left, mul-le-mul_right, arith, ◌≡◌, refl, sym, ap, ◌∙◌, Bool, true, false, cond, not, ◌&&◌, List, [], ◌∷◌, ◌++◌, length, take, drop, lt-ltb, le-ltb, le-leb, leb-true, ne_eqb, eqb-true}
+use Rattle.std.proofs.Common.{ℕ, suc, ◌+◌, ◌*◌, ◌-◌, ◌/◌, ◌≤◌, ◌<◌, add-one, mul-le-mul_left, mul-le-mul_right, arith, ◌≡◌, refl, sym, ap, ◌∙◌, Bool, true, false, cond, ◌&&◌, List, [], ◌∷◌, ◌++◌, length, take, drop, lt-ltb, le-ltb, le-leb, leb-true, ne_eqb, eqb-true}
 use mathlib.Core.Bool.{and-false, and_comm}
 use lib.Dec.{leb, ltb, eqb}
 use borrow.Author.Tests.{lt-leb, eqb-false}
@@ -18,7 +18,7 @@ use Rattle.extents_meaning.proofs.Sides.{with_same}
 use Rattle.machine_meaning.specs.Layers.{Layers, after_row, pieces_read}
 use Rattle.machine_meaning.specs.States.{Header, maps_length, lawful_state, layers_in, layers_to, layers_fit, plain_fits}
 use Rattle.rows.specs.Counting.{all_below}
-use Rattle.machine_meaning.specs.Steps.{StepAnswer, done, listed, row_asked, room_asked, answered, decided, step_of}
+use Rattle.machine_meaning.specs.Steps.{done, listed, row_asked, room_asked, answered, decided, step_of}
 use Rattle.machine_meaning.proofs.Slices.{Alike, alike-fit, alike-to}
 use Rattle.machine_meaning.proofs.Lawful.{here-fit, to_same}
 use Rattle.rows.proofs.Asking.{AllYes, all_yes, first-no, yes-behind}

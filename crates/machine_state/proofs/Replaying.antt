@@ -7,9 +7,8 @@ use Rattle.rows.specs.declared.Row.{Row}
 use Rattle.rows.specs.Questions.{first_no}
 use Rattle.rows.specs.Rows.{row_in}
 use Rattle.rows.proofs.Bools.{and_out}
-use Rattle.machine_meaning.specs.Steps.{StepAnswer, refusing, done, listed, Step, answered}
+use Rattle.machine_meaning.specs.Steps.{StepAnswer, refusing, done, listed, Step}
 use Rattle.extents.specs.declared.Answer as extents
-use Rattle.extents.specs.declared.Answer.TheVariants.{Done}
 use Rattle.machine_state.specs.Answers.{answer_of, refusal_of, count_of, Steps, put_to}
 use Rattle.machine_state.proofs.Keeping.{Keeps, Preserves, put-preserves}
 use Rattle.machine_state.specs.Replays.{Replay, refusal_in, count_in, tried, row_passed, stopped, onward, after, replay_questions, started, replay_by, Replays}

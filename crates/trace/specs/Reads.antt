@@ -1,7 +1,7 @@
 -- The contracts of the parts of the reading: what each answers, put together from the questions. specs/Questions.antt says what the whole
 -- call answers; the crate `trace_fields` defines what the fields of one record answer.
 use Rattle.std.specs.Prelude.{ℕ, suc, Bool, cond, ◌&&◌, List, [], ◌++◌, length, eqb}
-use Rattle.csv_records.specs.Reading.{records_from, Records}
+use Rattle.csv_records.specs.Reading.{records_from}
 use Rattle.trace_numbers.specs.declared.ReadRow.{ReadRow}
 pub use Rattle.trace_numbers.specs.Numbers.{fields_of, number_where}
 pub use Rattle.trace_fields.specs.Reads.{judged_by}

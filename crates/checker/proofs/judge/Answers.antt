@@ -1,12 +1,6 @@
 -- `checker::judge` meets its contract.
-use Rattle.checker.proofs.Verdicts.{decides-refused, decides}
+use Rattle.checker.proofs.Verdicts.{decides}
 use Rattle.checker.proofs.judge.Goals as goal
-
-pub returns-in-Refused : goal.returns-in-Refused
-returns-in-Refused c =
-    let a = c.args in
-    decides-refused a.text.now a.call.header a.call.model a.call.row_limit a.call.process_limit a.call.byte_limit a.rows.now a.counts.now
-    c.check_trace.ensures c.in-Refused.is
 
 pub returns-in-Free : goal.returns-in-Free
 returns-in-Free c =

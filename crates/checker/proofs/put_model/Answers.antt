@@ -1,6 +1,6 @@
 -- `checker::put_model` meets its contract.
 use Rattle.std.proofs.Common.{length}
-use Rattle.checker.proofs.Reports.{free-line, race-room, race-line, no_refusal}
+use Rattle.checker.proofs.Reports.{free-line, race-room, race-line}
 use Rattle.checker.proofs.put_model.Goals as goal
 
 pub put_pair-requires : goal.put_pair-requires
@@ -20,10 +20,3 @@ returns-in-Race c =
     let both = let a = c.args in
     race-line a.out.now a.at a.name.now a.rows.now a.n a.model (length a.counts.now) (c.requires.line_room, c.requires.asked) (c.put-behind.ensures.answer, c.put-behind.ensures.left)
     (c.put-word.ensures.answer, c.put-word.ensures.left) c.verdict.ensures.answer c.in-Race.is (c.put_pair.ensures.answer, c.put_pair.ensures.out_after) in record { answer = both.0; out_after = both.1 }
-
-pub returns-in-Refused : goal.returns-in-Refused
-returns-in-Refused c =
-    let a = c.args in
-    absurd
-    (no_refusal a.out.now a.at a.name.now a.rows.now a.n a.model (length a.counts.now) (c.requires.line_room, c.requires.asked) (c.put-behind.ensures.answer, c.put-behind.ensures.left)
-    c.verdict.ensures.answer c.in-Refused.is)

@@ -1,5 +1,5 @@
 -- `checker::put_models` meets its contract.
-use Rattle.std.proofs.Common.{◌∙◌, length}
+use Rattle.std.proofs.Common.{length}
 use Rattle.checker.proofs.Reports.{first-asks, second-asks, third-asks, fourth-asks, lines_laid}
 use Rattle.checker.proofs.put_models.Goals as goal
 
@@ -28,14 +28,6 @@ put_model-requires c =
     (c.put_model-second.ensures.answer, c.put_model-second.ensures.out_after) c.put_model-second.auto.counts
     (c.put_model-third.ensures.answer, c.put_model-third.ensures.out_after) c.put_model-third.auto.counts
     (c.put_model-fourth.ensures.answer, c.put_model-fourth.ensures.out_after) c.put_model-fourth.auto.counts in record { line_room = both.0; asked = both.1 }
-
-pub shape_of-out : goal.shape_of-out
-shape_of-out c = c.put_model.auto.out ∙ c.put_model-fourth.auto.out ∙ c.put_model-third.auto.out ∙ c.put_model-second.auto.out ∙ c.put-first.auto.out
-
-pub shape_of-counts : goal.shape_of-counts
-shape_of-counts c =
-    c.put_model.auto.counts ∙ c.put_model-fourth.auto.counts
-    ∙ c.put_model-third.auto.counts ∙ c.put_model-second.auto.counts
 
 pub returns : goal.returns
 returns c =

@@ -1,14 +1,11 @@
 -- `machine_layered::is_state` meets its contract.
-use Rattle.machine_layered.proofs.Laying.{limit-fits, no_model, no_limit, no_file, no-slice, no_first, by_views}
-use Rattle.std.proofs.Common.{◌*◌, length-take-le, arith, sym, ◌∙◌}
+use Rattle.machine_layered.proofs.Laying.{no_model, no_limit, no_file, no-slice, no_first, by_views}
+use Rattle.std.proofs.Common.{sym, ◌∙◌}
 use Rattle.machine_state.specs.Answers.{header_of}
 use Rattle.machine_layered.proofs.is_state.Goals as goal
 
 pub returns-then-model-ge-MODELS : goal.returns-then-model-ge-MODELS
 returns-then-model-ge-MODELS c = let a = c.args in no_model (header_of a.machine) a.maps.now c.if-model-ge-MODELS.true
-
-pub is_process_limit-requires : goal.is_process_limit-requires
-is_process_limit-requires c = tt
 
 pub returns-then-not-is_process_limit : goal.returns-then-not-is_process_limit
 returns-then-not-is_process_limit c =
@@ -25,12 +22,6 @@ returns-then-file-ge-FILES c =
     let limit = sym c.is_process_limit.ensures ∙ c.if-not-is_process_limit.false in
     no_file h xs c.if-model-ge-MODELS.false limit c.if-file-ge-FILES.true
 
-pub overflow_mul-space : goal.overflow_mul-space
-overflow_mul-space c =
-    let m = c.args.machine in
-    let limit = sym c.is_process_limit.ensures ∙ c.if-not-is_process_limit.false in
-    omega (arith, limit-fits m.map_space m.process_limit (omega arith) limit)
-
 pub returns-then-maps-space : goal.returns-then-maps-space
 returns-then-maps-space c =
     let a = c.args in
@@ -39,14 +30,6 @@ returns-then-maps-space c =
     let limit = sym c.is_process_limit.ensures ∙ c.if-not-is_process_limit.false in
     no-slice h xs c.if-model-ge-MODELS.false limit c.if-file-ge-FILES.false c.if-maps-space.true
 
-pub slice_bounds-is_published-end : goal.slice_bounds-is_published-end
-slice_bounds-is_published-end c =
-    let a = c.args in
-    sym (length-take-le (4 * a.machine.map_space) a.maps.now (omega (arith, c.if-maps-space.false)))
-
-pub is_published-requires : goal.is_published-requires
-is_published-requires c = tt
-
 pub returns-then-not-is_published : goal.returns-then-not-is_published
 returns-then-not-is_published c =
     let a = c.args in
@@ -54,9 +37,6 @@ returns-then-not-is_published c =
     let xs = a.maps.now in
     let limit = sym c.is_process_limit.ensures ∙ c.if-not-is_process_limit.false in
     no_first h xs c.if-model-ge-MODELS.false limit c.if-file-ge-FILES.false c.if-maps-space.false (sym c.is_published.ensures ∙ c.if-not-is_published.true)
-
-pub are_lawful-requires : goal.are_lawful-requires
-are_lawful-requires c = omega (arith, c.if-maps-space.false)
 
 pub returns : goal.returns
 returns c =

@@ -1,17 +1,10 @@
 -- `machine_layered::make` meets its contract.
-use Rattle.std.proofs.Common.{arith, ◌+◌, ◌*◌, ◌≤◌, ◌≡◌, sym, ◌∙◌, length, length-take-le, mul-le-mul}
+use Rattle.std.proofs.Common.{arith, ◌+◌, ◌*◌, ◌≤◌, ◌≡◌, sym, ◌∙◌, length}
 use Rattle.rows.proofs.Zeros.{first-cleared}
 use Rattle.machine_state.specs.Answers.{header_of}
 use Rattle.machine_meaning.specs.States.{maps_length}
 use Rattle.machine_state.proofs.Making.{making_layered, short-slice, past-limits, past-files, all-zeros, model-past, processes-past, within-limits}
 use Rattle.machine_layered.proofs.make.Goals as goal
-
-pub overflow_mul-runs : goal.overflow_mul-runs
-overflow_mul-runs c =
-    let m = c.args.machine in
-    let s : m.map_space ≤ 4294967295 = omega arith in
-    let p : m.process_limit + 1 ≤ 4294967296 = omega arith in
-    record { fits = omega (arith, mul-le-mul s p) }
 
 pub returns-then-maps-runs : goal.returns-then-maps-runs
 returns-then-maps-runs c =
@@ -24,9 +17,6 @@ returns-then-model-ge-MODELS c =
     past-limits (making_layered (header_of a.machine) a.maps.now) (omega (arith, c.if-maps-runs.false))
     (model-past (header_of a.machine) c.if-model-ge-MODELS.true) in record { answer = both.0; left = both.1 }
 
-pub is_process_limit-requires : goal.is_process_limit-requires
-is_process_limit-requires c = tt
-
 pub returns-then-not-is_process_limit : goal.returns-then-not-is_process_limit
 returns-then-not-is_process_limit c =
     let both = let a = c.args in
@@ -38,18 +28,6 @@ returns-then-file-ge-FILES c =
     let both = let a = c.args in
     past-files (making_layered (header_of a.machine) a.maps.now) (omega (arith, c.if-maps-runs.false))
     (within-limits (header_of a.machine) c.if-model-ge-MODELS.false (sym c.is_process_limit.ensures ∙ c.if-not-is_process_limit.false)) c.if-file-ge-FILES.true in record { answer = both.0; left = both.1 }
-
-pub overflow_mul-end : goal.overflow_mul-end
-overflow_mul-end c = record { fits = omega (arith, c.if-maps-runs.false) }
-
-pub slice_bounds-clear-end : goal.slice_bounds-clear-end
-slice_bounds-clear-end c = omega (arith, c.if-maps-runs.false)
-
-pub slice_bounds-clear-end-2 : goal.slice_bounds-clear-end-2
-slice_bounds-clear-end-2 c =
-    let a = c.args in
-    let room : a.machine.map_space * (a.machine.process_limit + 1) * 4 ≤ length a.maps.now = omega (arith, c.if-maps-runs.false) in
-    sym (length-take-le _ a.maps.now room)
 
 pub returns : goal.returns
 returns c =

@@ -5,17 +5,11 @@ use Rattle.machine_meaning.specs.Steps.{step_of}
 use Rattle.machine_state.specs.Answers.{header_of}
 use Rattle.machine_layered.proofs.put.Goals as goal
 
-pub is_of-requires : goal.is_of-requires
-is_of-requires c = tt
-
 pub returns-then-not-is_of : goal.returns-then-not-is_of
 returns-then-not-is_of c =
     let a = c.args in
     put_other (step_of (header_of a.machine)) a.machine.file a.maps.now a.row a.number a.out.now
     (sym c.is_of.ensures ∙ c.if-not-is_of.true)
-
-pub advance-requires : goal.advance-requires
-advance-requires c = c.requires
 
 pub returns : goal.returns
 returns c =

@@ -3,9 +3,6 @@ use Rattle.machine_layered.proofs.Laying.{ready-room, ready-two, ready-own, read
 use Rattle.std.proofs.Common.{arith, sym, ◌∙◌}
 use Rattle.machine_layered.proofs.read.Goals as goal
 
-pub is_refresh-requires : goal.is_refresh-requires
-is_refresh-requires c = tt
-
 pub read-requires : goal.read-requires
 read-requires c = ready-two c.requires.0
 

@@ -3,12 +3,6 @@ use Rattle.machine_layered.proofs.Laying.{ready-two, share-both, share-publish, 
 use Rattle.std.proofs.Common.{sym, ◌∙◌}
 use Rattle.machine_layered.proofs.share.Goals as goal
 
-pub is_publish-requires : goal.is_publish-requires
-is_publish-requires c = tt
-
-pub is_refresh-requires : goal.is_refresh-requires
-is_refresh-requires c = tt
-
 pub sync-requires : goal.sync-requires
 sync-requires c = ready-two c.requires.0
 
@@ -26,9 +20,6 @@ returns-then-is_publish c =
     let p = c.requires in
     let e = c.publish.ensures in
     share-publish p.0 p.1 (sym c.is_publish.ensures ∙ c.if-is_publish.true) (sym c.is_refresh.ensures ∙ c.if-is_refresh.false) e.answer e.left
-
-pub is_refresh-requires-2 : goal.is_refresh-requires-2
-is_refresh-requires-2 c = tt
 
 pub refresh-requires : goal.refresh-requires
 refresh-requires c = ready-two c.requires.0

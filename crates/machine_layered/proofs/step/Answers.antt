@@ -4,17 +4,8 @@ use Rattle.machine_state.specs.Answers.{header_of}
 use Rattle.machine_layered.proofs.Laying.{unlawful-step}
 use Rattle.machine_layered.proofs.step.Goals as goal
 
-pub is_state-requires : goal.is_state-requires
-is_state-requires c = tt
-
 pub returns-then-not-is_state : goal.returns-then-not-is_state
 returns-then-not-is_state c =
     let a = c.args in
     unlawful-step (header_of a.machine) a.maps.now a.row a.number a.out.now
     (sym c.is_state.ensures ∙ c.if-not-is_state.true)
-
-pub advance-requires : goal.advance-requires
-advance-requires c = sym c.is_state.ensures ∙ c.if-not-is_state.false
-
-pub returns : goal.returns
-returns c = c.advance.ensures

@@ -3,9 +3,6 @@ use Rattle.machine_layered.proofs.Laying.{ready-two, ready-own, ready-room, writ
 use Rattle.std.proofs.Common.{arith, sym, ◌∙◌}
 use Rattle.machine_layered.proofs.write.Goals as goal
 
-pub is_publish-requires : goal.is_publish-requires
-is_publish-requires c = tt
-
 pub write_through-requires : goal.write_through-requires
 write_through-requires c = ready-two c.requires.0
 

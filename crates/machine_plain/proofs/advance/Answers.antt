@@ -4,9 +4,6 @@ use Rattle.machine_state.specs.Answers.{header_of}
 use Rattle.machine_plain.proofs.Plainly.{map_law, plain_in_lem, map_length, plain-asked, plain-read, plain-write, plain_other}
 use Rattle.machine_plain.proofs.advance.Goals as goal
 
-pub ask_row-asked-requires : goal.ask_row-asked-requires
-ask_row-asked-requires c = tt
-
 pub returns-then-asked-ne0 : goal.returns-then-asked-ne0
 returns-then-asked-ne0 c =
     let a = c.args in

@@ -1,11 +1,8 @@
 -- `machine_plain::is_plain` meets its contract.
-use Rattle.std.proofs.Common.{arith, length-take-le, sym, ◌∙◌}
+use Rattle.std.proofs.Common.{sym, ◌∙◌}
 use Rattle.machine_state.specs.Answers.{header_of}
 use Rattle.machine_plain.proofs.Plainly.{no_limit, no_file, no_room, one_map}
 use Rattle.machine_plain.proofs.is_plain.Goals as goal
-
-pub is_process_limit-requires : goal.is_process_limit-requires
-is_process_limit-requires c = tt
 
 pub returns-then-not-is_process_limit : goal.returns-then-not-is_process_limit
 returns-then-not-is_process_limit c =
@@ -21,12 +18,6 @@ pub returns-then-map-space : goal.returns-then-map-space
 returns-then-map-space c =
     let a = c.args in
     no_room (header_of a.plain) a.map.now (sym c.is_process_limit.ensures ∙ c.if-not-is_process_limit.false) c.if-file-ge-FILES.false c.if-map-space.true
-
-pub slice_bounds-is_published-end : goal.slice_bounds-is_published-end
-slice_bounds-is_published-end c = sym (length-take-le _ c.args.map.now (omega (arith, c.if-map-space.false)))
-
-pub is_published-requires : goal.is_published-requires
-is_published-requires c = tt
 
 pub returns : goal.returns
 returns c =

@@ -1,5 +1,5 @@
 -- `machine_plain::make` meets its contract.
-use Rattle.std.proofs.Common.{arith, ◌*◌, ◌≤◌, ◌≡◌, sym, ◌∙◌, length, length-take-le}
+use Rattle.std.proofs.Common.{arith, ◌*◌, ◌≤◌, ◌≡◌, sym, ◌∙◌, length}
 use Rattle.rows.proofs.Zeros.{first-cleared}
 use Rattle.machine_state.specs.Answers.{header_of}
 use Rattle.machine_state.proofs.Making.{making_plain, short-slice, past-limits, past-files, all-zeros}
@@ -10,9 +10,6 @@ returns-then-map-space c =
     let both = let a = c.args in
     short-slice (making_plain (header_of a.plain) a.map.now) (omega (arith, c.if-map-space.true)) in record { answer = both.0; left = both.1 }
 
-pub is_process_limit-requires : goal.is_process_limit-requires
-is_process_limit-requires c = tt
-
 pub returns-then-not-is_process_limit : goal.returns-then-not-is_process_limit
 returns-then-not-is_process_limit c =
     let both = let a = c.args in
@@ -22,15 +19,6 @@ pub returns-then-file-ge-FILES : goal.returns-then-file-ge-FILES
 returns-then-file-ge-FILES c =
     let both = let a = c.args in
     past-files (making_plain (header_of a.plain) a.map.now) (omega (arith, c.if-map-space.false)) (sym c.is_process_limit.ensures ∙ c.if-not-is_process_limit.false) c.if-file-ge-FILES.true in record { answer = both.0; left = both.1 }
-
-pub slice_bounds-clear-end : goal.slice_bounds-clear-end
-slice_bounds-clear-end c = omega (arith, c.if-map-space.false)
-
-pub slice_bounds-clear-end-2 : goal.slice_bounds-clear-end-2
-slice_bounds-clear-end-2 c =
-    let a = c.args in
-    let room : a.plain.map_space * 4 ≤ length a.map.now = omega (arith, c.if-map-space.false) in
-    sym (length-take-le _ a.map.now room)
 
 pub returns : goal.returns
 returns c =

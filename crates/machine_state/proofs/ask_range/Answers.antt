@@ -4,9 +4,6 @@ use Rattle.machine_state.specs.Answers.{header_of}
 use Rattle.machine_state.proofs.Questions.{range-before, end-past, range-asked}
 use Rattle.machine_state.proofs.ask_range.Goals as goal
 
-pub ask_file-asked-requires : goal.ask_file-asked-requires
-ask_file-asked-requires c = tt
-
 pub returns-then-asked-ne0 : goal.returns-then-asked-ne0
 returns-then-asked-ne0 c =
     let a = c.args in

@@ -4,12 +4,6 @@ use Rattle.machine_state.specs.Answers.{header_of}
 use Rattle.machine_state.proofs.Questions.{asks_none, asks-file, asks-range}
 use Rattle.machine_state.proofs.ask_row.Goals as goal
 
-pub ask_range-requires : goal.ask_range-requires
-ask_range-requires c = tt
-
-pub ask_file-requires : goal.ask_file-requires
-ask_file-requires c = tt
-
 pub returns-in-0 : goal.returns-in-0
 returns-in-0 c =
     let a = c.args in

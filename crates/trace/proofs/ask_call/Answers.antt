@@ -1,15 +1,11 @@
 -- `trace::ask_call` meets its contract.
 use Rattle.trace.proofs.Asking.{few-rows, few-counts, bad-model, no_rows, many-rows, bad-processes, bad-header, all_asked}
-use Rattle.rows.proofs.Products.{product}
 use Rattle.rows.proofs.Bools.{refused, passed}
 use Rattle.std.proofs.Common.{not, ap}
 use Rattle.trace.proofs.ask_call.Goals as goal
 
 pub returns-then-rows_len-row_limit : goal.returns-then-rows_len-row_limit
 returns-then-rows_len-row_limit c = few-rows _ _ _ _ _ _ c.if-rows_len-row_limit.true
-
-pub overflow_mul-row_limit-2 : goal.overflow_mul-row_limit-2
-overflow_mul-row_limit-2 c = record { fits = product c.ranges.row_limit.fits c.ranges.process_limit.fits }
 
 pub returns-then-counts_len-row_limit : goal.returns-then-counts_len-row_limit
 returns-then-counts_len-row_limit c = few-counts _ _ _ _ _ _ c.if-rows_len-row_limit.false c.if-counts_len-row_limit.true
@@ -24,9 +20,6 @@ pub returns-then-row_limit-gt-ROWS : goal.returns-then-row_limit-gt-ROWS
 returns-then-row_limit-gt-ROWS c =
     many-rows _ _ _ _ _ _ c.if-rows_len-row_limit.false c.if-counts_len-row_limit.false c.if-model-ge-MODELS.false
     c.if-row_limit-lt1.false c.if-row_limit-gt-ROWS.true
-
-pub is_process_limit-requires : goal.is_process_limit-requires
-is_process_limit-requires c = tt
 
 pub returns-then-not-is_process_limit : goal.returns-then-not-is_process_limit
 returns-then-not-is_process_limit c =

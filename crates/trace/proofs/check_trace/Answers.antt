@@ -21,32 +21,6 @@ read_trace-requires c =
     (sym c.ask_call-no.ensures ∙ c.if-no-ne0.false) in
     (l.few-rows, l.rows_have_room, l.few-processes)
 
-pub overflow_mul-end : goal.overflow_mul-end
-overflow_mul-end c =
-    let a = c.args in
-    let p = call-passed a.text.now a.call.header a.call.model a.call.row_limit a.call.process_limit a.call.byte_limit (length a.rows.now)
-    (length a.counts.now) c.ask_call-no.ensures c.if-no-ne0.false in
-    let o = check_trace a.text.now a.call.header a.call.model a.call.row_limit a.call.process_limit a.call.byte_limit (length a.rows.now)
-    (length a.counts.now) in
-    let ys = c.read_trace.new.rows in
-    let t = accepted-told o (sym c.in-Accepted.is ∙ c.read_trace.ensures.answer
-    ∙ ap checked_of (sym p)) in
-    let h : Holds o a.rows.now ys = rw p c.read_trace.ensures.held in
-    omega (arith, rows_within a.rows.now a.counts.now ys t h)
-
-pub offset_bounds-rows-end : goal.offset_bounds-rows-end
-offset_bounds-rows-end c =
-    let a = c.args in
-    let p = call-passed a.text.now a.call.header a.call.model a.call.row_limit a.call.process_limit a.call.byte_limit (length a.rows.now)
-    (length a.counts.now) c.ask_call-no.ensures c.if-no-ne0.false in
-    let o = check_trace a.text.now a.call.header a.call.model a.call.row_limit a.call.process_limit a.call.byte_limit (length a.rows.now)
-    (length a.counts.now) in
-    let ys = c.read_trace.new.rows in
-    let t = accepted-told o (sym c.in-Accepted.is ∙ c.read_trace.ensures.answer
-    ∙ ap checked_of (sym p)) in
-    let h : Holds o a.rows.now ys = rw p c.read_trace.ensures.held in
-    omega (arith, rows_within a.rows.now a.counts.now ys t h)
-
 pub slice_bounds-clear-count : goal.slice_bounds-clear-count
 slice_bounds-clear-count c =
     let a = c.args in

@@ -1,12 +1,8 @@
 -- `trace::is_header` meets its contract.
-use Rattle.trace.proofs.Asking.{Named, not_six, none_named, named, other_name, last_name}
-use Rattle.std.proofs.Common.{length, ◌≡◌, refl, arith, ℕ}
+use Rattle.trace.proofs.Asking.{Named, none_named, named, other_name, last_name}
+use Rattle.std.proofs.Common.{length, ◌≡◌, refl, arith}
 use Rattle.trace.proofs.is_header.Goals as goal
-use Rattle.trace.proofs.is_header.Goals.{Else-count-ne-FIELDS, Else-not-is_word, Else-not-is_word-2, Else-not-is_word-3, Else-not-is_word-4, Else-not-is_word-5, Start}
-
--- the record has the first k names
-abbrev Here : (c : Start) → ℕ → Type 0
-Here c k = Named c.args.text.now c.args.count c.args.spans k
+use Rattle.trace.proofs.is_header.Goals.{Else-count-ne-FIELDS, Else-not-is_word, Else-not-is_word-2, Else-not-is_word-3, Else-not-is_word-4, Else-not-is_word-5}
 
 -- behind each test the record has one name more
 here-0 : (c : Else-count-ne-FIELDS) → (Named c.args.text.now c.args.count c.args.spans 0)
@@ -30,11 +26,6 @@ here-4 c = named ((let it : (Named c.args.text.now c.args.count c.args.spans 3) 
 here-5 : (c : Else-not-is_word-5) →
     (Named c.args.text.now c.args.count c.args.spans 5)
 here-5 c = named ((let it : (Named c.args.text.now c.args.count c.args.spans 4) = named ((let it : (Named c.args.text.now c.args.count c.args.spans 3) = named ((let it : (Named c.args.text.now c.args.count c.args.spans 2) = named ((let it : (Named c.args.text.now c.args.count c.args.spans 1) = named ((let it : (Named c.args.text.now c.args.count c.args.spans 0) = let s : length c.args.spans ≡ 6 = omega arith in none_named s c.if-count-ne-FIELDS.false in it)) (omega arith) c.is_word.ensures (c.if-not-is_word.false) in it)) (omega arith) c.is_word-2.ensures (c.if-not-is_word-2.false) in it)) (omega arith) c.is_word-3.ensures (c.if-not-is_word-3.false) in it)) (omega arith) c.is_word-4.ensures (c.if-not-is_word-4.false) in it)) (omega arith) c.is_word-5.ensures (c.if-not-is_word-5.false)
-
-pub returns-then-count-ne-FIELDS : goal.returns-then-count-ne-FIELDS
-returns-then-count-ne-FIELDS c =
-    let a = c.args in
-    not_six a.text.now a.count a.spans c.if-count-ne-FIELDS.true
 
 pub returns-then-not-is_word : goal.returns-then-not-is_word
 returns-then-not-is_word c = other_name (here-0 (goal.at.returns-then-not-is_word c).Else-count-ne-FIELDS) (omega arith) c.is_word.ensures (c.if-not-is_word.true)

@@ -27,20 +27,11 @@ returns-then-b-gt57 c =
     let l = c.loop-i in
     sym (l.invariant.2 ∙ digit_high a.below l.v a.s.now l.i c.loop-i-test.true c.if-b-gt57.true)
 
-pub overflow_mul-v : goal.overflow_mul-v
-overflow_mul-v c = omega arith
-
-pub overflow_add-v : goal.overflow_add-v
-overflow_add-v c = omega arith
-
 pub returns-then-below-v : goal.returns-then-below-v
 returns-then-below-v c =
     let a = c.args in
     let l = c.loop-i in
     sym (l.invariant.2 ∙ digit_past a.below l.v a.s.now l.i c.loop-i-test.true c.if-b-lt48.false c.if-b-gt57.false c.if-below-v.true)
-
-pub loop-i-smaller : goal.loop-i-smaller
-loop-i-smaller c = omega arith
 
 pub loop-i-preserved : goal.loop-i-preserved
 loop-i-preserved c =

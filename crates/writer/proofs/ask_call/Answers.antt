@@ -7,9 +7,6 @@ use Rattle.writer.proofs.ask_call.Goals as goal
 pub returns-then-rows_len-n : goal.returns-then-rows_len-n
 returns-then-rows_len-n c = few-numbers _ _ _ _ c.if-rows_len-n.true
 
-pub is_process_limit-requires : goal.is_process_limit-requires
-is_process_limit-requires c = tt
-
 pub returns-then-not-is_process_limit : goal.returns-then-not-is_process_limit
 returns-then-not-is_process_limit c = bad-processes _ _ _ _ c.if-rows_len-n.false (refused c.is_process_limit.ensures (ap not c.if-not-is_process_limit.true))
 

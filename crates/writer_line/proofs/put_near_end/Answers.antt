@@ -10,9 +10,6 @@ returns-then-out-record_length c =
     let both = let a = c.args in
     put-none a.out.now 0 (record_of a.row) (omega (arith, c.if-out-record_length.true, c.record_length.ensures)) in record { answer = both.0; left = both.1 }
 
-pub put_parts-requires : goal.put_parts-requires
-put_parts-requires c = omega (arith, c.if-out-record_length.false, c.record_length.ensures)
-
 pub returns : goal.returns
 returns c =
     let both = let a = c.args in

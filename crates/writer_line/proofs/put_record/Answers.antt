@@ -4,9 +4,6 @@ use Rattle.writer_line.proofs.Contents.{record_most}
 use Rattle.writer_line.proofs.Putting.{record_put}
 use Rattle.writer_line.proofs.put_record.Goals as goal
 
-pub returns-then-out-lt-LONGEST : goal.returns-then-out-lt-LONGEST
-returns-then-out-lt-LONGEST c = record { answer = c.put_near_end.ensures.answer; left = c.put_near_end.ensures.left }
-
 pub put_parts-requires : goal.put_parts-requires
 put_parts-requires c = omega (arith, c.if-out-lt-LONGEST.false, record_most c.args.row)
 

@@ -12,27 +12,12 @@ loop-spans-init c =
     let a = c.args in
     (begin a.row_limit a.process_limit a.text.now a.byte_limit a.start a.rows.now, refl)
 
-pub overflow_cast-place : goal.overflow_cast-place
-overflow_cast-place c = omega (arith, c.loop-spans.invariant.0.going.few, c.requires.0)
-
-pub overflow_add-place : goal.overflow_add-place
-overflow_add-place c = omega (arith, c.loop-spans.invariant.0.going.few, c.requires.0)
-
-pub overflow_cast-result : goal.overflow_cast-result
-overflow_cast-result c = omega (arith, c.loop-spans.invariant.0.going.few, c.requires.0)
-
-pub shape_of-rows-in-End : goal.shape_of-rows-in-End
-shape_of-rows-in-End c = c.loop-spans.invariant.1
-
 pub returns-in-End : goal.returns-in-End
 returns-in-End c =
     let a = c.args in
     let l = c.loop-spans in
     let found = tells (read_at a.text.now l.at a.byte_limit) c.read_record-r.result c.read_record-r.ensures c.in-End.is in
     record { answer = at-end (judges_rows _ _) l.invariant.0.going found; held = end-held (judges_rows _ _) l.invariant.0.going found }
-
-pub shape_of-rows-in-Malformed : goal.shape_of-rows-in-Malformed
-shape_of-rows-in-Malformed c = c.loop-spans.invariant.1
 
 pub returns-in-Malformed : goal.returns-in-Malformed
 returns-in-Malformed c =
@@ -41,9 +26,6 @@ returns-in-Malformed c =
     let found = tells (read_at a.text.now l.at a.byte_limit) c.read_record-r.result c.read_record-r.ensures c.in-Malformed.is in
     refusal a.rows.now l.rows (malformed_here (judges_rows _ _) l.invariant.0.going found) in record { answer = both.0; held = both.1 }
 
-pub shape_of-rows-in-Limit : goal.shape_of-rows-in-Limit
-shape_of-rows-in-Limit c = c.loop-spans.invariant.1
-
 pub returns-in-Limit : goal.returns-in-Limit
 returns-in-Limit c =
     let both = let a = c.args in
@@ -51,18 +33,12 @@ returns-in-Limit c =
     let found = tells (read_at a.text.now l.at a.byte_limit) c.read_record-r.result c.read_record-r.ensures c.in-Limit.is in
     refusal a.rows.now l.rows (limit-here (judges_rows _ _) l.invariant.0.going found) in record { answer = both.0; held = both.1 }
 
-pub shape_of-rows-in-No : goal.shape_of-rows-in-No
-shape_of-rows-in-No c = c.loop-spans.invariant.1
-
 pub returns-in-No : goal.returns-in-No
 returns-in-No c =
     let both = let a = c.args in
     let l = c.loop-spans in
     refusal a.rows.now l.rows
     (no_row l.invariant.0 c.read_record-r.ensures c.in-Record.is c.requires.2 (c.judge_row.ensures.answer, c.judge_row.ensures.left) c.in-No.is) in record { answer = both.0; held = both.1 }
-
-pub overflow_add-n : goal.overflow_add-n
-overflow_add-n c = omega (arith, c.loop-spans.invariant.0.going.few, c.requires.0)
 
 pub loop-spans-smaller : goal.loop-spans-smaller
 loop-spans-smaller c =

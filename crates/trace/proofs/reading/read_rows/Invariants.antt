@@ -1,6 +1,5 @@
 -- `trace::reading::read_rows` meets its contract.
 use Rattle.trace.proofs.Going.{WithTable}
-use Rattle.csv_records.proofs.Answers.{tells}
 use Rattle.std.proofs.Common.{length, ◌-◌, ◌≡◌}
 use Rattle.trace.proofs.reading.read_rows.Given as goal
 

@@ -1,5 +1,4 @@
 -- `writer::asking::ask_rows` meets its contract.
-use Rattle.std.proofs.Common.{arith}
 use Rattle.writer.proofs.Passing.{asking_none, asking_end, numbers-no, message-no, row-yes}
 use Rattle.writer.proofs.asking.ask_rows.Goals as goal
 
@@ -18,9 +17,6 @@ returns-then-order-ne0 c =
     let pre = c.requires in
     let l = c.loop-i in
     message-no a.process_limit a.n a.rows.now l.i l.invariant c.loop-i-test.true c.row_at-row.ensures c.ask_numbers-no.ensures pre.2 c.if-no-ne0.false c.put-order.ensures.answer c.if-order-ne0.true
-
-pub loop-i-smaller : goal.loop-i-smaller
-loop-i-smaller c = omega (arith, c.loop-i-test.true)
 
 pub loop-i-preserved : goal.loop-i-preserved
 loop-i-preserved c =

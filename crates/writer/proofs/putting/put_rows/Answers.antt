@@ -1,19 +1,13 @@
 -- `writer::putting::put_rows` meets its contract.
 use Rattle.std.proofs.Common.{arith}
 use Rattle.print.proofs.Parts.{laid-length, laid-within}
-use Rattle.writer.proofs.Lines.{lines_none, record_next, lines_laid}
+use Rattle.writer.proofs.Lines.{lines_none, record_next}
 use Rattle.writer.proofs.putting.put_rows.Goals as goal
 
 pub loop-i-init : goal.loop-i-init
 loop-i-init c =
     let a = c.args in
     (lines_none a.out.now a.start a.rows.now a.n c.requires.1, omega arith)
-
-pub slice_bounds-put_record-count : goal.slice_bounds-put_record-count
-slice_bounds-put_record-count c = laid-within c.loop-i.invariant.0
-
-pub slice_bounds-put_record-start : goal.slice_bounds-put_record-start
-slice_bounds-put_record-start c = laid-within c.loop-i.invariant.0
 
 pub overflow_add-at : goal.overflow_add-at
 overflow_add-at c =
@@ -22,22 +16,9 @@ overflow_add-at c =
     let l = c.loop-i in
     let l = record_next a.rows.now a.n l.i l.invariant.0 pre.1 c.loop-i-test.true c.row_at.ensures (c.put_record-at.ensures.answer, c.put_record-at.ensures.left) in omega (arith, laid-within l, laid-length l)
 
-pub loop-i-smaller : goal.loop-i-smaller
-loop-i-smaller c = omega (arith, c.loop-i-test.true)
-
 pub loop-i-preserved : goal.loop-i-preserved
 loop-i-preserved c =
     let a = c.args in
     let pre = c.requires in
     let l = c.loop-i in
     (record_next a.rows.now a.n l.i l.invariant.0 pre.1 c.loop-i-test.true c.row_at.ensures (c.put_record-at.ensures.answer, c.put_record-at.ensures.left), omega (arith, c.loop-i-test.true))
-
-pub shape_of-out : goal.shape_of-out
-shape_of-out c = laid-length c.loop-i.invariant.0
-
-pub returns : goal.returns
-returns c =
-    let both = let a = c.args in
-    let pre = c.requires in
-    let l = c.loop-i in
-    lines_laid a.rows.now a.n l.i l.invariant.0 pre.1 l.invariant.1 c.loop-i-test.false in record { answer = both.0; left = both.1 }

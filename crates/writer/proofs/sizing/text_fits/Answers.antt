@@ -2,13 +2,8 @@
 use Rattle.std.proofs.Common.{arith}
 use Rattle.rows.specs.Rows.{rows_in}
 use Rattle.writer.proofs.Lines.{header-most}
-use Rattle.writer.proofs.Sizes.{fits-past, fits-roomy, fits-measured}
+use Rattle.writer.proofs.Sizes.{fits-roomy, fits-measured}
 use Rattle.writer.proofs.sizing.text_fits.Goals as goal
-
-pub returns-then-out_len-place : goal.returns-then-out_len-place
-returns-then-out_len-place c =
-    let a = c.args in
-    fits-past a.out_len a.place a.header (rows_in a.n a.rows.now) c.if-out_len-place.true
 
 pub returns-then-n-space : goal.returns-then-n-space
 returns-then-n-space c =
