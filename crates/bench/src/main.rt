@@ -29,11 +29,15 @@ use extents::Answer;
 use machine::Made;
 use machine_state::Machine;
 use rows::Row;
-use std::io::{self, Read, Write};
+use std::io::{self, Write};
+use streams::Read;
 use trace::Call;
 
 // The most bytes of a text.
 const TEXT_ROOM: usize = 160;
+
+// The most bytes of input that are looked at.
+const INPUT_ROOM: usize = 65536;
 
 // Where the header word and the text of a line that judges one stand.
 const HEADER_AT: usize = 2;
@@ -498,7 +502,9 @@ fn run_lines<W: Write>(out: &mut W, input: &[u8], maps: &mut [u32]) -> io::Resul
 
 fn main(rt: HostRuntime) -> io::Result<()> {
     let mut maps = [0u32; 48];
-    let mut input = Vec::new(rt.alloc());
-    rt.stdin().read_to_end(&mut input)?;
-    run_lines(&mut rt.stdout(), &input, &mut maps)
+    let mut input = [0u8; INPUT_ROOM];
+    match streams::read_all(&mut rt.stdin(), &mut input) {
+        Read::Failed(error) => Err(error),
+        Read::Whole(n) => run_lines(&mut rt.stdout(), &input[..n], &mut maps),
+    }
 }

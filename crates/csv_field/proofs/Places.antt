@@ -133,8 +133,8 @@ pub data View (p : List ℕ) (at : ℕ) : Type 0 where
       ((u : List ℕ) (c : Bool) → (d : Bool) × (field_at (p ++ u) c at ≡ quoted_to (p ++ u) c (at + 1) (quotes (length p - (at + 1)) d u))) → View p at
 
 -- more bytes, u, change text_length from a place of p on only where TEXTDATA reaches the end of p
-run_at : (p u : List ℕ) (at : ℕ) → at ≤ length p → (length p ≤ at + text_length (drop at p) → text_length u ≡ 0) → text_length (drop at (p ++ u)) ≡ text_length (drop at p)
-run_at p u at h g = rw (drop-append-le at p u h) (run_more (drop at p) u (λ l. g (omega (arith, length-drop at p))))
+run_at_lem : (p u : List ℕ) (at : ℕ) → at ≤ length p → (length p ≤ at + text_length (drop at p) → text_length u ≡ 0) → text_length (drop at (p ++ u)) ≡ text_length (drop at p)
+run_at_lem p u at h g = rw (drop-append-le at p u h) (run_more (drop at p) u (λ l. g (omega (arith, length-drop at p))))
 
 -- a field without quotes ends where the TEXTDATA ends
 view-bare : (p : List ℕ) (at : ℕ) → at ≤ length p → eqb (get_or p at 0) DQUOTE ≡ false → View p at
@@ -142,7 +142,7 @@ unfolding field_at
 view-bare p at h e =
     ends (record { start = at; len = text_length (drop at p); doubled = false }) (at + text_length (drop at p)) (omega arith)
     (omega (arith, run_in (drop at p), length-drop at p))
-    (λ u c g. rw (quote_more p u at h (λ l. (g (omega arith)).1), e, run_at p u at h (λ l. (g l).0)))
+    (λ u c g. rw (quote_more p u at h (λ l. (g (omega arith)).1), e, run_at_lem p u at h (λ l. (g l).0)))
 
 -- a field in quotes, by what stands after the opening quote
 view-quoted : (p : List ℕ) (at : ℕ) → at < length p → eqb (get_or p at 0) DQUOTE ≡ true → View p at

@@ -16,7 +16,8 @@ ghost use Rattle.std.specs.Prelude.{◌≤◌, ◌<◌, length};
 
 use csv_field::Span;
 use csv_records::Status;
-use std::io::{self, Read, Write};
+use std::io::{self, Write};
+use streams::Read;
 
 // The limit of a case that meets no limit.
 const NO_LIMIT: usize = 1000;
@@ -29,6 +30,9 @@ const SPANS: usize = 6;
 
 // The most bytes of a text or a word.
 const ROOM: usize = 64;
+
+// The most bytes of input that are looked at.
+const INPUT_ROOM: usize = 65536;
 
 // The byte before a text, between a text and a word, and behind the last of them.
 const BAR: u8 = b'|';
@@ -314,7 +318,9 @@ fn run_lines<W: Write>(out: &mut W, input: &[u8]) -> io::Result<()> {
 }
 
 fn main(rt: HostRuntime) -> io::Result<()> {
-    let mut input = Vec::new(rt.alloc());
-    rt.stdin().read_to_end(&mut input)?;
-    run_lines(&mut rt.stdout(), &input)
+    let mut input = [0u8; INPUT_ROOM];
+    match streams::read_all(&mut rt.stdin(), &mut input) {
+        Read::Failed(error) => Err(error),
+        Read::Whole(n) => run_lines(&mut rt.stdout(), &input[..n]),
+    }
 }

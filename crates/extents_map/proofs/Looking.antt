@@ -8,7 +8,7 @@ use Rattle.extents_meaning.specs.Runs.{Run, run_of, cell_at, Open, NumbersLegal,
 use Rattle.extents_meaning.specs.Maps.{runs, runs_in, space_in, map_of, lawful, bytes_of}
 use Rattle.extents_meaning.specs.Lookups.{change_of}
 use Rattle.extents_meaning.proofs.Longest.{range-in, range-before, range-behind, cell-behind, rising-earlier}
-use Rattle.extents_meaning.proofs.Trips.{run_at_lem, runs-step, runs-stop, lawful-map, map_lawful, map_back, rest_at, run_at, run_there}
+use Rattle.extents_meaning.proofs.Trips.{run_at, runs-step, runs-stop, lawful-map, map_lawful, map_back, rest_at, run_at_lem, run_there}
 use Rattle.extents_meaning.proofs.Changes.{change_iff, before-change, see_none, see-gap, see-run}
 use Rattle.extents_map.specs.Beside.{end_of, run_before}
 use Rattle.extents_map.specs.Cursors.{ahead, Part, Passing, Looked, edge_of, BothLooked}
@@ -118,7 +118,7 @@ module _ {xs : List ℕ} {from x i : ℕ} (p : Passing xs from x i) (below : x <
     module _ (more : i < length xs / 4) (some : l ≢ 0) where
       -- the run to look at
       abbrev r : Run
-      r = run_at_lem i xs
+      r = run_at i xs
 
       -- The runs behind the run to look at.
       abbrev rs : List Run
@@ -143,7 +143,7 @@ module _ {xs : List ℕ} {from x i : ℕ} (p : Passing xs from x i) (below : x <
       -- The cell of the run is that of a row number to 4,096 and a mark.
       pub look-cell : r.cell ≤ 8193
       look-cell =
-          let a = run_at (drop (4 * i) xs) p.law [] rs r 0 first_run refl in
+          let a = run_at_lem (drop (4 * i) xs) p.law [] rs r 0 first_run refl in
           omega (arith, a.2, a.3, law-runs.numbered.1)
 
       -- The run ends within the offset range.

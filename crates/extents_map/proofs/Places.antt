@@ -5,7 +5,7 @@ use lib.Seq.{split_at}
 use Rattle.rows.specs.Limits.{OFFSET_MAX}
 use Rattle.extents_meaning.specs.Runs.{run_of}
 use Rattle.extents_meaning.specs.Maps.{space_in, runs, lawful}
-use Rattle.extents_meaning.proofs.Trips.{map_none, lawful-map, rest_at, run_at}
+use Rattle.extents_meaning.proofs.Trips.{map_none, lawful-map, rest_at, run_at_lem}
 use Rattle.rows.proofs.Zeros.{zeros}
 use Rattle.extents_map.specs.Beside.{end_of, run_no}
 use Rattle.extents_map.proofs.Parted.{next-at}
@@ -30,7 +30,7 @@ here xs i e h =
     let q : 4 * i ≡ i * 4 = omega arith in
     let n = (next-at rs m.lawful-runs.in_order i h).0 in
     let k = rw (drop-cons rs i (run_of 0 0 0) h) at (numbered-drop rs m.lawful-runs.numbered i) in
-    let a = rw q at (run_at xs e (take i rs) (drop (suc i) rs) r i (split_at rs i (run_of 0 0 0) h) (length-take-le i rs (omega arith))) in
+    let a = rw q at (run_at_lem xs e (take i rs) (drop (suc i) rs) r i (split_at rs i (run_of 0 0 0) h) (length-take-le i rs (omega arith))) in
     record {
       start = a.0;
       end = λ j. a.0 j + a.1 j;

@@ -305,8 +305,8 @@ maps-unique xs ys e f l h =
 -- ---- Scans: the run at place 4 * i, and the places behind it
 
 -- the run there
-abbrev pub run_at_lem : ℕ → List ℕ → Run
-run_at_lem i xs = run_of (get_or xs (4 * i) 0) (get_or xs (4 * i + 1) 0) (cell_of (get_or xs (4 * i + 2) 0) (get_or xs (4 * i + 3) 0))
+abbrev pub run_at : ℕ → List ℕ → Run
+run_at i xs = run_of (get_or xs (4 * i) 0) (get_or xs (4 * i + 1) 0) (cell_of (get_or xs (4 * i + 2) 0) (get_or xs (4 * i + 3) 0))
 
 -- may it follow?
 abbrev pub follows_at : ℕ → ℕ → ℕ → List ℕ → Bool
@@ -317,7 +317,7 @@ first-there : (i : ℕ) (xs : List ℕ) → get_or (drop (4 * i) xs) 0 0 ≡ get
 first-there i xs = get_or-drop (4 * i) xs 0 0 ∙ ap (λ (p : ℕ). get_or xs p 0) (add-zero (4 * i))
 
 -- The run at place 4 * i is the run at the front of the rest.
-pub run_there : (i : ℕ) (xs : List ℕ) → run_here (drop (4 * i) xs) ≡ run_at_lem i xs
+pub run_there : (i : ℕ) (xs : List ℕ) → run_here (drop (4 * i) xs) ≡ run_at i xs
 unfolding run_here
 run_there i xs = λ j. run_of (first-there i xs j) (get_or-drop (4 * i) xs 1 0 j) (cell_of (get_or-drop (4 * i) xs 2 0 j) (get_or-drop (4 * i) xs 3 0 j))
 
@@ -341,7 +341,7 @@ module _ (space i : ℕ) (xs : List ℕ) (h : i < space) where
   room = omega arith
 
   -- reading: a run, and then those behind it
-  pub read-on : get_or xs (4 * i + 1) 0 ≢ 0 → runs_in (space - i) (drop (4 * i) xs) ≡ run_at_lem i xs ∷ runs_in (space - (i + 1)) (drop (4 * (i + 1)) xs)
+  pub read-on : get_or xs (4 * i + 1) 0 ≢ 0 → runs_in (space - i) (drop (4 * i) xs) ≡ run_at i xs ∷ runs_in (space - (i + 1)) (drop (4 * (i + 1)) xs)
   read-on f =
       ap (λ (n : ℕ). runs_in n (drop (4 * i) xs)) room
       ∙ runs-step (space - (i + 1)) (drop (4 * i) xs) (λ e. f (sym (get_or-drop (4 * i) xs 1 0) ∙ e))
@@ -356,7 +356,7 @@ module _ (space i : ℕ) (xs : List ℕ) (h : i < space) where
   -- the law at a run: it may follow, and those behind it are lawful
   scan_step : (end c : ℕ) → get_or xs (4 * i + 1) 0 ≢ 0 →
       lawful_from (space - i) end c (drop (4 * i) xs)
-      ≡ follows_at end c i xs && lawful_from (space - (i + 1)) ((run_at_lem i xs).start + (run_at_lem i xs).length) (run_at_lem i xs).cell (drop (4 * (i + 1)) xs)
+      ≡ follows_at end c i xs && lawful_from (space - (i + 1)) ((run_at i xs).start + (run_at i xs).length) (run_at i xs).cell (drop (4 * (i + 1)) xs)
   scan_step end c f =
       let r = run_there i xs in
       ap (λ (n : ℕ). lawful_from n end c (drop (4 * i) xs)) room
@@ -370,7 +370,7 @@ module _ (space i : ℕ) (xs : List ℕ) (h : i < space) where
   -- a run that may follow leaves it to those behind
   pub scan_on : (end c : ℕ) → get_or xs (4 * i + 1) 0 ≢ 0 → follows_at end c i xs ≡ true →
       lawful_from (space - i) end c (drop (4 * i) xs)
-      ≡ lawful_from (space - (i + 1)) ((run_at_lem i xs).start + (run_at_lem i xs).length) (run_at_lem i xs).cell (drop (4 * (i + 1)) xs)
+      ≡ lawful_from (space - (i + 1)) ((run_at i xs).start + (run_at i xs).length) (run_at i xs).cell (drop (4 * (i + 1)) xs)
   scan_on end c f e = scan_step end c f ∙ rw e
 
 -- ---- Places of a lawful map
@@ -385,11 +385,11 @@ rest_at xs e ps qs i q l =
     ∙ (λ j. map_of (space_in xs - l j) qs)
 
 -- At the place of a run stand its four numbers.
-pub run_at : (xs : List ℕ) → lawful xs ≡ true → (ps qs : List Run) (r : Run) (i : ℕ) → runs xs ≡ ps ++ (r ∷ qs) → length ps ≡ i →
+pub run_at_lem : (xs : List ℕ) → lawful xs ≡ true → (ps qs : List Run) (r : Run) (i : ℕ) → runs xs ≡ ps ++ (r ∷ qs) → length ps ≡ i →
     (get_or xs (4 * i) 0 ≡ r.start) × (get_or xs (4 * i + 1) 0 ≡ r.length)
     × (get_or xs (4 * i + 2) 0 ≡ number_in r.cell) × (get_or xs (4 * i + 3) 0 ≡ mark_in r.cell)
 unfolding map_of fours
-run_at xs e ps qs r i q l =
+run_at_lem xs e ps qs r i q l =
     (ap (λ (p : ℕ). get_or xs p 0) (sym (add-zero (4 * i))) ∙ there 0, there 1, there 2, there 3)
   where
     there : (k : ℕ) → get_or xs (4 * i + k) 0 ≡ get_or (map_of (space_in xs - i) (r ∷ qs)) k 0

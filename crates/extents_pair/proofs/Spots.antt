@@ -5,7 +5,7 @@ use lib.Seq.{split_at}
 use Rattle.extents_meaning.specs.Cells.{number_in, mark_in}
 use Rattle.extents_meaning.specs.Runs.{Run, run_of}
 use Rattle.extents_meaning.specs.Maps.{fours, map_of, space_in, runs, lawful}
-use Rattle.extents_meaning.proofs.Trips.{length-fours, run_at, lawful-map}
+use Rattle.extents_meaning.proofs.Trips.{length-fours, run_at_lem, lawful-map}
 use Rattle.rows.proofs.Zeros.{zeros}
 
 -- the four numbers at place p are those of a run
@@ -23,7 +23,7 @@ no_run = run_of 0 0 0
 pub here-at : (xs : List ℕ) → lawful xs ≡ true → (i : ℕ) → i < length (runs xs) → Here xs (4 * i) (get_or (runs xs) i no_run)
 here-at xs e i h =
     let rs = runs xs in
-    let f = run_at xs e (take i rs) (drop (suc i) rs) (get_or rs i no_run) i (split_at rs i no_run h) (length-take-le i rs (omega arith)) in
+    let f = run_at_lem xs e (take i rs) (drop (suc i) rs) (get_or rs i no_run) i (split_at rs i no_run h) (length-take-le i rs (omega arith)) in
     record { start = f.0; size = f.1; number = f.2; mark = f.3 }
 
 -- behind the runs of a lawful map all is 0

@@ -8,7 +8,7 @@ use Rattle.trace.proofs.Laws.{Sound, accepted-kept}
 use Rattle.barriers.proofs.Kept.{Kept}
 use Rattle.races_meaning.specs.Races.{race}
 use Rattle.races_meaning.specs.Lists.{RowPair, race_pairs}
-use Rattle.races_meaning.proofs.Lists.{pair_of, no_pair_lem, Stands, stands-iff, listed-race, listed-rising, rising-once, same-pair}
+use Rattle.races_meaning.proofs.Lists.{pair_of, no_pair, Stands, stands-iff, listed-race, listed-rising, rising-once, same-pair}
 use Rattle.races_meaning.proofs.Verdicts.{race_out}
 use Rattle.reorder.specs.Renumbering.{Renumbered}
 use Rattle.reorder.proofs.Moving.{turned}
@@ -57,7 +57,7 @@ module _ (pairs : List RowPair) (k : ℕ) where
 module _ {rows rows' : List Row} {to from : ℕ → ℕ} (r : Renumbered rows rows' to from) (model : ℕ) where
   -- The race at index k is the race at index i under the new numbers, whichever of its rows stands first there.
   abbrev Moves : ℕ → ℕ → Type 0
-  Moves k i = (x : ℕ) × (y : ℕ) × (race rows model x y ≡ true) × (get_or (race_pairs rows model) k no_pair_lem ≡ pair_of x y)
+  Moves k i = (x : ℕ) × (y : ℕ) × (race rows model x y ≡ true) × (get_or (race_pairs rows model) k no_pair ≡ pair_of x y)
       × StandsEither (race_pairs rows' model) i (to x) (to y)
 
   -- Each race is one under the new numbers.

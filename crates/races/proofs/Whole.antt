@@ -30,9 +30,9 @@ use Rattle.races.proofs.Putting.{put_all, put_first}
 -- ---- The first race
 
 -- A list without a pair is empty.
-pub no_pair : (pairs : List RowPair) → length pairs ≤ 0 → pairs ≡ []
-no_pair [] h = refl
-no_pair (p ∷ pairs) h = absurd (omega arith)
+pub no_pair_lem : (pairs : List RowPair) → length pairs ≤ 0 → pairs ≡ []
+no_pair_lem [] h = refl
+no_pair_lem (p ∷ pairs) h = absurd (omega arith)
 
 -- Two numbers of a list are all of it where it has two.
 two-of : (list : List ℕ) → length list ≡ 2 → list ≡ get_or list 0 0 ∷ (get_or list 1 0 ∷ [])
@@ -51,7 +51,7 @@ module _ (n model : ℕ) (xs : List ℕ) where
   pub none-next : (y : ℕ) {found : ℕ} → pairs_below (rows_in n xs) model y ≡ [] → found ≡ 0 + length (pairs_with (rows_in n xs) model y y) → found ≤ 0 →
       pairs_below (rows_in n xs) model (y + 1) ≡ []
   unfolding pairs_below
-  none-next y e q z = rw (add-one, e) (no_pair (pairs_with (rows_in n xs) model y y) (omega arith))
+  none-next y e q z = rw (add-one, e) (no_pair_lem (pairs_with (rows_in n xs) model y y) (omega arith))
 
   -- Where no row has a race, the answer is free.
   pub answer-free : (y : ℕ) → n ≤ y → y ≤ n → pairs_below (rows_in n xs) model y ≡ [] → Free ≡ verdict_found (verdict_of (rows_in n xs) model)

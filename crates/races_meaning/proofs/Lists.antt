@@ -15,12 +15,12 @@ abbrev pub pair_of : ℕ → ℕ → RowPair
 pair_of x y = record { earlier = suc x; later = suc y }
 
 -- What stands behind the end of a list of pairs.
-abbrev pub no_pair_lem : RowPair
-no_pair_lem = record { earlier = 0; later = 0 }
+abbrev pub no_pair : RowPair
+no_pair = record { earlier = 0; later = 0 }
 
 -- A list has this pair at index k.
 abbrev pub Stands : List RowPair → ℕ → RowPair → Type 0
-Stands pairs k p = (k < length pairs) × (get_or pairs k no_pair_lem ≡ p)
+Stands pairs k p = (k < length pairs) × (get_or pairs k no_pair ≡ p)
 
 -- The first pair comes before the second: its later row is smaller, or that is the same and its earlier row is smaller.
 abbrev pub Before : RowPair → RowPair → Type 0
@@ -28,11 +28,11 @@ Before p q = (p.later < q.later) ⊎ ((p.later ≡ q.later) × (p.earlier < q.ea
 
 -- Each pair comes before every pair behind it.
 abbrev pub Rising : List RowPair → Type 0
-Rising pairs = (i j : ℕ) → i < j → j < length pairs → Before (get_or pairs i no_pair_lem) (get_or pairs j no_pair_lem)
+Rising pairs = (i j : ℕ) → i < j → j < length pairs → Before (get_or pairs i no_pair) (get_or pairs j no_pair)
 
 -- A pair stands at one index of a list that rises.
 pub rising-once : (pairs : List RowPair) → Rising pairs → (k l : ℕ) → k < length pairs → l < length pairs →
-    get_or pairs k no_pair_lem ≡ get_or pairs l no_pair_lem → k ≡ l
+    get_or pairs k no_pair ≡ get_or pairs l no_pair → k ≡ l
 rising-once pairs up k l a b e = go (dec_lt k l) (dec_lt l k)
   where
     -- No pair comes before itself.
@@ -55,31 +55,31 @@ same-pair a b c d e =
 module _ (a b : List RowPair) where
   -- A pair of the first part stands in the whole.
   stands-first : {p : RowPair} {k : ℕ} → Stands a k p → Stands (a ++ b) k p
-  stands-first {p} {k} s = (omega (arith, s.0, length-append a b), get_or-append a b no_pair_lem k s.0 ∙ s.1)
+  stands-first {p} {k} s = (omega (arith, s.0, length-append a b), get_or-append a b no_pair k s.0 ∙ s.1)
 
   -- A pair of the second part stands in the whole, behind the first part.
   stands-second : {p : RowPair} {k : ℕ} → Stands b k p → Stands (a ++ b) (length a + k) p
-  stands-second {p} {k} s = (omega (arith, s.0, length-append a b), get_or-append-add a b k no_pair_lem ∙ s.1)
+  stands-second {p} {k} s = (omega (arith, s.0, length-append a b), get_or-append-add a b k no_pair ∙ s.1)
 
   -- What stands in the whole stands in the first part or in the second.
   stands-out : {p : RowPair} (k : ℕ) → Stands (a ++ b) k p → Stands a k p ⊎ ((i : ℕ) × (k ≡ length a + i) × Stands b i p)
   stands-out {p} k s = go (dec_lt k (length a))
     where
       go : Dec (k < length a) → Stands a k p ⊎ ((i : ℕ) × (k ≡ length a + i) × Stands b i p)
-      go (yes l) = inl (l, sym (get_or-append a b no_pair_lem k l) ∙ s.1)
+      go (yes l) = inl (l, sym (get_or-append a b no_pair k l) ∙ s.1)
       go (no l) =
           let e : k ≡ length a + (k - length a) = omega arith in
           let h : k - length a < length b = omega (arith, s.0, length-append a b) in
-          inr (k - length a, e, (h, sym (get_or-append-add a b (k - length a) no_pair_lem) ∙ ap (λ (i : ℕ). get_or (a ++ b) i no_pair_lem) (sym e) ∙ s.1))
+          inr (k - length a, e, (h, sym (get_or-append-add a b (k - length a) no_pair) ∙ ap (λ (i : ℕ). get_or (a ++ b) i no_pair) (sym e) ∙ s.1))
 
   -- Two parts that rise, each pair of the first before each of the second, rise as a whole.
-  rising_whole : Rising a → Rising b → ((i j : ℕ) → i < length a → j < length b → Before (get_or a i no_pair_lem) (get_or b j no_pair_lem)) → Rising (a ++ b)
+  rising_whole : Rising a → Rising b → ((i j : ℕ) → i < length a → j < length b → Before (get_or a i no_pair) (get_or b j no_pair)) → Rising (a ++ b)
   rising_whole f g h i j l m = go (stands-out i (omega arith, refl)) (stands-out j (m, refl))
     where
       Part : ℕ → Type 0
-      Part k = Stands a k (get_or (a ++ b) k no_pair_lem) ⊎ ((n : ℕ) × (k ≡ length a + n) × Stands b n (get_or (a ++ b) k no_pair_lem))
+      Part k = Stands a k (get_or (a ++ b) k no_pair) ⊎ ((n : ℕ) × (k ≡ length a + n) × Stands b n (get_or (a ++ b) k no_pair))
 
-      go : Part i → Part j → Before (get_or (a ++ b) i no_pair_lem) (get_or (a ++ b) j no_pair_lem)
+      go : Part i → Part j → Before (get_or (a ++ b) i no_pair) (get_or (a ++ b) j no_pair)
       go (inl s) (inl t) = rw (← s.1, ← t.1) (f i j l t.0)
       go (inl s) (inr (n, e, t)) = rw (← s.1, ← t.1) (h i n s.0 t.0)
       go (inr (k, e, s)) (inl t) = absurd (omega (arith, e, t.0, l))
@@ -153,7 +153,7 @@ module _ (rows : List Row) (model : ℕ) where
       go true f =
           rising_whole (pairs_with rows model y k) (pair_of k y ∷ []) f (λ i j l h. absurd (omega arith))
           (λ i j l h.
-          let (x, m, r, q) = out-with y k i (get_or (pairs_with rows model y k) i no_pair_lem) (l, refl) in
+          let (x, m, r, q) = out-with y k i (get_or (pairs_with rows model y k) i no_pair) (l, refl) in
           let z : j ≡ 0 = omega arith in
           rw (z, ← q) (inr (refl, omega arith)))
 
@@ -208,8 +208,8 @@ module _ (rows : List Row) (model : ℕ) where
   rising-below (suc m) =
       rising_whole (pairs_below rows model m) (pairs_with rows model m m) (rising-below m) (rising-with m m)
       (λ i j l h.
-      let (x, y, k, r, q) = out_below m i (get_or (pairs_below rows model m) i no_pair_lem) (l, refl) in
-      let (w, d, t, u) = out-with m m j (get_or (pairs_with rows model m m) j no_pair_lem) (h, refl) in
+      let (x, y, k, r, q) = out_below m i (get_or (pairs_below rows model m) i no_pair) (l, refl) in
+      let (w, d, t, u) = out-with m m j (get_or (pairs_with rows model m m) j no_pair) (h, refl) in
       rw (← q, ← u) (inl (omega arith)))
 
   -- The pairs below a bound stand at the front of those below any larger bound.
@@ -242,9 +242,9 @@ module _ (rows : List Row) (model : ℕ) where
 
   -- Whatever is listed is a race.
   pub listed-race : (k : ℕ) → k < length (race_pairs rows model) →
-      (x : ℕ) × (y : ℕ) × (race rows model x y ≡ true) × (get_or (race_pairs rows model) k no_pair_lem ≡ pair_of x y)
+      (x : ℕ) × (y : ℕ) × (race rows model x y ≡ true) × (get_or (race_pairs rows model) k no_pair ≡ pair_of x y)
   unfolding race_pairs
-  listed-race k h = let (x, y, l, r, q) = out_below (length rows) k (get_or (pairs_below rows model (length rows)) k no_pair_lem) (h, refl) in (x, y, r, sym q)
+  listed-race k h = let (x, y, l, r, q) = out_below (length rows) k (get_or (pairs_below rows model (length rows)) k no_pair) (h, refl) in (x, y, r, sym q)
 
   -- The pairs rise strictly, by later row and then by earlier row; so each is listed once.
   pub listed-rising : Rising (race_pairs rows model)
@@ -265,13 +265,13 @@ module _ (rows : List Row) (model : ℕ) where
       go (p ∷ pairs) e =
           let many : 0 < length (race_pairs rows model) = rw e (omega arith) in
           let (x, y, r, q) = listed-race 0 many in
-          let same : p ≡ pair_of x y = sym (ap (λ (l : List RowPair). get_or l 0 no_pair_lem) e) ∙ q in
+          let same : p ≡ pair_of x y = sym (ap (λ (l : List RowPair). get_or l 0 no_pair) e) ∙ q in
           let a : p.earlier ≡ x + 1 = ap (λ (z : RowPair). z.earlier) same ∙ omega arith in
           let b : p.later ≡ y + 1 = ap (λ (z : RowPair). z.later) same ∙ omega arith in
           (racing-iff rows model p.earlier p.later).1 (x, y, a, b, first x y r q)
         where
           -- Every other race comes behind the first pair.
-          behind : (x y : ℕ) → get_or (race_pairs rows model) 0 no_pair_lem ≡ pair_of x y → (x' y' : ℕ) → race rows model x' y' ≡ true →
+          behind : (x y : ℕ) → get_or (race_pairs rows model) 0 no_pair ≡ pair_of x y → (x' y' : ℕ) → race rows model x' y' ≡ true →
               (y < y') ⊎ ((y ≡ y') × (x ≤ x'))
           behind x y q x' y' r = by ((stands-iff x' y').0 r)
             where
@@ -285,7 +285,7 @@ module _ (rows : List Row) (model : ℕ) where
                   apart (inl l) = inl (omega arith)
                   apart (inr (a, l)) = inr (omega arith, omega arith)
 
-          first : (x y : ℕ) → race rows model x y ≡ true → get_or (race_pairs rows model) 0 no_pair_lem ≡ pair_of x y → First rows model x y
+          first : (x y : ℕ) → race rows model x y ≡ true → get_or (race_pairs rows model) 0 no_pair ≡ pair_of x y → First rows model x y
           first x y r q = record { is_race = r; least-later = λ x' y' s. later (behind x y q x' y' s); least-earlier = λ x' s. earlier x' (behind x y q x' y s) }
             where
               later : {x' y' : ℕ} → (y < y') ⊎ ((y ≡ y') × (x ≤ x')) → y ≤ y'
@@ -306,7 +306,7 @@ length_pairs (p ∷ pairs) = omega (arith, length_pairs pairs)
 
 -- Pair k stands at the numbers 2 k and 2 k + 1, the earlier row first.
 pub numbers-at : (pairs : List RowPair) (k : ℕ) → k < length pairs →
-    (get_or (pair_numbers pairs) (2 * k) 0 ≡ (get_or pairs k no_pair_lem).earlier) × (get_or (pair_numbers pairs) (2 * k + 1) 0 ≡ (get_or pairs k no_pair_lem).later)
+    (get_or (pair_numbers pairs) (2 * k) 0 ≡ (get_or pairs k no_pair).earlier) × (get_or (pair_numbers pairs) (2 * k + 1) 0 ≡ (get_or pairs k no_pair).later)
 unfolding pair_numbers
 numbers-at [] k h = absurd (omega arith)
 numbers-at (p ∷ pairs) zero h = (refl, refl)

@@ -23,7 +23,7 @@ use Rattle.trace.proofs.Asking.{all_asked}
 
 -- The questions 6 to 11 of a record and those from 12 on of its row, each answered Yes behind the rows before it.
 pub record Passes (rowLimit processLimit : ℕ) (earlier : List Row) (fields : List (List ℕ)) : Type 0 where
-  pub in_row_limit_lem : length earlier < rowLimit
+  pub within_row_limit : length earlier < rowLimit
   pub six-fields : length fields ≡ 6
   pub kind-known : kind_known fields ≡ true
   pub filled-as_used : filled_as_used fields ≡ true
@@ -78,7 +78,7 @@ module _ (rowLimit processLimit : ℕ) where
           let q10 = first-yes (numbers_in_range processLimit fields) (omega arith) q9.1 in
           let q11 = first-yes (end_in_range (row_of fields)) (omega arith) q10.1 in
           record {
-            in_row_limit_lem = ltb-true _ _ q6.0;
+            within_row_limit = ltb-true _ _ q6.0;
             six-fields = eqb-true _ _ q7.0;
             kind-known = q8.0;
             filled-as_used = q9.0;
@@ -90,7 +90,7 @@ module _ (rowLimit processLimit : ℕ) where
       from : Passes rowLimit processLimit earlier fields → first_no (row_questions rowLimit processLimit earlier fields) ≡ 0
       from p =
           rw (
-            lt-ltb (length earlier) rowLimit p.in_row_limit_lem,
+            lt-ltb (length earlier) rowLimit p.within_row_limit,
             eq-eqb (length fields) 6 p.six-fields,
             p.kind-known,
             p.filled-as_used,

@@ -87,7 +87,7 @@ module _ (P : ℕ) (few : P ≤ PROCESSES) where
   fields-pass R earlier r room w m =
       let q = all_yes (field_questions P (contents_of r)) (omega arith) (questions_back P r few w) in
       record {
-        in_row_limit_lem = room;
+        within_row_limit = room;
         six-fields = refl;
         kind-known = q.0;
         filled-as_used = q.1.0;

@@ -1,7 +1,7 @@
 -- `extents_map::scan::has_no_marks` meets its contract.
 use Rattle.std.proofs.Common.{◌-◌, ◌%◌, arith, ◌≡◌, sym, ◌∙◌, eq-eqb, ne_eqb}
 use Rattle.extents_meaning.specs.Maps.{space_in, runs_in, no_marks}
-use Rattle.extents_meaning.proofs.Trips.{run_at_lem, read-stop, read-on}
+use Rattle.extents_meaning.proofs.Trips.{run_at, read-stop, read-on}
 use Rattle.extents_map.proofs.scan.has_no_marks.Goals as goal
 
 pub returns-then-length_of-eq0 : goal.returns-then-length_of-eq0
@@ -14,7 +14,7 @@ returns-then-map-at-eq1 c =
     let map = c.args.map.now in
     let i = c.loop-i.i in
     let more = read-on (space_in map) i map c.loop-i-test.true (λ z. c.if-length_of-eq0.false (c.length_of.ensures ∙ z)) in
-    sym (c.loop-i.invariant ∙ rw (more, eq-eqb ((run_at_lem i map).cell % 2) 1 (omega (arith, c.if-map-at-eq1.true))))
+    sym (c.loop-i.invariant ∙ rw (more, eq-eqb ((run_at i map).cell % 2) 1 (omega (arith, c.if-map-at-eq1.true))))
 
 pub loop-i-preserved : goal.loop-i-preserved
 unfolding no_marks
@@ -22,7 +22,7 @@ loop-i-preserved c =
     let map = c.args.map.now in
     let i = c.loop-i.i in
     let more = read-on (space_in map) i map c.loop-i-test.true (λ z. c.if-length_of-eq0.false (c.length_of.ensures ∙ z)) in
-    c.loop-i.invariant ∙ rw (more, ne_eqb ((run_at_lem i map).cell % 2) 1 (λ e. c.if-map-at-eq1.false (omega (arith, e))))
+    c.loop-i.invariant ∙ rw (more, ne_eqb ((run_at i map).cell % 2) 1 (λ e. c.if-map-at-eq1.false (omega (arith, e))))
 
 pub returns : goal.returns
 unfolding no_marks runs_in
