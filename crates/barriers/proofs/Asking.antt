@@ -1,5 +1,5 @@
 -- The answers to question 22 of the first rows of a slice, case by case.
-use Rattle.std.proofs.Common.{ℕ, ◌<◌, arith, ◌≡◌, refl, sym, ap, subst, ◌∙◌, Bool, true, false, cond, List, length, replicate, ne_eqb}
+use Rattle.std.proofs.Common.{ℕ, ◌<◌, arith, ◌≡◌, sym, ap, subst, ◌∙◌, Bool, true, false, cond, List, length, replicate, ne_eqb}
 use lib.ListN.{get_or}
 use lib.Dec.{eqb}
 use Rattle.rows.specs.declared.Row.{Row}

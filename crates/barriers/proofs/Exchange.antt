@@ -1,6 +1,6 @@
 -- Question 22 of the same rows in another order: rows that pass the same tests have the same answers, and a row in its turn stays so where a row of
 -- another process moves before it or behind it.
-use Rattle.std.proofs.Common.{ℕ, suc, ◌≡◌, refl, sym, ap, ◌∙◌, ◌⊎◌, inl, inr, Bool, true, false, cond, not, ◌&&◌, ◌||◌, List, [], ◌∷◌, ◌++◌, append-nil, length, eqb-true, ne_eqb}
+use Rattle.std.proofs.Common.{ℕ, suc, ◌≡◌, refl, sym, ap, ◌∙◌, Bool, true, false, cond, not, ◌&&◌, ◌||◌, List, [], ◌∷◌, ◌++◌, append-nil, length, ne_eqb}
 use mathlib.Core.Bool.{false≢true, or-false}
 use lib.Seq.{append_snoc}
 use lib.Dec.{eqb}
@@ -9,8 +9,8 @@ use Rattle.rows.specs.declared.Row.{Row}
 use Rattle.rows.specs.Kinds.{BARRIER}
 use Rattle.rows.specs.Rows.{row_at}
 use Rattle.rows.specs.Tests.{any, carries_by}
-use Rattle.rows.proofs.Bools.{and_out, or_out, not_passed, not_both}
-use Rattle.rows.proofs.Tests.{Alike, any_last, any_same, some_out, some_in, none-snoc, carries_by-iff}
+use Rattle.rows.proofs.Bools.{and_out, not_passed, not_both}
+use Rattle.rows.proofs.Tests.{Alike, any_last, any_same, some_out, some_in, carries_by-iff}
 use Rattle.barriers.specs.Barriers.{is_barrier, arrived, all_arrived, goes_on, repeats, out_of_turn, first_out, unfinished}
 use Rattle.barriers.proofs.Arrivals.{covers-next, all_more}
 use Rattle.barriers.proofs.Telling.{in_turn}

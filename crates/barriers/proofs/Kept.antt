@@ -1,6 +1,6 @@
 -- What a Yes to question 22 says of the rows by their places, and the other way: no process has two rows of a barrier, a row behind a barrier row of
 -- its process finds that every process of the trace has arrived, and every process arrives at each barrier.
-use Rattle.std.proofs.Common.{ℕ, zero, suc, ◌+◌, ◌≤◌, ◌<◌, arith, ◌≡◌, refl, sym, ap, subst, ◌∙◌, ◌↔◌, Bool, true, false, cond, not, ◌&&◌, ◌||◌, List, [], ◌∷◌, ◌++◌, append-nil, length, take, length-take, length-append, get_or-take, length-take-le, eq-eqb, eqb-true}
+use Rattle.std.proofs.Common.{ℕ, zero, suc, ◌+◌, ◌≤◌, ◌<◌, arith, ◌≡◌, refl, sym, ap, subst, ◌∙◌, ◌↔◌, Bool, true, false, cond, not, ◌&&◌, List, [], ◌∷◌, ◌++◌, append-nil, length, take, length-take, length-append, get_or-take, length-take-le, eq-eqb, eqb-true}
 use native.Mathlib.Decide.{dec_lt}
 use mathlib.Core.Bool.{false≢true}
 use lib.Seq.{append_snoc}

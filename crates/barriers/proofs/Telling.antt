@@ -1,16 +1,15 @@
 -- What the tables tell of the rows noted in them: at which barrier each process stands, how many rows a barrier has, and so which rows are out of turn.
-use Rattle.std.proofs.Common.{ℕ, zero, suc, ◌+◌, ◌≤◌, ◌<◌, min, arith, ◌≡◌, refl, sym, ap, subst, ◌∙◌, ◌⊎◌, inl, inr, Bool, true, false, cond, not, ◌&&◌, ◌||◌, List, [], ◌∷◌, ◌++◌, append-nil, length, replicate, length-set, length-append, get_or-set_same, get_or-set_other, eq-eqb, ne_eqb, eqb-true, lt-ltb, le-ltb, le-leb, leb-true}
+use Rattle.std.proofs.Common.{ℕ, zero, suc, ◌+◌, ◌≤◌, ◌<◌, min, arith, ◌≡◌, refl, sym, ap, subst, ◌∙◌, Bool, true, false, cond, not, ◌&&◌, ◌||◌, List, [], ◌∷◌, ◌++◌, append-nil, length, replicate, length-set, length-append, get_or-set_same, get_or-set_other, eq-eqb, ne_eqb, eqb-true, lt-ltb, le-ltb, le-leb}
 use native.Mathlib.Decide.{dec_lt, ℕ_discrete}
 use mathlib.Core.Bool.{false≢true, or-false}
 use lib.ListN.{get_or, set, length-replicate, get_or-append}
 use lib.Seq.{get_or_at, append_snoc}
 use lib.Dec.{leb, ltb, eqb}
-use borrow.Author.Tests.{eqb-false, lt-leb, not-true}
+use borrow.Author.Tests.{lt-leb, not-true}
 use Rattle.rows.specs.declared.Row.{Row}
 use Rattle.rows.specs.Kinds.{BARRIER}
 use Rattle.rows.specs.Limits.{PROCESSES, MESSAGES}
 use Rattle.rows.specs.Rows.{row_at, no_row}
-use Rattle.rows.specs.Counting.{count_below}
 use Rattle.rows.specs.Tests.{any, carries}
 use Rattle.rows.proofs.Bools.{and_out, not_passed}
 use Rattle.rows.proofs.Below.{count-below}
@@ -20,7 +19,7 @@ use Rattle.barriers.specs.Barriers.{is_barrier, all_arrived, goes_on, repeats, o
 use Rattle.barriers.specs.Participants.{has_row, participants}
 use Rattle.barriers.specs.Tables.{stand_of, noted_stand, one_more, noted_arrival, open_by, held_by, out_by, first_out_by, stands_after, arrivals_after, stands_of, arrivals_of, unfinished_by}
 use Rattle.barriers.proofs.Codes.{arrivals_last}
-use Rattle.barriers.proofs.Arrivals.{Covers, covers-next, all_more, waited_for_lem, NonePassed, none, next, rows_of_barrier, how_many, many-last, finished_told, repeats-told}
+use Rattle.barriers.proofs.Arrivals.{Covers, covers-next, all_more, waited_for_lem, NonePassed, none, next, rows_of_barrier, how_many, finished_told, repeats-told}
 
 -- ---- Where each process stands
 

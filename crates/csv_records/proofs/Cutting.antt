@@ -1,5 +1,5 @@
 -- A reader with a limit needs no more bytes than one more than the limit: the bytes behind those change no record.
-use Rattle.std.proofs.Common.{ℕ, suc, zero, ◌+◌, ◌-◌, ◌≤◌, ◌<◌, arith, ◌≡◌, refl, sym, ap, subst, ◌∙◌, Bool, true, List, [], ◌∷◌, map, length, take, length-take-le, take-take, take_all}
+use Rattle.std.proofs.Common.{ℕ, suc, zero, ◌+◌, ◌≤◌, ◌<◌, arith, ◌≡◌, refl, sym, ap, subst, ◌∙◌, Bool, true, List, [], ◌∷◌, map, length, take, length-take-le, take-take, take_all}
 use native.Mathlib.Decide.{dec_lt}
 use Rattle.csv_field.specs.FieldReading.{field_at}
 use Rattle.csv_content.specs.Content.{content_of}

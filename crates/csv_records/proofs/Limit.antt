@@ -1,5 +1,5 @@
 -- What a byte limit changes, and why a reader that reads record after record ends.
-use Rattle.std.proofs.Common.{ℕ, suc, zero, ◌+◌, ◌-◌, ◌≤◌, ◌<◌, arith, ◌≡◌, refl, sym, ap, ◌∙◌, Bool, true, false, List, [], ◌∷◌, ◌++◌, ◌⊎◌, inl, inr, length, take, drop, length-take, length-append, take-append-drop, take_all, lt-ltb, le-ltb}
+use Rattle.std.proofs.Common.{ℕ, suc, zero, ◌+◌, ◌≤◌, ◌<◌, arith, ◌≡◌, refl, sym, ap, ◌∙◌, Bool, true, false, List, [], ◌∷◌, ◌++◌, ◌⊎◌, inl, inr, length, take, drop, length-take, length-append, take-append-drop, take_all, lt-ltb, le-ltb}
 use native.Mathlib.Decide.{dec_le, dec_lt}
 use Rattle.csv_field.specs.FieldReading.{field_at}
 use Rattle.csv_records.specs.Reading.{prepend, on_stop, fields_from, record_in, read_at, Records, on_found, records_from, Finding, nothing, malformed, past-limit, found}

@@ -1,10 +1,10 @@
 -- Question 22 of the joined rows, once all records are taken.
-use Rattle.std.proofs.Common.{ℕ, ◌*◌, ◌<◌, ◌≤◌, arith, ◌≡◌, refl, sym, ap, subst, ◌∙◌, List, ◌++◌, length, drop, eq-eqb, ne_eqb}
+use Rattle.std.proofs.Common.{ℕ, ◌*◌, ◌<◌, ◌≤◌, arith, ◌≡◌, sym, ap, subst, ◌∙◌, List, length, drop, eq-eqb, ne_eqb}
 use Rattle.rows.specs.declared.Row.{Row}
 use Rattle.rows.specs.Limits.{PROCESSES, MESSAGES}
 use Rattle.rows.specs.Refusals.{BARRIER_ORDER}
-use Rattle.rows.specs.Rows.{row_at, row_in, rows_in, numbers}
-use Rattle.rows.proofs.Slices.{rows_back, row-in, length-rows}
+use Rattle.rows.specs.Rows.{row_at, row_in, rows_in}
+use Rattle.rows.proofs.Slices.{rows_back, row-in}
 use Rattle.barriers.specs.Barriers.{barrier_place}
 use Rattle.join_meaning.specs.Files.{Entry, rows_of, entries_of}
 use Rattle.join_meaning.specs.Joining.{Joining, refused, joined, ask_joined, join_rows}

@@ -1,5 +1,5 @@
 -- The flags of the processes of two files: those of the first tell of question 19, and those of both how many processes there are.
-use Rattle.std.proofs.Common.{ℕ, ◌<◌, ◌≡◌, sym, ap, subst, ◌∙◌, Bool, true, false, List, [], ◌++◌, length, replicate}
+use Rattle.std.proofs.Common.{ℕ, ◌<◌, ◌≡◌, sym, ap, subst, ◌∙◌, Bool, false, List, ◌++◌, length, replicate}
 use lib.ListN.{get_or}
 use lib.Dec.{eqb}
 use Rattle.rows.specs.declared.Row.{Row}

@@ -1,5 +1,5 @@
 -- What stands next in a file, by the entries that stand ahead there.
-use Rattle.std.proofs.Common.{ℕ, ◌-◌, ◌<◌, ◌≤◌, arith, ◌≡◌, refl, sym, ap, ◌∙◌, Bool, true, false, not, ◌&&◌, ◌||◌, List, [], ◌∷◌, map, length, take, drop}
+use Rattle.std.proofs.Common.{ℕ, ◌-◌, ◌<◌, ◌≤◌, arith, ◌≡◌, refl, sym, ap, ◌∙◌, true, false, not, ◌&&◌, ◌||◌, List, [], ◌∷◌, map, length, take, drop}
 use lib.ListN.{length-map}
 use lib.Dec.{eqb}
 use Rattle.csv_field.specs.declared.Span.{Span}

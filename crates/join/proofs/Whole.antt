@@ -27,7 +27,7 @@ use Rattle.join.specs.declared.Joined.TheVariants.{Accepted, Refused}
 use Rattle.barriers.specs.Participants.{Members}
 use Rattle.join.specs.Sharing.{any_flagged}
 use Rattle.join.specs.Taking.{part_numbers}
-use Rattle.join.specs.Leaving.{joined_of, Fits, Holds, HeldOver, rows_left, Leaves}
+use Rattle.join.specs.Leaving.{joined_of, Fits, Holds, HeldOver, Leaves}
 use Rattle.join.proofs.Flags.{shared-told}
 use Rattle.join.proofs.Taking.{length-parts}
 

@@ -1,5 +1,5 @@
 -- Whether rows are of a process that is flagged.
-use Rattle.std.specs.Prelude.{ℕ, Bool, false, List, get_or}
+use Rattle.std.specs.Prelude.{Bool, false, List, get_or}
 use Rattle.rows.specs.declared.Row.{Row}
 use Rattle.rows.specs.Tests.{any}
 

@@ -1,5 +1,5 @@
 -- The questions from 12 on, which are put to a row behind the rows before it: whether its message is in order, and whether a wait is.
-use Rattle.std.specs.Prelude.{ℕ, Bool, true, false, cond, not, ◌&&◌, ◌||◌, List, [], ◌∷◌, eqb}
+use Rattle.std.specs.Prelude.{ℕ, Bool, true, cond, not, ◌&&◌, List, [], ◌∷◌, eqb}
 use Rattle.rows.specs.Kinds.{SEND, RECV, WAIT}
 use Rattle.rows.specs.Questions.{Question}
 use Rattle.rows.specs.Refusals.{MESSAGE_ORDER, WAIT_ORDER}

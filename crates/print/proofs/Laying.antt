@@ -1,10 +1,10 @@
 -- Bytes laid into a slice, one part behind the other.
-use Rattle.std.proofs.Common.{ℕ, zero, suc, ◌+◌, ◌-◌, ◌/◌, ◌%◌, ◌≤◌, ◌<◌, arith, ◌≡◌, refl, sym, ap, ◌∙◌, Bool, true, false, cond, List, [], ◌∷◌, ◌++◌, append_assoc, append-nil, length, take, drop, length-append, take-append-drop, length-set, length-take-le, take_at, drop_at, take_all, drop-set-lt, drop-cons, drop-drop, get_or-set_same, le-leb}
+use Rattle.std.proofs.Common.{ℕ, zero, suc, ◌+◌, ◌-◌, ◌/◌, ◌%◌, ◌≤◌, ◌<◌, arith, ◌≡◌, refl, sym, ap, ◌∙◌, List, [], ◌∷◌, ◌++◌, append_assoc, append-nil, length, take, drop, length-append, take-append-drop, length-set, length-take-le, take_at, drop_at, drop-set-lt, drop-cons, drop-drop, get_or-set_same, le-leb}
 use lib.ListN.{set, get_or}
-use lib.Seq.{paste-zero, paste-suc, take-length, length-paste, take-paste, drop-paste, paste, take-set-le, append_snoc}
+use lib.Seq.{paste-zero, paste-suc, take-length, length-paste, paste, take-set-le, append_snoc}
 use borrow.Author.Tests.{lt-leb}
 use Rattle.print.specs.Decimal.{digits_of, width_of, decimal_of}
-use Rattle.print.specs.Puts.{lay, room, put_in, put_end}
+use Rattle.print.specs.Puts.{lay, put_in, put_end}
 
 -- Where there is room, the bytes are laid.
 pub put-lay : (xs : List ℕ) (at : ℕ) (w : List ℕ) → at + length w ≤ length xs → (at + length w ≡ put_end xs at w) × (lay xs at w ≡ put_in xs at w)

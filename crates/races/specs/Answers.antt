@@ -1,5 +1,5 @@
 -- What a verdict on rows asks, and what the call answers.
-use Rattle.std.specs.Prelude.{ℕ, Bool, cond, ◌&&◌, List, [], ◌∷◌, length, ltb, eqb}
+use Rattle.std.specs.Prelude.{ℕ, cond, ◌&&◌, List, [], ◌∷◌, length, ltb, eqb}
 use Rattle.rows.specs.Limits.{MODELS}
 use Rattle.rows.specs.Refusals.{SHORT_SLICE, LIMITS, RANGE}
 use Rattle.rows.specs.Rows.{rows_in}

@@ -6,20 +6,11 @@ use Rattle.barriers.proofs.first_out.Goals as goal
 pub loop-k-init : goal.loop-k-init
 loop-k-init c = let a = c.args in (refl, arrivals_none a.n a.rows.now a.arrivals.now, omega arith)
 
-pub overflow_add-result : goal.overflow_add-result
-overflow_add-result c = omega (arith, c.loop-k-test.true)
-
 pub returns-then-is_out : goal.returns-then-is_out
 returns-then-is_out c =
     let a = c.args in
     let l = c.loop-k in
     record { answer = sym (l.invariant.0 ∙ out-found a.n a.rows.now a.processes l.stands l.arrivals l.k c.loop-k-test.true c.row_at-row.ensures c.is_out.ensures c.if-is_out.true); left = λ e. absurd (omega arith) }
-
-pub overflow_add-k : goal.overflow_add-k
-overflow_add-k c = omega (arith, c.loop-k-test.true)
-
-pub loop-k-smaller : goal.loop-k-smaller
-loop-k-smaller c = omega (arith, c.loop-k-test.true)
 
 pub loop-k-preserved : goal.loop-k-preserved
 loop-k-preserved c =

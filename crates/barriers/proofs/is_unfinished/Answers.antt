@@ -1,6 +1,6 @@
 -- `barriers::is_unfinished` meets its contract.
-use Rattle.std.proofs.Common.{ap, ◌∙◌, arith, false}
-use Rattle.rows.proofs.Searching.{search_none, search_over, search_on, search_found}
+use Rattle.std.proofs.Common.{ap, ◌∙◌, arith}
+use Rattle.rows.proofs.Searching.{search_none, search_on, search_found}
 use Rattle.barriers.specs.Tables.{unfinished_by}
 use Rattle.barriers.proofs.is_unfinished.Goals as goal
 
@@ -13,15 +13,9 @@ returns-then-is_of_unfinished c =
     let test = unfinished_by a.arrivals.now a.processes in
     search_found test a.rows.now a.n c.loop-k.k c.loop-k-test.true (c.is_of_unfinished.ensures ∙ ap test c.row_at-row.ensures) c.if-is_of_unfinished.true
 
-pub loop-k-smaller : goal.loop-k-smaller
-loop-k-smaller c = omega (arith, c.loop-k-test.true)
-
 pub loop-k-preserved : goal.loop-k-preserved
 loop-k-preserved c =
     let a = c.args in
     let l = c.loop-k in
     let test = unfinished_by a.arrivals.now a.processes in
     (search_on test a.rows.now l.k l.invariant.0 (c.is_of_unfinished.ensures ∙ ap test c.row_at-row.ensures) c.if-is_of_unfinished.false, omega (arith, c.loop-k-test.true))
-
-pub returns : goal.returns
-returns c = let a = c.args in search_over (unfinished_by a.arrivals.now a.processes) a.rows.now c.loop-k.invariant.0 c.loop-k.invariant.1 c.loop-k-test.false

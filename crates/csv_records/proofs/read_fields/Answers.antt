@@ -10,12 +10,6 @@ loop-count-init c =
     let a = c.args in
     start a.s.now a.cut a.at
 
-pub offset_bounds-spans-count : goal.offset_bounds-spans-count
-offset_bounds-spans-count c = omega (arith, c.if-count-lt-KEPT.true)
-
-pub bounds-spans-count : goal.bounds-spans-count
-bounds-spans-count c = omega (arith, c.if-count-lt-KEPT.true)
-
 -- the spans after the branch: those of the fields read, the new one with them
 kept : (c : Joined-count-lt-KEPT) →
     c.if-count-lt-KEPT.spans ≡ first_six (c.loop-count.invariant.done ++ (c.field_at-field.result.span ∷ []))
@@ -24,9 +18,6 @@ kept c =
     let x = c.field_at-field.result.span in
     stored l.invariant x
     (elim c.if-count-lt-KEPT.branch [ then-count-lt-KEPT w ↦ inl (omega (arith, w.if-count-lt-KEPT.true), w.spans-is) | else-count-lt-KEPT w ↦ inr (w.if-count-lt-KEPT.false, w.spans-is) ])
-
-pub overflow_add-count : goal.overflow_add-count
-overflow_add-count c = omega (arith, c.loop-count.invariant.few)
 
 pub overflow_add-i : goal.overflow_add-i
 overflow_add-i c =

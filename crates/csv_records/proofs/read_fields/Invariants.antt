@@ -1,5 +1,5 @@
 -- `csv_records::read_fields` meets its contract.
-use Rattle.csv_records.proofs.Going.{Going, start}
+use Rattle.csv_records.proofs.Going.{Going}
 use Rattle.std.proofs.Common.{length, ◌-◌}
 use Rattle.csv_records.proofs.read_fields.Given as goal
 

@@ -1,7 +1,7 @@
 -- `csv_records::read_record` meets its contract.
 use Rattle.csv_records.proofs.Limit.{read_past, read-cut, read_whole}
 use Rattle.csv_records.specs.Reading.{record_in, reading_of}
-use Rattle.std.proofs.Common.{take, length-take-le, arith, ◌≡◌, sym, ap, ◌∙◌, true}
+use Rattle.std.proofs.Common.{take, arith, ◌≡◌, sym, ap, ◌∙◌, true}
 use Rattle.csv_records.proofs.read_record.Goals as goal
 
 pub returns-then-text-at : goal.returns-then-text-at
@@ -9,11 +9,6 @@ unfolding reading_of
 returns-then-text-at c =
     let a = c.args in
     c.refusal.ensures ∙ sym (ap reading_of (read_past a.text.now a.at a.limit (omega (arith, c.if-text-at.true))))
-
-pub slice_bounds-read_fields-end : goal.slice_bounds-read_fields-end
-slice_bounds-read_fields-end c =
-    let a = c.args in
-    sym (length-take-le a.limit a.text.now (omega arith))
 
 pub returns-then-limit-text : goal.returns-then-limit-text
 returns-then-limit-text c =

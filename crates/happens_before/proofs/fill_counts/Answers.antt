@@ -4,13 +4,8 @@ use Rattle.happens_before.specs.Clock.{with_counts, filled_row}
 use Rattle.rows.proofs.Products.{block_before}
 use Rattle.happens_before.proofs.Filling.{filled_to, none_filled, all-filled, row-filled, row-empty, cells-small}
 use Rattle.happens_before.proofs.Tables.{tables_none}
-use Rattle.happens_before.proofs.Asking.{asked, left-filled, left-kept}
+use Rattle.happens_before.proofs.Asking.{asked, left-filled}
 use Rattle.happens_before.proofs.fill_counts.Goals as goal
-
-pub returns-then-no-ne0 : goal.returns-then-no-ne0
-returns-then-no-ne0 c =
-    let both = let a = c.args in
-    left-kept a.n a.process_limit a.rows.now a.counts.now c.ask_rows-no.ensures c.if-no-ne0.true in record { answer = both.0; left = both.1 }
 
 pub loop-j-init : goal.loop-j-init
 loop-j-init c =
@@ -63,9 +58,6 @@ note_row-requires c =
       tables = l.invariant.2.tables;
     }
 
-pub loop-j-smaller : goal.loop-j-smaller
-loop-j-smaller c = omega (arith, c.loop-j-test.true)
-
 pub loop-j-preserved : goal.loop-j-preserved
 loop-j-preserved c =
     let a = c.args in
@@ -88,9 +80,6 @@ loop-j-preserved c =
         tables = c.note_row.ensures;
       },
     )
-
-pub shape_of-counts : goal.shape_of-counts
-shape_of-counts c = c.loop-j.invariant.2.size ∙ c.clear_counts.auto.counts
 
 pub returns : goal.returns
 returns c =

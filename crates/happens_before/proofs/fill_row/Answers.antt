@@ -1,38 +1,19 @@
 -- `happens_before::fill_row` meets its contract.
 use Rattle.happens_before.proofs.Joins.{process-in, joined-most, row-filled}
 use Rattle.happens_before.proofs.Tables.{last_found, last-few}
-use Rattle.std.proofs.Common.{◌∙◌, arith}
+use Rattle.std.proofs.Common.{arith}
 use Rattle.happens_before.proofs.fill_row.Goals as goal
-
-pub overflow_cast-last : goal.overflow_cast-last
-overflow_cast-last c =
-    let own = rw process-in at c.requires.row_inside.3 in
-    omega (arith, c.requires.row_inside.1)
-
-pub offset_bounds-lasts-process : goal.offset_bounds-lasts-process
-offset_bounds-lasts-process c =
-    let own = rw process-in at c.requires.row_inside.3 in
-    omega (arith, c.requires.row_inside.1)
 
 pub bounds-lasts-process : goal.bounds-lasts-process
 bounds-lasts-process c =
     let own = rw process-in at c.requires.row_inside.3 in
     omega (arith, c.requires.row_inside.1, c.requires.tables.lasts_hold.length_is)
 
-pub overflow_cast-last-2 : goal.overflow_cast-last-2
-overflow_cast-last-2 c =
-    let a = c.args in
-    let few = last-few a.rows.now a.j c.requires.tables (omega (arith, c.requires.row_inside.1, rw process-in at c.requires.row_inside.3)) in
-    omega (arith, few)
-
 pub join_last-requires : goal.join_last-requires
 join_last-requires c =
     let a = c.args in
     let few = last-few a.rows.now a.j c.requires.tables (omega (arith, c.requires.row_inside.1, rw process-in at c.requires.row_inside.3)) in
     (few, c.requires.row_inside.1, c.requires.row_inside.2)
-
-pub join_sends-requires : goal.join_sends-requires
-join_sends-requires c = record { row_inside = (c.requires.row_inside.0, c.requires.row_inside.1, omega (arith, c.requires.row_inside.2, c.join_last.auto.counts)); chains = c.requires.tables.chains }
 
 pub join_barrier-requires : goal.join_barrier-requires
 join_barrier-requires c =
@@ -50,9 +31,6 @@ add_own-requires c =
       own,
       joined-most a.processes a.rows.now a.counts.now a.j c.requires.row_inside.2 c.requires.zero_row found c.join_last.ensures c.join_sends.ensures c.join_barrier.ensures c.requires.small_counts _ own,
     )
-
-pub shape_of-counts : goal.shape_of-counts
-shape_of-counts c = c.add_own.auto.counts ∙ c.join_barrier.auto.counts ∙ c.join_sends.auto.counts ∙ c.join_last.auto.counts
 
 pub returns : goal.returns
 returns c =

@@ -1,30 +1,15 @@
 -- `happens_before::join_pairs` meets its contract.
 use Rattle.happens_before.proofs.Joins.{pairs_first, pairs-join, pairs-skip, pairs-done}
-use Rattle.happens_before.proofs.Tables.{head-found, head-low, next_row_lem, next-found, next_low}
+use Rattle.happens_before.proofs.Tables.{head-found, next_row_lem, next-found, next_low}
 use Rattle.std.proofs.Common.{arith}
 use Rattle.happens_before.proofs.join_pairs.Goals as goal
 use Rattle.happens_before.proofs.join_pairs.Goals.{else-belong, then-belong}
-
-pub overflow_cast-next : goal.overflow_cast-next
-overflow_cast-next c =
-    let a = c.args in
-    rw c.chain_of-chain.ensures (omega (arith, head-low a.rows.now a.j c.requires.chains a.t))
 
 pub loop-next-init : goal.loop-next-init
 loop-next-init c =
     let a = c.args in
     pairs_first a.processes a.rows.now a.counts.now a.t a.j c.requires.turn_inside.3
     (rw c.chain_of-chain.ensures (head-found a.rows.now a.j c.requires.chains a.t))
-
-pub bounds-earlier-k : goal.bounds-earlier-k
-bounds-earlier-k c = omega (arith, c.loop-next.invariant.low, c.requires.chains.few, c.requires.chains.earlier_size, c.loop-next-test.true)
-
-pub overflow_cast-next-in-loop-next : goal.overflow_cast-next-in-loop-next
-overflow_cast-next-in-loop-next c =
-    let a = c.args in
-    let l = c.loop-next in
-    let low = next_low a.rows.now a.j c.requires.chains a.t a.processes a.counts.now c.requires.turn_inside.3 l.invariant c.loop-next-test.true in
-    omega (arith, low, l.invariant.low)
 
 pub loop-next-smaller : goal.loop-next-smaller
 loop-next-smaller c =
@@ -41,9 +26,6 @@ loop-next-preserved c =
     let here = next_row_lem a.rows.now a.j c.requires.chains a.t a.processes a.counts.now fits l.invariant h in
     let link = next-found a.rows.now a.j c.requires.chains a.t a.processes a.counts.now fits l.invariant h in
     elim c.if-belong.branch [ then-belong w ↦ rw w.counts-is (pairs-join a.processes a.rows.now a.counts.now a.t a.j fits l.invariant here c.belong.ensures link w.if-belong.true w.join.auto.counts w.join.ensures) | else-belong w ↦ rw w.counts-is (pairs-skip a.processes a.rows.now a.counts.now a.t a.j fits l.invariant here c.belong.ensures link w.if-belong.false) ]
-
-pub shape_of-counts : goal.shape_of-counts
-shape_of-counts c = c.loop-next.invariant.size
 
 pub returns : goal.returns
 returns c =

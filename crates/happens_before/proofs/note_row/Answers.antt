@@ -4,12 +4,6 @@ use Rattle.happens_before.proofs.Tables.{other-noted, chained-noted}
 use Rattle.std.proofs.Common.{sym, ◌∙◌, arith}
 use Rattle.happens_before.proofs.note_row.Goals as goal
 
-pub overflow_cast-lasts : goal.overflow_cast-lasts
-overflow_cast-lasts c = let own = rw process-in at c.requires.row_inside.2 in omega arith
-
-pub offset_bounds-lasts-rows : goal.offset_bounds-lasts-rows
-offset_bounds-lasts-rows c = let own = rw process-in at c.requires.row_inside.2 in omega arith
-
 pub bounds-lasts-rows : goal.bounds-lasts-rows
 bounds-lasts-rows c = let own = rw process-in at c.requires.row_inside.2 in omega (arith, c.requires.tables.lasts_hold.length_is)
 

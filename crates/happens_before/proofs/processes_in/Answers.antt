@@ -1,10 +1,7 @@
 -- `happens_before::processes_in` meets its contract.
 use Rattle.happens_before.proofs.Asking.{processes-none, processes-out, processes-before}
-use Rattle.std.proofs.Common.{refl, sym, ◌∙◌, arith}
+use Rattle.std.proofs.Common.{sym, ◌∙◌, arith}
 use Rattle.happens_before.proofs.processes_in.Goals as goal
-
-pub loop-i-init : goal.loop-i-init
-loop-i-init c = (omega arith, refl)
 
 pub returns-then-process_limit-rows : goal.returns-then-process_limit-rows
 returns-then-process_limit-rows c =

@@ -1,11 +1,6 @@
 -- `join_checker::judge_join` meets its contract.
-use Rattle.join_checker.proofs.Verdicts.{decides-refused, decides}
+use Rattle.join_checker.proofs.Verdicts.{decides}
 use Rattle.join_checker.proofs.judge_join.Goals as goal
-
-pub returns-in-Refused : goal.returns-in-Refused
-returns-in-Refused c =
-    let a = c.args in
-    decides-refused a.first.now a.second.now a.call a.rows.now a.counts.now a.parts.now c.join_rows.ensures c.in-Refused.is
 
 pub returns-in-Free : goal.returns-in-Free
 returns-in-Free c =

@@ -1,11 +1,7 @@
 -- `join_reading::ask_file` meets its contract.
 use Rattle.std.proofs.Common.{◌∙◌}
-use Rattle.rows.proofs.Products.{product}
 use Rattle.join_reading.proofs.Asking.{as_trace}
 use Rattle.join_reading.proofs.ask_file.Goals as goal
-
-pub overflow_mul-counts_len : goal.overflow_mul-counts_len
-overflow_mul-counts_len c = record { fits = product c.ranges.row_limit.fits c.ranges.process_limit.fits }
 
 pub returns : goal.returns
 returns c =

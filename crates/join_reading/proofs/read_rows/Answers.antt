@@ -12,18 +12,6 @@ loop-spans-init c =
     let a = c.args in
     (begin a.row_limit a.process_limit a.text.now a.start a.rows.now, refl)
 
-pub overflow_cast-place : goal.overflow_cast-place
-overflow_cast-place c = omega (arith, c.loop-spans.invariant.0.going.few, c.requires.0)
-
-pub overflow_add-place : goal.overflow_add-place
-overflow_add-place c = omega (arith, c.loop-spans.invariant.0.going.few, c.requires.0)
-
-pub overflow_cast-result : goal.overflow_cast-result
-overflow_cast-result c = omega (arith, c.loop-spans.invariant.0.going.few, c.requires.0)
-
-pub shape_of-rows-in-End : goal.shape_of-rows-in-End
-shape_of-rows-in-End c = c.loop-spans.invariant.1
-
 pub returns-in-End : goal.returns-in-End
 returns-in-End c =
     let l = c.loop-spans in
@@ -31,9 +19,6 @@ returns-in-End c =
     let text = a.text.now in
     let found = tells (read_at text l.at (length text)) c.read_record-r.result c.read_record-r.ensures c.in-End.is in
     record { answer = at-end (judges_file _ _) l.invariant.0.going found; held = end-held (judges_file _ _) l.invariant.0.going found }
-
-pub shape_of-rows-in-Malformed : goal.shape_of-rows-in-Malformed
-shape_of-rows-in-Malformed c = c.loop-spans.invariant.1
 
 pub returns-in-Malformed : goal.returns-in-Malformed
 returns-in-Malformed c =
@@ -43,9 +28,6 @@ returns-in-Malformed c =
     let found = tells (read_at text l.at (length text)) c.read_record-r.result c.read_record-r.ensures c.in-Malformed.is in
     refusal a.rows.now l.rows (malformed_here (judges_file _ _) l.invariant.0.going found) in record { answer = both.0; held = both.1 }
 
-pub shape_of-rows-in-Limit : goal.shape_of-rows-in-Limit
-shape_of-rows-in-Limit c = c.loop-spans.invariant.1
-
 pub returns-in-Limit : goal.returns-in-Limit
 returns-in-Limit c =
     let both = let l = c.loop-spans in
@@ -54,9 +36,6 @@ returns-in-Limit c =
     let found = tells (read_at text l.at (length text)) c.read_record-r.result c.read_record-r.ensures c.in-Limit.is in
     refusal a.rows.now l.rows (limit-here (judges_file _ _) l.invariant.0.going found) in record { answer = both.0; held = both.1 }
 
-pub shape_of-rows-in-No : goal.shape_of-rows-in-No
-shape_of-rows-in-No c = c.loop-spans.invariant.1
-
 pub returns-in-No : goal.returns-in-No
 returns-in-No c =
     let both = let l = c.loop-spans in
@@ -64,11 +43,6 @@ returns-in-No c =
     let told = c.in-Record.is in
     let rows = c.args.rows.now in
     refusal rows l.rows (no_row l.invariant.0 read told c.judge_record.ensures c.in-No.is) in record { answer = both.0; held = both.1 }
-
-pub overflow_add-n : goal.overflow_add-n
-overflow_add-n c =
-    let few = c.loop-spans.invariant.0.going.few in
-    omega (arith, few, c.requires.0)
 
 pub loop-spans-smaller : goal.loop-spans-smaller
 loop-spans-smaller c =

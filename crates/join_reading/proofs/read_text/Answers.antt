@@ -8,9 +8,6 @@ use Rattle.join_reading.specs.Reading.{file_from}
 use Rattle.join_reading.proofs.Judging.{no_header, header-missing, header-malformed, header-over, header_read}
 use Rattle.join_reading.proofs.read_text.Goals as goal
 
-pub read_rows-requires : goal.read_rows-requires
-read_rows-requires c = c.requires
-
 pub returns-then-header-eq0 : goal.returns-then-header-eq0
 returns-then-header-eq0 c =
     let a = c.args in
@@ -26,9 +23,6 @@ returns-then-not-is_header c =
     let other = c.if-not-is_header.true in
     refusal a.rows.now a.rows.now
     (header_read a.row_limit a.process_limit a.header a.text.now some read told c.is_header.ensures other) in record { answer = both.0; held = both.1 }
-
-pub read_rows-requires-in-Record : goal.read_rows-requires-in-Record
-read_rows-requires-in-Record c = c.requires
 
 pub returns-in-End : goal.returns-in-End
 returns-in-End c =

@@ -7,16 +7,10 @@ use Rattle.races.proofs.first_race.Goals as goal
 pub loop-y-init : goal.loop-y-init
 loop-y-init c = (omega arith, refl, none-start c.args.n c.args.model c.args.rows.now)
 
-pub put_races_with-found-requires : goal.put_races_with-found-requires
-put_races_with-found-requires c = record { given = c.requires; later_row = (c.loop-y-test.true, omega arith) }
-
 pub returns-then-found-gt0 : goal.returns-then-found-gt0
 returns-then-found-gt0 c =
     answer-race c.args.n c.args.model c.args.rows.now c.loop-y.y c.loop-y.pair c.loop-y-test.true c.loop-y.invariant.2 c.loop-y.invariant.1
     c.put_races_with-found.ensures.answer c.if-found-gt0.true c.put_races_with-found.ensures.listed
-
-pub loop-y-smaller : goal.loop-y-smaller
-loop-y-smaller c = omega (arith, c.loop-y-test.true)
 
 pub loop-y-preserved : goal.loop-y-preserved
 loop-y-preserved c = (omega (arith, c.loop-y-test.true), ap length c.put_races_with-found.ensures.listed ∙ length-with _ _ _ ∙ c.loop-y.invariant.1, none-next c.args.n c.args.model c.args.rows.now c.loop-y.y c.loop-y.invariant.2 c.put_races_with-found.ensures.answer c.if-found-gt0.false)

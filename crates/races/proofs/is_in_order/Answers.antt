@@ -1,7 +1,7 @@
 -- `races::is_in_order` meets its contract.
 use Rattle.std.proofs.Common.{arith, sym, ◌∙◌, ◌<◌}
 use borrow.Author.Tests.{not-true, not-false}
-use Rattle.races.proofs.Passes.{process-low, asked, compared, order-read, order-none, order-own, order-noted}
+use Rattle.races.proofs.Passes.{asked, compared, order-read, order-none, order-own, order-noted}
 use Rattle.races.proofs.is_in_order.Goals as goal
 use Rattle.races.proofs.is_in_order.Goals.{else-rows-at-eq-WRITE, then-rows-at-eq-WRITE+else-not-later}
 
@@ -18,11 +18,6 @@ returns-then-not-later c =
     let l : 0 < a.later.refresh = omega (arith, c.if-later-eq0.false) in
     let q = not-true a.later.own c.if-not-later.true in
     order-noted given.given a.later.y given.later_row.1 c.if-rows-at-eq-WRITE.true given.later_row.2 l given.later_row.4 q (given.noted_last l (sym given.later_row.4 ∙ q))
-
-pub overflow_cast-rows : goal.overflow_cast-rows
-overflow_cast-rows c =
-    let given = c.requires in
-    omega (arith, process-low given.given given.later_row.1, given.given.few-processes)
 
 pub counts_before-requires : goal.counts_before-requires
 counts_before-requires c =

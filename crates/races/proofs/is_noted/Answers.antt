@@ -1,14 +1,7 @@
 -- `races::is_noted` meets its contract.
-use Rattle.std.proofs.Common.{arith, sym, ◌∙◌, ◌-◌, ◌<◌}
-use mathlib.Core.Bool.{false≢true}
-use Rattle.races.proofs.Passes.{process-low, asked, compared, no-data-noted, no-publish, other-file, by-counts}
+use Rattle.std.proofs.Common.{arith, ◌-◌, ◌<◌}
+use Rattle.races.proofs.Passes.{asked, compared, no-data-noted, no-publish, other-file, by-counts}
 use Rattle.races.proofs.is_noted.Goals as goal
-
-pub returns-then-later-eq0 : goal.returns-then-later-eq0
-returns-then-later-eq0 c = λ h q. absurd (omega (arith, c.if-later-eq0.true))
-
-pub returns-then-later : goal.returns-then-later
-returns-then-later c = λ h q. absurd (false≢true (sym q ∙ sym c.requires.later_row.3 ∙ c.if-later.true))
 
 pub returns-then-rows-at-le-WRITE : goal.returns-then-rows-at-le-WRITE
 returns-then-rows-at-le-WRITE c =
@@ -28,11 +21,6 @@ returns-then-rows-to c =
     let given = c.requires in
     λ h q. other-file given.given (a.later.refresh - 1) given.later_row.0 given.later_row.1 c.is_publish.ensures
     (c.if-not-is_publish.false) c.if-rows-to.true
-
-pub overflow_cast-rows : goal.overflow_cast-rows
-overflow_cast-rows c =
-    let given = c.requires in
-    omega (arith, process-low given.given given.later_row.1, given.given.few-processes)
 
 pub counts_before-requires : goal.counts_before-requires
 counts_before-requires c =

@@ -10,32 +10,11 @@ use Rattle.races.proofs.note_rows.Goals.{else-is_noted, then-is_noted}
 pub loop-c-init : goal.loop-c-init
 loop-c-init c = noting_start (rows_in c.args.later.n c.args.rows.now) c.args.later.model c.args.later.y c.requires.later_row.1
 
-pub is_noted-requires : goal.is_noted-requires
-is_noted-requires c =
-    let given = c.requires in
-    let h : c.loop-c.c < c.args.later.n = omega (arith, c.loop-c-test.true, given.later_row.0) in
-    record { given = given.given; later_row = (given.later_row.0, h, given.later_row.2, given.later_row.3) }
-
-pub overflow_cast-p : goal.overflow_cast-p
-overflow_cast-p c =
-    let given = c.requires in
-    let h : c.loop-c.c < c.args.later.n = omega (arith, c.loop-c-test.true, given.later_row.0) in
-    omega (arith, process-low given.given h, given.given.few-processes)
-
-pub offset_bounds-last-p : goal.offset_bounds-last-p
-offset_bounds-last-p c =
-    let given = c.requires in
-    let h : c.loop-c.c < c.args.later.n = omega (arith, c.loop-c-test.true, given.later_row.0) in
-    omega (arith, process-low given.given h, given.given.few-processes)
-
 pub bounds-last-p : goal.bounds-last-p
 bounds-last-p c =
     let given = c.requires in
     let h : c.loop-c.c < c.args.later.n = omega (arith, c.loop-c-test.true, given.later_row.0) in
     omega (arith, process-low given.given h, given.given.few-processes)
-
-pub loop-c-smaller : goal.loop-c-smaller
-loop-c-smaller c = omega (arith, c.loop-c-test.true)
 
 pub loop-c-preserved : goal.loop-c-preserved
 loop-c-preserved c =

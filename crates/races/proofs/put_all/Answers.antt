@@ -2,18 +2,12 @@
 use Rattle.std.proofs.Common.{◌*◌, ◌≤◌, arith, length}
 use Rattle.rows.specs.Rows.{rows_in}
 use Rattle.races_meaning.specs.Lists.{race_pairs}
-use Rattle.races.proofs.Whole.{square_most, pairs-in, room_in, room_out}
+use Rattle.races.proofs.Whole.{square_most, pairs-in, room_in}
 use Rattle.races.proofs.put_all.Goals as goal
 use Rattle.races.proofs.put_all.Goals.{else-list-n, then-list-n+else-list-needed}
 
-pub overflow_mul-n : goal.overflow_mul-n
-overflow_mul-n c = omega (arith, square_most c.requires.few-rows)
-
 pub overflow_mul-needed : goal.overflow_mul-needed
 overflow_mul-needed c = omega (arith, c.put_races-needed.ensures.answer, pairs-in c.args.n c.args.model c.args.rows.now, square_most c.requires.few-rows)
-
-pub returns-then-list-needed : goal.returns-then-list-needed
-returns-then-list-needed c = let both = room_out (race_pairs (rows_in c.args.n c.args.rows.now) c.args.model) c.args.list.now (omega (arith, c.put_races-needed.ensures.answer, c.if-list-needed.true)) in record { answer = both.0; listed = both.1 }
 
 pub overflow_cast-result : goal.overflow_cast-result
 overflow_cast-result c = omega (arith, c.put_races-found.ensures.answer, pairs-in c.args.n c.args.model c.args.rows.now, square_most c.requires.few-rows)

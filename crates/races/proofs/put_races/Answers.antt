@@ -1,8 +1,7 @@
 -- `races::put_races` meets its contract.
-use Rattle.std.proofs.Common.{arith, ap, ◌∙◌, length}
+use Rattle.std.proofs.Common.{arith}
 use Rattle.rows.specs.Rows.{rows_in}
 use Rattle.rows.proofs.Slices.{length-rows}
-use Rattle.races.proofs.Putting.{length-with}
 use Rattle.races.proofs.Passes.{covering_start, covering_few, covering_next, covering_done}
 use Rattle.races.proofs.put_races.Goals as goal
 
@@ -12,14 +11,8 @@ loop-y-init c = covering_start (rows_in c.args.n c.args.rows.now) c.args.model c
 pub put_races_with-found-requires : goal.put_races_with-found-requires
 put_races_with-found-requires c = record { given = c.requires; later_row = (c.loop-y-test.true, covering_few c.loop-y.invariant (omega (arith, length-rows c.args.n c.args.rows.now, c.requires.few-rows))) }
 
-pub loop-y-smaller : goal.loop-y-smaller
-loop-y-smaller c = omega (arith, c.loop-y-test.true)
-
 pub loop-y-preserved : goal.loop-y-preserved
 loop-y-preserved c = covering_next c.loop-y.invariant (omega (arith, length-rows c.args.n c.args.rows.now, c.loop-y-test.true)) c.put_races_with-found.ensures.answer c.put_races_with-found.ensures.listed
-
-pub shape_of-list : goal.shape_of-list
-shape_of-list c = ap length c.loop-y.invariant.put ∙ length-with _ _ _
 
 pub returns : goal.returns
 returns c = let both = covering_done c.loop-y.invariant (omega (arith, length-rows c.args.n c.args.rows.now, c.loop-y-test.false)) in record { answer = both.0; listed = both.1 }

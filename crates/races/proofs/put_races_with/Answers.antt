@@ -12,9 +12,6 @@ returns-then-rows-to-gt-WRITE c =
     let none = no_data (rows_in c.args.n c.args.rows.now) c.args.model c.args.y (omega (arith, kind_at c.requires.given c.requires.later_row.0, c.if-rows-to-gt-WRITE.true)) c.args.y in
     record { answer = omega (arith, ap length none); listed = ap (λ (pairs : List RowPair). with_pairs c.args.found pairs c.args.list.now) (sym none) }
 
-pub refresh_at-refresh-requires : goal.refresh_at-refresh-requires
-refresh_at-refresh-requires c = (c.requires.later_row.0, c.requires.given.rows_within)
-
 pub note_rows-last-requires : goal.note_rows-last-requires
 note_rows-last-requires c =
     let small : c.refresh_at-refresh.result ≤ c.args.n = omega (arith, c.refresh_at-refresh.ensures, refresh_most (rows_in c.args.n c.args.rows.now) c.args.model c.args.y, c.requires.later_row.0) in

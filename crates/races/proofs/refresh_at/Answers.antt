@@ -1,21 +1,12 @@
 -- `races::refresh_at` meets its contract.
 use Rattle.races.proofs.Cells.{last_none, refreshing, refresh-here, refresh-before, refresh_own, refresh_earlier}
-use Rattle.std.proofs.Common.{refl, sym, ◌∙◌, add-one, arith}
+use Rattle.std.proofs.Common.{sym, ◌∙◌, add-one, arith}
 use Rattle.races.proofs.refresh_at.Goals as goal
-
-pub is_refresh-requires : goal.is_refresh-requires
-is_refresh-requires c = tt
 
 pub returns-then-is_refresh : goal.returns-then-is_refresh
 returns-then-is_refresh c =
     let a = c.args in
     rw add-one (refresh_own a.rows.now a.n a.model a.y (sym c.is_refresh.ensures ∙ c.if-is_refresh.true))
-
-pub loop-i-init : goal.loop-i-init
-loop-i-init c = (omega arith, refl)
-
-pub refreshes_file-requires : goal.refreshes_file-requires
-refreshes_file-requires c = tt
 
 pub returns-then-refreshes_file : goal.returns-then-refreshes_file
 returns-then-refreshes_file c =

@@ -1,11 +1,8 @@
 -- `ranges::overlap` meets its contract.
-use Rattle.std.proofs.Common.{arith, ℕ, ◌-◌, ap, ◌∙◌, cond}
+use Rattle.std.proofs.Common.{ℕ, ◌-◌, ap, ◌∙◌, cond}
 use lib.Dec.{leb}
-use Rattle.ranges.proofs.Differences.{one-most, told}
+use Rattle.ranges.proofs.Differences.{told}
 use Rattle.ranges.proofs.overlap.Goals as goal
-
-pub overflow_sub-result : goal.overflow_sub-result
-overflow_sub-result c = omega (arith, c.at_least.ensures, one-most (leb c.smaller-end.result c.larger-start.result))
 
 pub returns : goal.returns
 returns c =

@@ -1,5 +1,4 @@
 -- `join::choosing::is_ready` meets its contract.
-use borrow.Author.Tests.{not-true, not-false}
 use Rattle.join.proofs.Choices.{ready-not, ready-some}
 use Rattle.join.proofs.choosing.is_ready.Goals as goal
 

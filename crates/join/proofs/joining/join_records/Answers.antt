@@ -15,25 +15,10 @@ loop-choice-init c =
       refl,
     )
 
-pub overflow_cast-result : goal.overflow_cast-result
-overflow_cast-result c = omega (arith, c.loop-choice.invariant.0.few, c.requires.fits.few-rows)
-
-pub shape_of-rows-in-Over : goal.shape_of-rows-in-Over
-shape_of-rows-in-Over c = c.loop-choice.invariant.1
-
-pub shape_of-parts-in-Over : goal.shape_of-parts-in-Over
-shape_of-parts-in-Over c = c.loop-choice.invariant.2
-
 pub returns-in-Over : goal.returns-in-Over
 returns-in-Over c =
     let both = let l = c.loop-choice in
     over l.invariant.0 c.requires.fits.few-processes c.choose.ensures c.in-Over.is in record { answer = both.0; held = both.1 }
-
-pub shape_of-rows-in-Stuck : goal.shape_of-rows-in-Stuck
-shape_of-rows-in-Stuck c = c.loop-choice.invariant.1
-
-pub shape_of-parts-in-Stuck : goal.shape_of-parts-in-Stuck
-shape_of-parts-in-Stuck c = c.loop-choice.invariant.2
 
 pub returns-in-Stuck : goal.returns-in-Stuck
 returns-in-Stuck c =
@@ -41,27 +26,12 @@ returns-in-Stuck c =
     let l = c.loop-choice in
     refusal a.rows.now l.rows a.parts.now l.parts (stuck l.invariant.0 c.requires.fits.few-processes c.choose.ensures c.in-Stuck.is) in record { answer = both.0; held = both.1 }
 
-pub overflow_cast-result-then-no-ne0 : goal.overflow_cast-result-then-no-ne0
-overflow_cast-result-then-no-ne0 c = omega (arith, c.loop-choice.invariant.0.few, c.requires.fits.few-rows)
-
-pub overflow_add-result : goal.overflow_add-result
-overflow_add-result c = omega (arith, c.loop-choice.invariant.0.few, c.requires.fits.few-rows)
-
-pub shape_of-rows-then-no-ne0 : goal.shape_of-rows-then-no-ne0
-shape_of-rows-then-no-ne0 c = c.loop-choice.invariant.1
-
-pub shape_of-parts-then-no-ne0 : goal.shape_of-parts-then-no-ne0
-shape_of-parts-then-no-ne0 c = c.loop-choice.invariant.2
-
 pub returns-then-no-ne0 : goal.returns-then-no-ne0
 returns-then-no-ne0 c =
     let both = let a = c.args in
     let l = c.loop-choice in
     refusal a.rows.now l.rows a.parts.now l.parts
     (row-refused l.invariant.0 c.requires.fits.few-processes c.choose.ensures c.in-Take.is c.hand_over-part.ensures c.row_of-row.ensures (c.take_row-no.ensures.answer, c.take_row-no.ensures.left) c.if-no-ne0.true) in record { answer = both.0; held = both.1 }
-
-pub overflow_add-n : goal.overflow_add-n
-overflow_add-n c = omega (arith, c.loop-choice.invariant.0.few, c.requires.fits.few-rows)
 
 pub loop-choice-smaller : goal.loop-choice-smaller
 loop-choice-smaller c =
