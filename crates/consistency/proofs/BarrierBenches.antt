@@ -1,6 +1,6 @@
 -- Three bench traces with a barrier, from their texts to their verdicts in all models, by the definitions: process 0 writes and arrives, process 1
 -- arrives and reads, and 0 commits before the barrier, between the barrier and the read, or behind the read.
-use Rattle.std.proofs.Common.{ℕ, ◌≡◌, refl, List, [], ◌∷◌, ◌++◌, map}
+use Rattle.std.proofs.Common.{ℕ, ◌≡◌, refl, List, [], ◌∷◌, map}
 use Rattle.csv_field.specs.FieldReading.{field_at, after_cr, stop_of, text_length, is_text}
 use Rattle.csv_content.specs.Content.{content_of, same_bytes}
 use Rattle.csv_records.specs.Reading.{records, records_from, on_found, read_at, fields_from, on_stop, prepend}

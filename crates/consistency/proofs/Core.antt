@@ -1,7 +1,7 @@
 -- The core of demands 2 and 3, at one byte of one file and over any edges: what a row does there is all that is known of it. Orders are lists
 -- with the latest row first, so that a prefix is a tail.
-use Rattle.std.proofs.Common.{ℕ, suc, ◌<◌, ◌≡◌, ◌⊎◌, inl, inr, Bool, true, false, cond, List, [], ◌∷◌, ◌++◌}
-use Rattle.consistency.proofs.Byte.{Byte, fresh_byte, write_byte, publish_byte, refresh_byte, step_byte}
+use Rattle.std.proofs.Common.{ℕ, suc, ◌<◌, ◌≡◌, ◌⊎◌, Bool, true, false, cond, List, [], ◌∷◌, ◌++◌}
+use Rattle.consistency.proofs.Byte.{Byte, fresh_byte, publish_byte, step_byte}
 use Rattle.happens_before.specs.Order.{HB}
 use Rattle.happens_before.proofs.Clocks.{Forward}
 use Rattle.rows.specs.Lists.{In}

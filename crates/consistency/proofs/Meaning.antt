@@ -1,6 +1,5 @@
 -- Runs by the bytes alone, and the rows as one byte of one file sees them.
-use Rattle.std.proofs.Common.{ℕ, suc, ◌<◌, ◌≡◌, refl, sym, ap, ◌∙◌, Bool, true, false, ◌&&◌, List, [], ◌∷◌, length, eqb-true}
-use mathlib.Core.Bool.{and-false}
+use Rattle.std.proofs.Common.{ℕ, ◌≡◌, ap, ◌∙◌, Bool, true, false, ◌&&◌, List, [], ◌∷◌, length, eqb-true}
 use lib.Dec.{eqb}
 use Rattle.rows.specs.Kinds.{READ, WRITE}
 use Rattle.models.specs.Table.{publishes, refreshes}

@@ -1,7 +1,7 @@
 -- The rules of document 01 on one byte, each as a law of its definition.
-use Rattle.std.proofs.Common.{ℕ, ◌+◌, ◌*◌, ◌/◌, ◌≤◌, ◌<◌, arith, ◌≡◌, refl, true, false, eq-eqb}
-use Rattle.extents_meaning.specs.Cells.{Bytes, cell_of, number_in, mark_in, unpublished, cleared, published, as_published, refreshed, overwrite}
-use Rattle.extents_meaning.proofs.Overwrites.{over-in, over-before, over-behind}
+use Rattle.std.proofs.Common.{ℕ, ◌+◌, ◌≤◌, ◌<◌, arith, ◌≡◌, true, false, eq-eqb}
+use Rattle.extents_meaning.specs.Cells.{Bytes, cell_of, number_in, mark_in, unpublished, published, as_published, refreshed, overwrite}
+use Rattle.extents_meaning.proofs.Overwrites.{over-in}
 
 -- a write puts its row number into its range, with its mark
 pub write_number : (start n number : ℕ) (f : Bytes) (b : ℕ) → start ≤ b → b < start + n → number_in (overwrite start n (cell_of number 1) f b) ≡ number

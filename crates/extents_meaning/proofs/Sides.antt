@@ -1,5 +1,5 @@
 -- Maps side by side in a slice: putting one leaves the others.
-use Rattle.std.proofs.Common.{ℕ, zero, suc, ◌+◌, ◌*◌, ◌-◌, min, ◌≤◌, ◌<◌, arith, mul-le-mul_right, ◌≡◌, refl, sym, ap, ◌∙◌, ◌⊎◌, inl, inr, List, [], ◌∷◌, ◌++◌, length, take, drop, length-append, length-take, length-drop, take-append-drop, length-take-le, take_at, drop_at, ext_get_or, take-add, get_or-take, get_or-drop, get_or-append-add}
+use Rattle.std.proofs.Common.{ℕ, suc, ◌+◌, ◌*◌, ◌-◌, min, ◌≤◌, ◌<◌, arith, mul-le-mul_right, ◌≡◌, sym, ap, ◌∙◌, ◌⊎◌, inl, inr, List, ◌++◌, length, take, drop, length-append, length-take, length-drop, take-append-drop, length-take-le, take_at, drop_at, ext_get_or, take-add, get_or-take, get_or-drop, get_or-append-add}
 use native.Mathlib.Decide.{dec_lt}
 use lib.ListN.{get_or, get_or-append}
 use lib.Seq.{take-append-le}

@@ -1,5 +1,5 @@
 -- Maps in slices: what is lawful is what was written from lawful runs, and it is read back as them.
-use Rattle.std.proofs.Common.{ℕ, zero, suc, ◌+◌, ◌*◌, ◌-◌, ◌/◌, ◌%◌, ◌≤◌, ◌<◌, add-zero, arith, ◌≡◌, refl, sym, ap, ◌∙◌, ◌≢◌, Bool, true, false, cond, not, ◌&&◌, List, [], ◌∷◌, ◌++◌, append_assoc, append-nil, length, drop, replicate, length-append, length-drop, drop_at, get_or-drop, drop-drop, leb-true, eqb-true, le-leb, lt-ltb, le-ltb, eq-eqb, ne_eqb}
+use Rattle.std.proofs.Common.{ℕ, zero, suc, ◌+◌, ◌*◌, ◌-◌, ◌/◌, ◌%◌, ◌≤◌, ◌<◌, add-zero, arith, ◌≡◌, refl, sym, ap, ◌∙◌, ◌≢◌, Bool, true, false, cond, not, ◌&&◌, List, [], ◌∷◌, ◌++◌, append_assoc, append-nil, length, drop, replicate, length-append, length-drop, drop_at, get_or-drop, drop-drop, leb-true, eqb-true, le-leb, eq-eqb, ne_eqb}
 use native.Mathlib.Nat.{suc-sub-suc, sub-zero}
 use native.Mathlib.Decide.{dec_lt}
 use mathlib.Core.Bool.{false≢true}

@@ -1,5 +1,5 @@
 -- Maps in slices: four numbers for each run (start, length, row number, mark), then 0.
-use Rattle.std.specs.Prelude.{ℕ, zero, suc, ◌+◌, ◌*◌, ◌-◌, ◌/◌, ◌%◌, Bool, true, false, cond, not, ◌&&◌, List, [], ◌∷◌, ◌++◌, length, get_or, take, drop, replicate, leb, eqb}
+use Rattle.std.specs.Prelude.{ℕ, zero, suc, ◌+◌, ◌*◌, ◌-◌, ◌/◌, ◌%◌, Bool, true, cond, not, ◌&&◌, List, [], ◌∷◌, ◌++◌, length, get_or, take, drop, replicate, leb, eqb}
 use Rattle.rows.specs.Limits.{ROWS, OFFSET_MAX}
 use Rattle.extents_meaning.specs.Cells.{Bytes, cell_of, number_in, mark_in, unpublished}
 use Rattle.extents_meaning.specs.Runs.{Run, run_of, runs_of, cell_at}

@@ -1,5 +1,5 @@
 -- Where values change, and how many runs that makes.
-use Rattle.std.specs.Prelude.{ℕ, zero, suc, ◌+◌, ◌≡◌, ◌⊎◌, Bool, cond, not, ◌&&◌, List, [], ◌∷◌, eqb}
+use Rattle.std.specs.Prelude.{ℕ, zero, suc, ◌+◌, cond, not, ◌&&◌, eqb}
 use Rattle.extents_meaning.specs.Cells.{Bytes}
 
 -- how many bytes of n from s on start a run, behind a byte of cell c: their cell is other than 0 and than the one before

@@ -1,5 +1,5 @@
 -- Longest runs: how a map stores the bytes other than 0, and how a read lists its pieces.
-use Rattle.std.specs.Prelude.{ℕ, zero, suc, ◌+◌, ◌≤◌, ◌<◌, ◌≡◌, Bool, cond, ◌&&◌, List, [], ◌∷◌, eqb}
+use Rattle.std.specs.Prelude.{ℕ, zero, suc, ◌+◌, ◌≤◌, ◌<◌, ◌≡◌, cond, ◌&&◌, List, [], ◌∷◌, eqb}
 use Rattle.rows.specs.Limits.{ROWS, OFFSET_MAX}
 use Rattle.extents_meaning.specs.Cells.{Bytes, number_in, in_range}
 

@@ -1,5 +1,5 @@
 -- Rows whose messages are in order and whose barriers are kept stay so where the next row of one file, if it does not wait, moves to the front.
-use Rattle.std.proofs.Common.{ℕ, suc, ◌+◌, ◌<◌, arith, ◌≡◌, refl, sym, ap, subst, ◌∙◌, Bool, true, false, ◌||◌, List, [], ◌∷◌, ◌++◌, append-nil, length, take}
+use Rattle.std.proofs.Common.{ℕ, suc, ◌+◌, ◌<◌, arith, ◌≡◌, refl, sym, ap, subst, ◌∙◌, Bool, false, ◌||◌, List, [], ◌∷◌, ◌++◌, append-nil, length, take}
 use mathlib.Core.Bool.{false≢true, or_assoc, or_comm}
 use lib.Seq.{append_snoc}
 use Rattle.rows.specs.declared.Row.{Row}

@@ -1,5 +1,5 @@
 -- Rows of two files that share no process, and rows that wait.
-use Rattle.std.proofs.Common.{ℕ, ◌<◌, arith, ◌≡◌, sym, ap, ◌∙◌, true, false, not, ◌&&◌, List, length, take, length-take, get_or-take, eqb-true, eq-eqb}
+use Rattle.std.proofs.Common.{ℕ, ◌<◌, arith, ◌≡◌, sym, ap, ◌∙◌, false, not, ◌&&◌, List, length, take, length-take, get_or-take, eqb-true, eq-eqb}
 use mathlib.Core.Bool.{false≢true}
 use lib.Dec.{eqb}
 use borrow.Author.Tests.{not-true, not-false}

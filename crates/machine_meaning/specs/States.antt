@@ -1,5 +1,5 @@
 -- The state of a machine and of a plain file: a header, and the maps in a slice. The published map stands first, then each process's.
-use Rattle.std.specs.Prelude.{ℕ, zero, suc, ◌+◌, ◌*◌, Bool, true, ◌&&◌, List, ◌++◌, length, drop, leb, ltb}
+use Rattle.std.specs.Prelude.{ℕ, suc, ◌+◌, ◌*◌, Bool, ◌&&◌, List, ◌++◌, length, drop, leb, ltb}
 use Rattle.rows.specs.Limits.{MODELS, FILES}
 use Rattle.rows.specs.Counting.{blocks, all_below}
 use Rattle.rows.specs.Questions.{is_process_limit}
@@ -7,7 +7,7 @@ use Rattle.extents_meaning.specs.Cells.{Bytes}
 use Rattle.extents_meaning.specs.Runs.{runs_of}
 pub use Rattle.extents_meaning.specs.Maps.{map_for, map_at}
 use Rattle.extents_meaning.specs.Maps.{bytes_of, lawful, lawful_published}
-use Rattle.machine_meaning.specs.Layers.{Layers, nothing}
+use Rattle.machine_meaning.specs.Layers.{Layers}
 
 -- What a machine is made for. A plain file ignores its model.
 pub record Header : Type 0 where

@@ -1,13 +1,12 @@
 -- Making and stepping a machine and a plain file: the questions in document 01's order, and what making and a step answer and leave.
-use Rattle.std.specs.Prelude.{ℕ, ◌+◌, ◌*◌, Bool, true, false, cond, not, ◌&&◌, ◌||◌, List, [], ◌∷◌, ◌++◌, length, drop, replicate, leb, ltb, eqb}
+use Rattle.std.specs.Prelude.{ℕ, ◌+◌, ◌*◌, Bool, cond, not, ◌&&◌, ◌||◌, List, [], ◌∷◌, ◌++◌, length, drop, replicate, leb, ltb, eqb}
 use Rattle.rows.specs.Limits.{MODELS, ROWS, FILES, OFFSET_MAX}
 use Rattle.rows.specs.Kinds.{READ, WRITE}
 use Rattle.rows.specs.declared.Row.{Row}
 use Rattle.rows.specs.Questions.{Question, first_no, is_process_limit}
-use Rattle.extents_meaning.specs.Cells.{Bytes}
 use Rattle.extents_meaning.specs.Runs.{Run}
 use Rattle.extents_meaning.specs.Maps.{threes}
-use Rattle.machine_meaning.specs.Layers.{Layers, after_row, after_plain, pieces_read, of_file}
+use Rattle.machine_meaning.specs.Layers.{after_row, after_plain, pieces_read, of_file}
 use Rattle.machine_meaning.specs.States.{Header, maps_length, lawful_state, layers_in, layers_to, layers_fit, lawful_plain, plain_in, plain_to, plain_fits}
 
 -- ---- Making

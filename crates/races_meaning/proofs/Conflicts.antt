@@ -1,5 +1,5 @@
 -- A conflict is what document 01 says.
-use Rattle.std.proofs.Common.{ℕ, ◌+◌, ◌≤◌, ◌<◌, ◌≡◌, refl, sym, ap, ◌∙◌, ◌↔◌, ◌⊎◌, inl, inr, Bool, true, false, not, ◌&&◌, ◌||◌, eq-eqb, ne_eqb, eqb-true}
+use Rattle.std.proofs.Common.{ℕ, ◌+◌, ◌≤◌, ◌<◌, ◌≡◌, ◌↔◌, ◌⊎◌, inl, inr, true, not, ◌||◌, eq-eqb, ne_eqb, eqb-true}
 use mathlib.Core.Bool.{or-true}
 use lib.Dec.{eqb}
 use borrow.Author.Tests.{eqb-false, not-true}

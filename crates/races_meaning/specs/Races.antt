@@ -1,8 +1,8 @@
 -- Conflicts, chains, races and the verdict, as document 01 restates them from the paper by Wang, Mohror and Snir. Rows are named by their
 -- places, from 0; a verdict gives row numbers, which are one more.
-use Rattle.std.specs.Prelude.{ℕ, zero, suc, ◌+◌, max, min, Bool, true, false, cond, not, ◌&&◌, ◌||◌, List, length, leb, ltb, eqb}
+use Rattle.std.specs.Prelude.{ℕ, ◌+◌, max, min, Bool, cond, not, ◌&&◌, ◌||◌, List, length, ltb, eqb}
 use Rattle.rows.specs.Kinds.{READ, WRITE, COMMIT, OPEN, CLOSE, SYNC}
-use Rattle.models.specs.Models.{POSIX, COMMIT_MODEL, SESSION, MPI_IO}
+use Rattle.models.specs.Models.{POSIX, COMMIT_MODEL, SESSION}
 use Rattle.rows.specs.declared.Row.{Row}
 use Rattle.rows.specs.Counting.{any_below, least_from}
 use Rattle.happens_before.specs.Order.{same_process, edge, hb}

@@ -1,6 +1,6 @@
 -- How a chain is searched for: by the first row that publishes after X and the last row that refreshes before Y, which are the best choices,
 -- and one comparison of counts. The laws `best_chain_lem` and `counts-tell` say that nothing is lost.
-use Rattle.std.specs.Prelude.{ℕ, zero, suc, ◌-◌, Bool, cond, ◌&&◌, List, length, leb, ltb}
+use Rattle.std.specs.Prelude.{ℕ, suc, ◌-◌, Bool, cond, ◌&&◌, List, length, leb, ltb}
 use Rattle.rows.specs.Kinds.{READ, WRITE}
 use Rattle.models.specs.Table.{publishes, refreshes}
 use Rattle.rows.specs.declared.Row.{Row}
