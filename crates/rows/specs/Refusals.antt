@@ -1,5 +1,8 @@
--- The refusals by their numbers, as src/refusal.rt has them: the questions of documents 01 and 02.
-use Rattle.std.specs.Prelude.{ℕ}
+-- The refusals and their numbers: the questions of documents 01 and 02, as src/refusal.rt has them.
+use Rattle.std.specs.Prelude.{ℕ, ◌≡◌, Result, MatchResult}
+use Rattle.rows.specs.declared.refusal.Refusal.{Refusal}
+use Rattle.rows.specs.declared.refusal.Refusal.TheVariants.{ShortSlice, Limits, HeaderWord, Malformed, Header, RowLimit, SixFields, KnownKind, UsedFields, Range, RangeEnd, MessageOrder, State, RowNumber, OfFile, MapSpace, AnswerSpace, TextSpace, SharedProcess, Stuck, WaitOrder, BarrierOrder, ListSpace}
+use Rattle.rows.specs.declared.refusal.Refused.{Refused}
 
 -- Are the lent slices long enough?
 abbrev pub SHORT_SLICE : ℕ
@@ -92,3 +95,39 @@ BARRIER_ORDER = 22
 -- Does every race fit the lent list?
 abbrev pub LIST_SPACE : ℕ
 LIST_SPACE = 23
+
+-- ---- Refusals as answers of code
+
+-- The number of the question that was answered No.
+abbrev pub number_of : Refusal → ℕ
+number_of ShortSlice = SHORT_SLICE
+number_of Limits = LIMITS
+number_of HeaderWord = HEADER_WORD
+number_of Malformed = MALFORMED
+number_of Header = HEADER
+number_of RowLimit = ROW_LIMIT
+number_of SixFields = SIX_FIELDS
+number_of KnownKind = KNOWN_KIND
+number_of UsedFields = USED_FIELDS
+number_of Range = RANGE
+number_of RangeEnd = RANGE_END
+number_of MessageOrder = MESSAGE_ORDER
+number_of State = STATE
+number_of RowNumber = ROW_NUMBER
+number_of OfFile = OF_FILE
+number_of MapSpace = MAP_SPACE
+number_of AnswerSpace = ANSWER_SPACE
+number_of TextSpace = TEXT_SPACE
+number_of SharedProcess = SHARED_PROCESS
+number_of Stuck = STUCK
+number_of WaitOrder = WAIT_ORDER
+number_of BarrierOrder = BARRIER_ORDER
+number_of ListSpace = LIST_SPACE
+
+-- A refusal at a place.
+abbrev pub refused_at : Refusal → ℕ → Refused
+refused_at refusal place = record { refusal = refusal; place = place }
+
+-- What some questions answer whose first No has this number, 0 where every answer is Yes: that question's refusal, and a value where there is no No.
+abbrev pub Asks : {T : Type 0} → ℕ → Result T Refusal → Type 0
+Asks first answer = MatchResult answer (λ _. first ≡ 0) (λ refusal. number_of refusal ≡ first)

@@ -2,6 +2,7 @@
 // specs/Limits.antt, specs/Kinds.antt and specs/Refusals.antt have these numbers for the contracts.
 #![tactic(auto)]
 
+pub mod kind;
 pub mod refusal;
 
 ghost use Rattle.std.specs.Prelude.{◌≡◌, length, get_or, replicate};
