@@ -1,4 +1,3 @@
-pub mod Putting
 pub mod Asks
 pub mod Entries
 pub mod Tables

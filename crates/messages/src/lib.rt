@@ -1,16 +1,20 @@
 // A table by message, to which rows are put one after the other: whether a row's message is in order behind the rows before it.
 #![tactic(auto)]
 
-ghost use Rattle.std.specs.Prelude.{◌≡◌, not, ◌&&◌, set};
+ghost use Rattle.std.specs.Prelude.{◌≡◌, not, ◌&&◌, set, replicate};
+ghost use Rattle.rows.specs.Limits.{MESSAGES};
 ghost use Rattle.rows.specs.Questions.{first_no};
+ghost use Rattle.rows.specs.Refusals.{Asks};
 ghost use Rattle.messages.specs.Table.{is_sent, is_posted, is_waited, is_sent_by, is_posted_by, with_send, with_post, with_wait};
 ghost use Rattle.messages.specs.Table.{entry_for, entry_in_order, entry_wait_in_order, table_questions, noted_row, table_after};
 
-use rows::{Row, refusal};
+use rows::Row;
+use rows::kind::Kind;
+use rows::refusal::Refusal;
 
 // The table has one entry for each message.
 pub const ENTRIES: usize = rows::MESSAGES as usize;
-// The flag of an entry whose message was sent.
+// The flag of an entry whose message was sent. An entry packs its flags and two processes into 16 bits: fixed memory, 128 KB for the table.
 const SENT: u16 = 4096;
 // The flag of an entry whose message's receive was posted.
 const POSTED: u16 = 8192;
@@ -19,46 +23,63 @@ const WAITED: u16 = 16384;
 // How many values six bits have. An entry's lowest six bits hold the process that sent the message, the next six the one that posted its receive.
 const SIX_BITS: u16 = 64;
 
-// Puts a row to the table: answers the number of the first No of the questions from 12 on, and 0 where every answer is Yes. The table notes
-// a row that passes; a refusal changes nothing.
-pub fn put(table: &mut [u16; ENTRIES], row: Row) -> u32
-    ensures answer { result ≡ first_no (table_questions table.old row) }
-    ensures left { table.new ≡ table_after table.old row }
-{
-    let entry = entry_for(table, row);
-    if !entry_in_order(entry, row) {
-        return refusal::MESSAGE_ORDER;
-    }
-    if !wait_in_order(entry, row) {
-        return refusal::WAIT_ORDER;
-    }
-    note(table, row);
-    0
+// What the rows so far did with each message.
+#[derive(Drop)]
+pub struct MessageTable {
+    pub entries: [u16; ENTRIES],
 }
 
-// Whether a row put to the table has sent the row's message.
-pub fn is_row_sent(table: &[u16; ENTRIES], row: Row) -> bool
-    ensures { result ≡ is_sent (entry_for table.now row) }
-{
-    is_sent(entry_for(table, row))
+impl MessageTable {
+    // A table to which no row was put.
+    pub fn new() -> Self
+        ensures { result.entries ≡ replicate MESSAGES 0 }
+    {
+        MessageTable {
+            entries: [0; ENTRIES],
+        }
+    }
+
+    // Puts a row to the table: answers the first No of the questions from 12 on, if there is one. The table notes a row that passes; a
+    // refusal changes nothing.
+    #[tactic(auto, unfolding(crate::specs::Table::table_questions, crate::specs::Table::table_after, rows::specs::Questions::first_no))]
+    pub fn put(&mut self, row: Row) -> Result<(), Refusal>
+        ensures answer { Asks (first_no (table_questions self.old.entries row)) result }
+        ensures left { self.new.entries ≡ table_after self.old.entries row }
+    {
+        let entry = entry_for(&self.entries, row);
+        if !entry_in_order(entry, row) {
+            return Err(Refusal::MessageOrder);
+        }
+        if !wait_in_order(entry, row) {
+            return Err(Refusal::WaitOrder);
+        }
+        note(&mut self.entries, row);
+        Ok(())
+    }
+
+    // Whether a row put to the table has sent the row's message.
+    pub fn has_sent(&self, row: Row) -> bool
+        ensures { result ≡ is_sent (entry_for self.now.entries row) }
+    {
+        is_sent(entry_for(&self.entries, row))
+    }
 }
 
 // Answers the entry of the row's message. A message past the table has none, and 0 stands for it.
 fn entry_for(table: &[u16], row: Row) -> u16
     ensures { result ≡ entry_for table.now row }
 {
-    let m = row.message as usize;
-    if m < table.len() { table[m] } else { 0 }
+    table.get(row.message as usize).copied().unwrap_or(0)
 }
 
 // Whether the row's message is in order, by the message's entry: question 12.
+#[tactic(auto, unfolding(crate::specs::Table::entry_in_order))]
 fn entry_in_order(entry: u16, row: Row) -> bool
     ensures { result ≡ entry_in_order entry row }
 {
-    let kind = row.kind;
-    match kind {
-        rows::SEND => may_send(entry, row.process),
-        rows::RECV => may_post(entry, row.process),
+    match Kind::try_from(row.kind) {
+        Ok(Kind::Send) => may_send(entry, row.process),
+        Ok(Kind::Recv) => may_post(entry, row.process),
         _ => true,
     }
 }
@@ -67,36 +88,25 @@ fn entry_in_order(entry: u16, row: Row) -> bool
 fn may_send(entry: u16, process: u32) -> bool
     ensures { result ≡ (not (is_sent entry) && not (is_posted_by process entry)) }
 {
-    if is_sent(entry) {
-        return false;
-    }
-    !is_posted_by(entry, process)
+    !is_sent(entry) && !is_posted_by(entry, process)
 }
 
 // Whether a process may post a receive of the message: none is posted, and the process did not send it.
 fn may_post(entry: u16, process: u32) -> bool
     ensures { result ≡ (not (is_posted entry) && not (is_sent_by process entry)) }
 {
-    if is_posted(entry) {
-        return false;
-    }
-    !is_sent_by(entry, process)
+    !is_posted(entry) && !is_sent_by(entry, process)
 }
 
 // Whether a wait is in order, by the entry of its message: question 21. A row of another kind is.
+#[tactic(auto, unfolding(crate::specs::Table::entry_wait_in_order))]
 fn wait_in_order(entry: u16, row: Row) -> bool
     ensures { result ≡ entry_wait_in_order entry row }
 {
-    if row.kind != rows::WAIT {
-        return true;
+    match Kind::try_from(row.kind) {
+        Ok(Kind::Wait) => is_posted_by(entry, row.process) && is_sent(entry) && !is_waited(entry),
+        _ => true,
     }
-    if !is_posted_by(entry, row.process) {
-        return false;
-    }
-    if !is_sent(entry) {
-        return false;
-    }
-    !is_waited(entry)
 }
 
 // Whether the message was sent.
@@ -124,32 +134,26 @@ fn is_waited(entry: u16) -> bool
 fn is_sent_by(entry: u16, process: u32) -> bool
     ensures { result ≡ is_sent_by process entry }
 {
-    if !is_sent(entry) {
-        return false;
-    }
-    (entry % SIX_BITS) as u32 == process
+    is_sent(entry) && u32::from(entry % SIX_BITS) == process
 }
 
 // Whether the process posted the message's receive.
 fn is_posted_by(entry: u16, process: u32) -> bool
     ensures { result ≡ is_posted_by process entry }
 {
-    if !is_posted(entry) {
-        return false;
-    }
-    (entry / SIX_BITS % SIX_BITS) as u32 == process
+    is_posted(entry) && u32::from(entry / SIX_BITS % SIX_BITS) == process
 }
 
 // Notes a send, a recv or a wait in the entry of its message. Rows of other kinds change nothing.
+#[tactic(auto, unfolding(crate::specs::Table::noted_row))]
 fn note(table: &mut [u16], row: Row)
     ensures { table.new ≡ noted_row table.old row }
 {
     let entry = entry_for(table, row);
-    let kind = row.kind;
-    match kind {
-        rows::SEND => store(table, row.message, with_send(entry, row.process)),
-        rows::RECV => store(table, row.message, with_post(entry, row.process)),
-        rows::WAIT => store(table, row.message, with_wait(entry)),
+    match Kind::try_from(row.kind) {
+        Ok(Kind::Send) => store(table, row.message, with_send(entry, row.process)),
+        Ok(Kind::Recv) => store(table, row.message, with_post(entry, row.process)),
+        Ok(Kind::Wait) => store(table, row.message, with_wait(entry)),
         _ => {}
     }
 }
