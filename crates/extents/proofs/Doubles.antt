@@ -14,7 +14,7 @@ use Rattle.extents_meaning.proofs.Trips.{lawful-map, length-map, map_lawful, map
 use Rattle.extents_meaning.proofs.Points.{runs_by}
 use Rattle.extents_meaning.proofs.Overwrites.{over-before, over-behind}
 use Rattle.extents_meaning.proofs.Sides.{with_length, at_same, at_other, with_same, with_comm, with_over}
-use Rattle.extents.specs.declared.Answer.TheVariants.{Done, Listed, Refused}
+use Rattle.extents.specs.Answers.{Done, Listed, Refused}
 use Rattle.extents_map.specs.Mixes.{mixed, mix}
 use Rattle.extents_map.specs.declared.scan.Mode.TheVariants.{Publish, MarkPublished, Refresh}
 use Rattle.extents_meaning.specs.Pairs.{two_maps, view_of, below_of}

@@ -18,10 +18,10 @@ use Rattle.extents_meaning.proofs.Changes.{change_same}
 use Rattle.extents_map.specs.Cursors.{Passing, Looked}
 use Rattle.extents_map.specs.declared.scan.Look.{Look}
 use Rattle.extents_map.proofs.Counting.{starts-most}
-use Rattle.extents.specs.declared.Answer.{Answer}
-use Rattle.extents.specs.declared.Answer.TheVariants.{Done, Listed, Refused}
+use Rattle.extents.specs.Answers.{Answer}
+use Rattle.extents.specs.Answers.{Done, Listed, Refused}
 use Rattle.extents.specs.declared.Stretch.{Stretch}
-use Rattle.extents.specs.declared.LookupAnswer.TheVariants as looked
+use Rattle.extents.specs.LookupAnswers as looked
 use Rattle.extents_pair.proofs.Rooms.{pieces-there}
 use Rattle.extents.specs.Entries.{listed_count, mark_bit, Entry, write_refusal, written_map, WriteEntry, list_refusal, lookup_of, lookup_refusal, LookupEntry}
 

@@ -11,8 +11,8 @@ use Rattle.extents_meaning.specs.Lookups.{change_of}
 use Rattle.extents_meaning.proofs.Longest.{Fine, lawful-fine}
 use Rattle.extents_meaning.proofs.Trips.{lawful-map}
 use Rattle.extents_meaning.proofs.Changes.{change_iff}
-use Rattle.extents.specs.declared.LookupAnswer.{LookupAnswer}
-use Rattle.extents.specs.declared.LookupAnswer.TheVariants as looked
+use Rattle.extents.specs.LookupAnswers.{LookupAnswer}
+use Rattle.extents.specs.LookupAnswers as looked
 use Rattle.extents.specs.Entries.{asks_law, asks_range, lookup_of, lookup_refusal, looked_up}
 
 -- A row number is at most 4,096 and a mark at most 1; a next byte lies within the offset range; a refusal's number is 1 to 13.

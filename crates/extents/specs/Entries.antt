@@ -7,11 +7,10 @@ use Rattle.extents_meaning.specs.Runs.{Run, runs_of, pieces_of}
 use Rattle.extents_meaning.specs.Maps.{map_for, space_in, bytes_of, lawful, with_map, listed_in}
 use Rattle.extents_meaning.specs.Lookups.{change_of}
 use Rattle.extents_meaning.specs.Pairs.{two_maps, view_of, below_of}
-use Rattle.extents.specs.declared.Answer.{Answer}
-use Rattle.extents.specs.declared.Answer.TheVariants.{Done, Listed, Refused}
 use Rattle.extents.specs.declared.Stretch.{Stretch}
-use Rattle.extents.specs.declared.LookupAnswer.{LookupAnswer}
-use Rattle.extents.specs.declared.LookupAnswer.TheVariants as looked
+use Rattle.extents.specs.Answers.{Answer, Done, Listed, Refused}
+use Rattle.extents.specs.LookupAnswers as looked
+use Rattle.extents.specs.LookupAnswers.{LookupAnswer}
 
 -- ---- Questions
 

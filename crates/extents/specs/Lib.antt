@@ -1,1 +1,3 @@
+pub mod Answers
+pub mod LookupAnswers
 pub mod Entries

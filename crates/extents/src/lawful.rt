@@ -5,34 +5,42 @@ ghost use Rattle.extents_meaning.specs.Cells.{cell_of};
 ghost use Rattle.extents_meaning.specs.Runs.{pieces_of};
 ghost use Rattle.extents_meaning.specs.Maps.{bytes_of, lawful};
 ghost use Rattle.extents_meaning.specs.Pairs.{two_maps};
+ghost use Rattle.extents.specs.Answers.{told_done, told_listed};
+ghost use Rattle.extents.specs.LookupAnswers.{told_lookup};
 ghost use Rattle.extents.specs.Entries.{mark_bit, WriteEntry, ListEntry, PublishEntry, RefreshEntry, SyncEntry, WriteThroughEntry, ReadEntry, LookupEntry};
 
-use crate::{Answer, LookupAnswer, Stretch};
+use crate::Stretch;
 use extents_map::scan::{Mix, Mode};
 use extents_pair::Pair;
-use rows::refusal;
+use rows::refusal::Refusal;
 
 // Gives a range of a map a row number and a mark.
-pub fn write(map: &mut [u32], start: u32, length: u32, number: u32, unpublished: bool) -> Answer
+pub fn write(
+    map: &mut [u32],
+    start: u32,
+    length: u32,
+    number: u32,
+    unpublished: bool,
+) -> Result<(), Refusal>
     requires { lawful map.old ≡ true }
-    ensures { WriteEntry map.old start length number unpublished result map.new }
+    ensures { WriteEntry map.old start length number unpublished (told_done result) map.new }
 {
     if number < 1 {
-        return Answer::Refused(refusal::ROW_NUMBER);
+        return Err(Refusal::RowNumber);
     }
     if rows::ROWS < number {
-        return Answer::Refused(refusal::ROW_NUMBER);
+        return Err(Refusal::RowNumber);
     }
     if rows::OFFSET_MAX - start < length {
-        return Answer::Refused(refusal::RANGE_END);
+        return Err(Refusal::RangeEnd);
     }
     if length == 0 {
-        return Answer::Done;
+        return Ok(());
     }
     if extents_lay::lay(map, start, start + length, cell_of(number, unpublished)) {
-        Answer::Done
+        Ok(())
     } else {
-        Answer::Refused(refusal::MAP_SPACE)
+        Err(Refusal::MapSpace)
     }
 }
 
@@ -48,18 +56,18 @@ fn cell_of(number: u32, unpublished: bool) -> u32
 }
 
 // Puts the pieces of a range into an answer slice.
-pub fn list_range(map: &[u32], start: u32, length: u32, out: &mut [u32]) -> Answer
+pub fn list_range(map: &[u32], start: u32, length: u32, out: &mut [u32]) -> Result<u32, Refusal>
     requires { lawful map.now ≡ true }
-    ensures { ListEntry map.now start length out.old result out.new }
+    ensures { ListEntry map.now start length out.old (told_listed result) out.new }
 {
     if rows::OFFSET_MAX - start < length {
-        return Answer::Refused(refusal::RANGE_END);
+        return Err(Refusal::RangeEnd);
     }
     if lacks(map, start, start + length, out.len() / 3) {
-        return Answer::Refused(refusal::ANSWER_SPACE);
+        return Err(Refusal::AnswerSpace);
     }
     let n = extents_map::list::list(map, start, start + length, out);
-    Answer::Listed(n as u32)
+    Ok(n as u32)
 }
 
 // Has a range of a map more pieces than there is room for? A range has at most two for each run of the map, and one more: the walk counts them
@@ -81,16 +89,16 @@ fn lacks(map: &[u32], from: u32, to: u32, room: usize) -> bool
 }
 
 // Looks a byte up in a map. At 4,294,967,295 a range of length 1 ends past the offset range.
-pub fn lookup(map: &[u32], byte: u32) -> LookupAnswer
+pub fn lookup(map: &[u32], byte: u32) -> Result<Stretch, Refusal>
     requires { lawful map.now ≡ true }
-    ensures { LookupEntry map.now byte result }
+    ensures { LookupEntry map.now byte (told_lookup result) }
 {
     if byte == rows::OFFSET_MAX {
-        return LookupAnswer::Refused(refusal::RANGE_END);
+        return Err(Refusal::RangeEnd);
     }
     let from = extents_map::scan::seek(map, byte);
     let seen = extents_map::scan::see(map, from, byte);
-    LookupAnswer::Found(Stretch {
+    Ok(Stretch {
         number: extents_map::scan::number_in(seen.cell),
         mark: extents_map::scan::mark_in(seen.cell),
         next: seen.next,
@@ -98,9 +106,9 @@ pub fn lookup(map: &[u32], byte: u32) -> LookupAnswer
 }
 
 // Publishes a view.
-pub fn publish(maps: &mut [u32], space: usize, view: usize, below: usize) -> Answer
+pub fn publish(maps: &mut [u32], space: usize, view: usize, below: usize) -> Result<(), Refusal>
     requires { two_maps space view below maps.old ≡ true }
-    ensures { PublishEntry space view below maps.old result maps.new }
+    ensures { PublishEntry space view below maps.old (told_done result) maps.new }
 {
     let own = extents_pair::own_runs(maps, space, view);
     let pair = Pair {
@@ -110,17 +118,17 @@ pub fn publish(maps: &mut [u32], space: usize, view: usize, below: usize) -> Ans
         own: own,
     };
     if !extents_pair::fits(maps, pair, Mode::Publish, 0, 0, 0) {
-        return Answer::Refused(refusal::MAP_SPACE);
+        return Err(Refusal::MapSpace);
     }
     extents_publish::share(maps, pair, 0, 0, 0);
     extents_refresh::mark_published(maps, pair);
-    Answer::Done
+    Ok(())
 }
 
 // Refreshes a view.
-pub fn refresh(maps: &mut [u32], space: usize, view: usize, below: usize) -> Answer
+pub fn refresh(maps: &mut [u32], space: usize, view: usize, below: usize) -> Result<(), Refusal>
     requires { two_maps space view below maps.old ≡ true }
-    ensures { RefreshEntry space view below maps.old result maps.new }
+    ensures { RefreshEntry space view below maps.old (told_done result) maps.new }
 {
     let own = extents_pair::own_runs(maps, space, view);
     let pair = Pair {
@@ -130,16 +138,16 @@ pub fn refresh(maps: &mut [u32], space: usize, view: usize, below: usize) -> Ans
         own: own,
     };
     if !extents_pair::fits(maps, pair, Mode::Refresh, 0, 0, 0) {
-        return Answer::Refused(refusal::MAP_SPACE);
+        return Err(Refusal::MapSpace);
     }
     extents_refresh::refresh(maps, pair);
-    Answer::Done
+    Ok(())
 }
 
 // Publishes a view, then refreshes it.
-pub fn sync(maps: &mut [u32], space: usize, view: usize, below: usize) -> Answer
+pub fn sync(maps: &mut [u32], space: usize, view: usize, below: usize) -> Result<(), Refusal>
     requires { two_maps space view below maps.old ≡ true }
-    ensures { SyncEntry space view below maps.old result maps.new }
+    ensures { SyncEntry space view below maps.old (told_done result) maps.new }
 {
     let own = extents_pair::own_runs(maps, space, view);
     let pair = Pair {
@@ -149,11 +157,11 @@ pub fn sync(maps: &mut [u32], space: usize, view: usize, below: usize) -> Answer
         own: own,
     };
     if !extents_pair::fits(maps, pair, Mode::Publish, 0, 0, 0) {
-        return Answer::Refused(refusal::MAP_SPACE);
+        return Err(Refusal::MapSpace);
     }
     extents_publish::share(maps, pair, 0, 0, 0);
     extents_refresh::copy(maps, space, below, view);
-    Answer::Done
+    Ok(())
 }
 
 // Writes a range into a view, then publishes it.
@@ -165,18 +173,18 @@ pub fn write_through(
     start: u32,
     length: u32,
     number: u32,
-) -> Answer
+) -> Result<(), Refusal>
     requires { two_maps space view below maps.old ≡ true }
-    ensures { WriteThroughEntry space view below maps.old start length number result maps.new }
+    ensures { WriteThroughEntry space view below maps.old start length number (told_done result) maps.new }
 {
     if number < 1 {
-        return Answer::Refused(refusal::ROW_NUMBER);
+        return Err(Refusal::RowNumber);
     }
     if rows::ROWS < number {
-        return Answer::Refused(refusal::ROW_NUMBER);
+        return Err(Refusal::RowNumber);
     }
     if rows::OFFSET_MAX - start < length {
-        return Answer::Refused(refusal::RANGE_END);
+        return Err(Refusal::RangeEnd);
     }
     let end = start + length;
     let cell = number * 2;
@@ -188,17 +196,17 @@ pub fn write_through(
         own: own,
     };
     if !extents_pair::fits(maps, pair, Mode::Publish, start, end, cell) {
-        return Answer::Refused(refusal::MAP_SPACE);
+        return Err(Refusal::MapSpace);
     }
     if !extents_pair::fits(maps, pair, Mode::MarkPublished, start, end, cell) {
-        return Answer::Refused(refusal::MAP_SPACE);
+        return Err(Refusal::MapSpace);
     }
     extents_publish::share(maps, pair, start, end, number);
     extents_refresh::mark_published(maps, pair);
     if start < end {
         extents_pair::lay(maps, space, view, start, end, cell);
     }
-    Answer::Done
+    Ok(())
 }
 
 // Refreshes a view, then puts the pieces of a range of it into an answer slice.
@@ -210,12 +218,12 @@ pub fn read(
     start: u32,
     length: u32,
     out: &mut [u32],
-) -> Answer
+) -> Result<u32, Refusal>
     requires { two_maps space view below maps.old ≡ true }
-    ensures { ReadEntry space view below maps.old start length out.old result maps.new out.new }
+    ensures { ReadEntry space view below maps.old start length out.old (told_listed result) maps.new out.new }
 {
     if rows::OFFSET_MAX - start < length {
-        return Answer::Refused(refusal::RANGE_END);
+        return Err(Refusal::RangeEnd);
     }
     let end = start + length;
     let own = extents_pair::own_runs(maps, space, view);
@@ -226,13 +234,13 @@ pub fn read(
         own: own,
     };
     if !extents_pair::fits(maps, pair, Mode::Refresh, 0, 0, 0) {
-        return Answer::Refused(refusal::MAP_SPACE);
+        return Err(Refusal::MapSpace);
     }
     if extents_pair::lacks(maps, pair, start, end, out.len() / 3) {
-        return Answer::Refused(refusal::ANSWER_SPACE);
+        return Err(Refusal::AnswerSpace);
     }
     extents_refresh::refresh(maps, pair);
     let n = extents_pair::list(maps, space, view, start, end, out);
     let listed = n as u32;
-    Answer::Listed(listed)
+    Ok(listed)
 }

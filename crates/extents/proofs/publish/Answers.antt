@@ -2,7 +2,7 @@
 use Rattle.extents.proofs.Doubles.{publish_unlawful}
 use Rattle.extents.specs.Entries.{published_maps}
 use Rattle.extents.proofs.Entering.{refused}
-use Rattle.extents.specs.declared.Answer.TheVariants.{Done}
+use Rattle.extents.specs.Answers.{Done}
 use Rattle.std.proofs.Common.{sym, ◌∙◌, arith}
 use Rattle.extents.proofs.publish.Goals as goal
 

@@ -2,7 +2,7 @@
 use Rattle.extents.proofs.Doubles.{sync_unlawful}
 use Rattle.extents.specs.Entries.{synced_maps}
 use Rattle.extents.proofs.Entering.{refused}
-use Rattle.extents.specs.declared.Answer.TheVariants.{Done}
+use Rattle.extents.specs.Answers.{Done}
 use Rattle.std.proofs.Common.{sym, ◌∙◌, arith}
 use Rattle.extents.proofs.sync.Goals as goal
 

@@ -1,7 +1,7 @@
 -- `extents::write` meets its contract.
 use Rattle.extents.proofs.Entering.{refused, write-unlawful}
 use Rattle.extents.specs.Entries.{written_map}
-use Rattle.extents.specs.declared.Answer.TheVariants.{Done}
+use Rattle.extents.specs.Answers.{Done}
 use Rattle.std.proofs.Common.{sym, ◌∙◌, arith}
 use Rattle.extents.proofs.write.Goals as goal
 

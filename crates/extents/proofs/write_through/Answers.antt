@@ -2,7 +2,7 @@
 use Rattle.extents.proofs.Doubles.{write-through-unlawful}
 use Rattle.extents.specs.Entries.{written_through_maps}
 use Rattle.extents.proofs.Entering.{refused}
-use Rattle.extents.specs.declared.Answer.TheVariants.{Done}
+use Rattle.extents.specs.Answers.{Done}
 use Rattle.std.proofs.Common.{sym, ◌∙◌, arith}
 use Rattle.extents.proofs.write_through.Goals as goal
 

@@ -2,7 +2,7 @@
 use Rattle.extents.proofs.Doubles.{publish-enough, publish-short, publish-full, share-fits, publish-done}
 use Rattle.extents.specs.Entries.{published_maps}
 use Rattle.extents.proofs.Entering.{refused}
-use Rattle.extents.specs.declared.Answer.TheVariants.{Done}
+use Rattle.extents.specs.Answers.{Done}
 use Rattle.std.proofs.Common.{arith, not, ap}
 use Rattle.extents.proofs.lawful.publish.Goals as goal
 

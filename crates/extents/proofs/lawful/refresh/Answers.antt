@@ -2,7 +2,7 @@
 use Rattle.extents.proofs.Doubles.{refresh-enough, refresh-short, refresh-full, refresh-done}
 use Rattle.extents.specs.Entries.{refreshed_maps}
 use Rattle.extents.proofs.Entering.{refused}
-use Rattle.extents.specs.declared.Answer.TheVariants.{Done}
+use Rattle.extents.specs.Answers.{Done}
 use Rattle.std.proofs.Common.{arith, not, ap}
 use Rattle.extents.proofs.lawful.refresh.Goals as goal
 

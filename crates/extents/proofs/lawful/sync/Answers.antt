@@ -2,7 +2,7 @@
 use Rattle.extents.proofs.Doubles.{publish-enough, publish-short, sync-full, share-fits, sync-done}
 use Rattle.extents.specs.Entries.{synced_maps}
 use Rattle.extents.proofs.Entering.{refused}
-use Rattle.extents.specs.declared.Answer.TheVariants.{Done}
+use Rattle.extents.specs.Answers.{Done}
 use Rattle.std.proofs.Common.{arith, not, ap}
 use Rattle.extents.proofs.lawful.sync.Goals as goal
 

@@ -1,7 +1,7 @@
 -- `extents::lawful::write` meets its contract.
 use Rattle.extents.proofs.Entering.{refused, write_low, write-high, write-past, write-none, write_done, write-not}
 use Rattle.extents.specs.Entries.{written_map}
-use Rattle.extents.specs.declared.Answer.TheVariants.{Done}
+use Rattle.extents.specs.Answers.{Done}
 use Rattle.std.proofs.Common.{arith}
 use Rattle.extents.proofs.lawful.write.Goals as goal
 

@@ -3,7 +3,7 @@ use Rattle.extents.proofs.Doubles.{view-in-as-published, view-law-as-published, 
 use Rattle.extents.proofs.Entering.{cell-fine, refused}
 use Rattle.extents.specs.Entries.{written_through_maps}
 use Rattle.std.proofs.Common.{false, arith, not, ap}
-use Rattle.extents.specs.declared.Answer.TheVariants.{Done}
+use Rattle.extents.specs.Answers.{Done}
 use Rattle.extents.proofs.lawful.write_through.Goals as goal
 
 pub returns-then-number-lt1 : goal.returns-then-number-lt1
