@@ -6,7 +6,7 @@ ghost use Rattle.csv_field.specs.FieldReading.{is_text, is_quoted, text_length, 
 
 // Where a field's bytes stand, without the quotes around them. `doubled` says that two quotes side by side stand among them, which are
 // one byte of the content.
-#[derive(Clone, Copy)]
+#[derive(Clone, Copy, Debug, PartialEq, Eq, Hash)]
 pub struct Span {
     pub start: usize,
     pub len: usize,
@@ -15,7 +15,7 @@ pub struct Span {
 
 // The bytes after an opening quote: they hold no closing quote; a byte that quotes may not hold comes first; or the closing quote stands
 // after `.0` bytes, and `.1` says that two quotes side by side stand before it.
-#[derive(Clone, Copy)]
+#[derive(Clone, Copy, Debug, PartialEq, Eq, Hash)]
 pub enum Quotes {
     Unclosed,
     Broken,
@@ -23,7 +23,7 @@ pub enum Quotes {
 }
 
 // What follows a field: a comma; CR LF; the end of the text; a byte that may not follow; or the limit, past which the reader may not look.
-#[derive(Clone, Copy)]
+#[derive(Clone, Copy, Debug, PartialEq, Eq, Hash)]
 pub enum Stop {
     Comma,
     LineEnd,
@@ -33,7 +33,7 @@ pub enum Stop {
 }
 
 // A field: its span, the place after the field and its quotes, and what follows there.
-#[derive(Clone, Copy)]
+#[derive(Clone, Copy, Debug, PartialEq, Eq, Hash)]
 pub struct ScannedField {
     pub span: Span,
     pub end: usize,

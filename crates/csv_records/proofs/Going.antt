@@ -5,7 +5,7 @@ use lib.Seq.{set_out}
 use Rattle.csv_field.specs.FieldReading.{field_at, no_span}
 use Rattle.csv_records.specs.Reading.{Finding, malformed, past-limit, found, prepend, on_stop, fields_from, record_in, first_six, reading_of, without}
 use Rattle.csv_field.specs.declared.Span.{Span}
-use Rattle.csv_records.specs.declared.Status.TheVariants.{Malformed, Limit, Record}
+use Rattle.csv_records.specs.Reading.{Malformed, Limit, Record}
 use Rattle.csv_field.specs.declared.ScannedField.{ScannedField}
 use Rattle.csv_field.specs.declared.Stop.{Stop}
 use Rattle.csv_field.specs.declared.Stop.TheVariants.{Comma, LineEnd, TextEnd, Bad, Cut}

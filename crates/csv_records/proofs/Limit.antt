@@ -217,3 +217,6 @@ unfolding records_from
 records-next text limit at = found-same text (read_at text at limit) _ _
     (λ spans end next e. let p = found-places text at limit spans end next e in
     records-enough (length text) (suc (length text)) text limit next (omega arith) (omega arith))
+
+-- where a reader begins, and up to where it may look
+pub ruleset places_read = (read_past, read-cut, read_whole)

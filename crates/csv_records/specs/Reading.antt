@@ -1,14 +1,14 @@
 -- What a reader finds of records: the functions that the contracts cite. proofs/Grammar.antt proves that a reader finds exactly what the
 -- grammar derives.
-use Rattle.std.specs.Prelude.{ℕ, suc, zero, ◌+◌, Bool, cond, List, [], ◌∷◌, ◌++◌, map, length, take, replicate, ltb}
+use Rattle.std.specs.Prelude.{ℕ, suc, zero, ◌+◌, Bool, cond, List, [], ◌∷◌, ◌++◌, map, length, take, replicate, ltb, Option, Some, None, Result, Ok, Err}
 use Rattle.csv_field.specs.FieldReading.{no_span, field_at}
 use Rattle.csv_field.specs.declared.Span.{Span}
 use Rattle.csv_field.specs.declared.Stop.{Stop}
 use Rattle.csv_field.specs.declared.Stop.TheVariants.{Comma, LineEnd, TextEnd, Bad, Cut}
 use Rattle.csv_content.specs.Content.{content_of}
-use Rattle.csv_records.specs.declared.Status.{Status}
-use Rattle.csv_records.specs.declared.Status.TheVariants.{End, Malformed, Limit, Record}
-use Rattle.csv_records.specs.declared.Reading.{Reading}
+use Rattle.csv_records.specs.declared.Record.{Record as Whole}
+use Rattle.csv_records.specs.declared.Unread.{Unread}
+use Rattle.csv_records.specs.declared.Unread.TheVariants as unread
 
 -- What a reader finds at a place: no record, since the text ends there; a malformed record; the limit before the record is decided; or a
 -- record, with the spans of its fields, the end before its line end, and the place of the next record.
@@ -53,6 +53,19 @@ read_at text at limit =
 abbrev pub first_six : List Span → List Span
 first_six spans = take 6 (spans ++ replicate 6 no_span)
 
+-- What stands at a place: no record, since the text ends there; a malformed record; a record that only a byte past the limit could
+-- decide; a whole record.
+pub data Status : Type 0 where
+  End Malformed Limit Record : Status
+
+-- The record at a place: the number of fields, the spans of the first six, the end before the line end, and the place of the next record.
+pub record Reading : Type 0 where
+  pub status : Status
+  pub count : ℕ
+  pub spans : List Span
+  pub end : ℕ
+  pub next : ℕ
+
 -- a reading without a record: 0 throughout
 abbrev pub without : Status → Reading
 without status = record { status = status; count = 0; spans = first_six []; end = 0; next = 0 }
@@ -60,6 +73,18 @@ without status = record { status = status; count = 0; spans = first_six []; end 
 -- a reading of a record by its numbers and its kept spans
 abbrev pub whole_record : ℕ → List Span → ℕ → ℕ → Reading
 whole_record count spans end next = record { status = Record; count = count; spans = spans; end = end; next = next }
+
+-- what an answer says of the fields of a record
+abbrev pub told_fields : Result Whole Unread → Reading
+told_fields (Ok r) = whole_record r.count r.spans r.end r.next
+told_fields (Err unread.Malformed) = without Malformed
+told_fields (Err unread.Limit) = without Limit
+
+-- what an answer says of a place of a text
+abbrev pub told_reading : Result (Option Whole) Unread → Reading
+told_reading (Ok None) = without End
+told_reading (Ok (Some r)) = told_fields (Ok r)
+told_reading (Err e) = told_fields (Err e)
 
 -- the reading of a finding
 unfoldable pub reading_of : Finding → Reading

@@ -2,89 +2,56 @@
 #![tactic(auto)]
 
 ghost use Rattle.std.specs.Prelude.{◌≡◌};
-ghost use Rattle.csv_records.specs.Reading.{read_at, reading_of, record_in, without, whole_record};
+ghost use Rattle.csv_records.specs.Reading.{told_reading, told_fields, read_at, reading_of, record_in};
 
 use csv_field::{Span, Stop};
 
 // The number of fields whose spans a reading keeps.
 pub const KEPT: usize = 6;
 
-// What stands at a place: no record, since the text ends there; a malformed record; a record that only a byte past the limit could
-// decide; a whole record.
-#[derive(Clone, Copy)]
-pub enum Status {
-    End,
-    Malformed,
-    Limit,
-    Record,
-}
-
-// The record at a place: the number of fields, the spans of the first six, the end before the line end, and the place of the next record.
-#[derive(Drop)]
-pub struct Reading {
-    pub status: Status,
+// A whole record: the number of fields, the spans of the first six, the end before the line end, and the place of the next record.
+#[derive(Clone, Copy, Debug, PartialEq, Eq, Hash)]
+pub struct Record {
     pub count: usize,
-    pub spans: [Span; 6],
+    pub spans: [Span; KEPT],
     pub end: usize,
     pub next: usize,
 }
 
-// Reads the record at a place of the text and looks at no byte past the limit.
-pub fn read_record(text: &[u8], at: usize, limit: usize) -> Reading
-    ensures { result ≡ reading_of (read_at text.now at limit) }
+// Why no record could be read: it is malformed, or only a byte past the limit could decide.
+#[derive(Clone, Copy, Debug, PartialEq, Eq, Hash)]
+pub enum Unread {
+    Malformed,
+    Limit,
+}
+
+// Reads the record at a place of the text, or none where the text ends there, and looks at no byte past the limit.
+#[tactic(auto, using(crate::proofs::Limit::places_read), unfolding(crate::specs::Reading::reading_of))]
+pub fn read_record(text: &[u8], at: usize, limit: usize) -> Result<Option<Record>, Unread>
+    ensures { told_reading result ≡ reading_of (read_at text.now at limit) }
 {
     if text.len() <= at {
-        return refusal(Status::End);
+        return Ok(None);
     }
     if limit < text.len() {
-        return read_fields(&text[..limit], true, at);
+        return read_fields(&text[..limit], true, at).map(Some);
     }
-    read_fields(text, false, at)
-}
-
-// A reading without a record.
-fn refusal(status: Status) -> Reading
-    ensures { result ≡ without status }
-{
-    let none = Span {
-        start: 0,
-        len: 0,
-        doubled: false,
-    };
-    Reading {
-        status,
-        count: 0,
-        spans: [none; 6],
-        end: 0,
-        next: 0,
-    }
-}
-
-// A reading of a whole record.
-fn whole_record(count: usize, spans: [Span; 6], end: usize, next: usize) -> Reading
-    ensures { result ≡ whole_record count spans end next }
-{
-    Reading {
-        status: Status::Record,
-        count,
-        spans,
-        end,
-        next,
-    }
+    read_fields(text, false, at).map(Some)
 }
 
 // Reads field after field up to the end of the record. `cut` says that the text goes on behind s, past the limit.
-fn read_fields(s: &[u8], cut: bool, at: usize) -> Reading
-    ensures { result ≡ reading_of (record_in s.now cut at) }
+fn read_fields(s: &[u8], cut: bool, at: usize) -> Result<Record, Unread>
+    ensures { told_fields result ≡ reading_of (record_in s.now cut at) }
 {
     let none = Span {
         start: 0,
         len: 0,
         doubled: false,
     };
-    let mut spans = [none; 6];
+    let mut spans = [none; KEPT];
     let mut count = 0;
     let mut i = at;
+    // A `loop`: where the next field starts is known only once this one has been read.
     loop {
         let field = csv_field::field_at(s, cut, i);
         let end = field.end;
@@ -94,22 +61,21 @@ fn read_fields(s: &[u8], cut: bool, at: usize) -> Reading
             spans[count] = span;
         }
         count += 1;
-        match stop {
+        let next = match stop {
             Stop::Comma => {
                 i = end + 1;
+                continue;
             }
-            Stop::LineEnd => {
-                return whole_record(count, spans, end, end + 2);
-            }
-            Stop::TextEnd => {
-                return whole_record(count, spans, end, end);
-            }
-            Stop::Bad => {
-                return refusal(Status::Malformed);
-            }
-            Stop::Cut => {
-                return refusal(Status::Limit);
-            }
-        }
+            Stop::LineEnd => end + 2,
+            Stop::TextEnd => end,
+            Stop::Bad => return Err(Unread::Malformed),
+            Stop::Cut => return Err(Unread::Limit),
+        };
+        return Ok(Record {
+            count,
+            spans,
+            end,
+            next,
+        });
     }
 }

@@ -1,6 +1,6 @@
 -- `csv_records::read_fields` meets its contract.
 use Rattle.csv_records.specs.Reading.{first_six}
-use Rattle.std.proofs.Common.{arith, [], ◌∷◌, ◌++◌, inl, inr, ◌≡◌, ◌∙◌}
+use Rattle.std.proofs.Common.{arith, [], ◌∷◌, ◌++◌, inl, inr, ◌≡◌}
 use Rattle.csv_records.proofs.Going.{start, stored, comma-in, line-in, next, last_line, last-text, bad, over}
 use Rattle.csv_records.proofs.read_fields.Goals as goal
 use Rattle.csv_records.proofs.read_fields.Goals.{Joined-count-lt-KEPT, else-count-lt-KEPT, then-count-lt-KEPT}
@@ -34,29 +34,29 @@ loop-count-preserved c =
     let l = c.loop-count in
     next l.invariant c.field_at-field.ensures (kept (goal.at.loop-count-preserved c).Joined-count-lt-KEPT) c.in-Comma.is
 
-pub overflow_add-end : goal.overflow_add-end
-overflow_add-end c =
+pub overflow_add-next : goal.overflow_add-next
+overflow_add-next c =
     let l = c.loop-count in
     omega (arith, line-in l.invariant c.field_at-field.ensures c.in-LineEnd.is)
 
 pub returns-in-LineEnd : goal.returns-in-LineEnd
 returns-in-LineEnd c =
     let l = c.loop-count in
-    c.whole_record.ensures ∙ last_line l.invariant c.field_at-field.ensures (kept (goal.at.returns-in-LineEnd c).Joined-count-lt-KEPT)
+    last_line l.invariant c.field_at-field.ensures (kept (goal.at.returns-in-LineEnd c).Joined-count-lt-KEPT)
     c.in-LineEnd.is
 
 pub returns-in-TextEnd : goal.returns-in-TextEnd
 returns-in-TextEnd c =
     let l = c.loop-count in
-    c.whole_record-in-TextEnd.ensures ∙ last-text l.invariant c.field_at-field.ensures (kept (goal.at.returns-in-TextEnd c).Joined-count-lt-KEPT)
+    last-text l.invariant c.field_at-field.ensures (kept (goal.at.returns-in-TextEnd c).Joined-count-lt-KEPT)
     c.in-TextEnd.is
 
 pub returns-in-Bad : goal.returns-in-Bad
 returns-in-Bad c =
     let l = c.loop-count in
-    c.refusal.ensures ∙ bad l.invariant c.field_at-field.ensures c.in-Bad.is
+    bad l.invariant c.field_at-field.ensures c.in-Bad.is
 
 pub returns-in-Cut : goal.returns-in-Cut
 returns-in-Cut c =
     let l = c.loop-count in
-    c.refusal-in-Cut.ensures ∙ over l.invariant c.field_at-field.ensures c.in-Cut.is
+    over l.invariant c.field_at-field.ensures c.in-Cut.is
