@@ -3,7 +3,7 @@ use Rattle.std.proofs.Common.{ℕ, zero, suc, ◌+◌, ◌≤◌, ◌<◌, arith
 use mathlib.Core.Bool.{false≢true, or_comm}
 use lib.Dec.{leb, eqb}
 use borrow.Author.Tests.{lt-leb, not-true, not-false}
-use Rattle.rows.specs.declared.Row.{Row}
+use Rattle.rows.specs.declared.row.Row.{Row}
 use Rattle.rows.specs.Kinds.{BARRIER}
 use Rattle.rows.specs.Limits.{PROCESSES}
 use Rattle.rows.specs.Rows.{row_at}

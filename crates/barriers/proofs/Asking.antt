@@ -2,7 +2,7 @@
 use Rattle.std.proofs.Common.{ℕ, ◌<◌, arith, ◌≡◌, sym, ap, subst, ◌∙◌, Bool, true, false, cond, List, length, replicate, ne_eqb}
 use lib.ListN.{get_or}
 use lib.Dec.{eqb}
-use Rattle.rows.specs.declared.Row.{Row}
+use Rattle.rows.specs.declared.row.Row.{Row}
 use Rattle.rows.specs.Limits.{PROCESSES, MESSAGES}
 use Rattle.rows.specs.Rows.{row_in, rows_in}
 use Rattle.rows.specs.Counting.{count_below}

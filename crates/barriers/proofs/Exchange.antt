@@ -5,7 +5,7 @@ use mathlib.Core.Bool.{false≢true, or-false}
 use lib.Seq.{append_snoc}
 use lib.Dec.{eqb}
 use borrow.Author.Tests.{not-true}
-use Rattle.rows.specs.declared.Row.{Row}
+use Rattle.rows.specs.declared.row.Row.{Row}
 use Rattle.rows.specs.Kinds.{BARRIER}
 use Rattle.rows.specs.Rows.{row_at}
 use Rattle.rows.specs.Tests.{any, carries_by}

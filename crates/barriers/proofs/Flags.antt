@@ -5,7 +5,7 @@ use mathlib.Core.Bool.{or-false, or-true}
 use lib.ListN.{get_or, set, length-replicate}
 use lib.Seq.{append_snoc}
 use lib.Dec.{eqb}
-use Rattle.rows.specs.declared.Row.{Row}
+use Rattle.rows.specs.declared.row.Row.{Row}
 use Rattle.rows.specs.Limits.{PROCESSES}
 use Rattle.rows.specs.Counting.{count_below}
 use Rattle.rows.specs.Tests.{any}

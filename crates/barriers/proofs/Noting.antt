@@ -1,6 +1,6 @@
 -- The tables of a pass over rows: before any row, and with one row more that may go on.
 use Rattle.std.proofs.Common.{ℕ, ◌<◌, arith, ◌≡◌, refl, sym, ap, ◌∙◌, true, false, List, [], ◌∷◌, ◌++◌, length, replicate}
-use Rattle.rows.specs.declared.Row.{Row}
+use Rattle.rows.specs.declared.row.Row.{Row}
 use Rattle.rows.specs.Limits.{PROCESSES, MESSAGES}
 use Rattle.rows.specs.Rows.{row_at}
 use Rattle.barriers.specs.Barriers.{goes_on}

@@ -6,7 +6,7 @@ use lib.ListN.{get_or, set, length-replicate, get_or-append}
 use lib.Seq.{get_or_at, append_snoc}
 use lib.Dec.{leb, ltb, eqb}
 use borrow.Author.Tests.{lt-leb, not-true}
-use Rattle.rows.specs.declared.Row.{Row}
+use Rattle.rows.specs.declared.row.Row.{Row}
 use Rattle.rows.specs.Kinds.{BARRIER}
 use Rattle.rows.specs.Limits.{PROCESSES, MESSAGES}
 use Rattle.rows.specs.Rows.{row_at, no_row}

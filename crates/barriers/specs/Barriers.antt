@@ -1,7 +1,7 @@
 -- Question 22, as document 02 says it: whether a process repeats a barrier number, goes on before all have arrived, or the trace ends with a
 -- barrier unfinished. All are the processes that have a row anywhere in the trace.
 use Rattle.std.specs.Prelude.{ℕ, suc, Bool, cond, not, ◌&&◌, ◌||◌, List, [], ◌∷◌, ◌++◌, length, eqb}
-use Rattle.rows.specs.declared.Row.{Row}
+use Rattle.rows.specs.declared.row.Row.{Row}
 use Rattle.rows.specs.Kinds.{BARRIER}
 use Rattle.rows.specs.Tests.{any, carries_by}
 

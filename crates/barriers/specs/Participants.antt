@@ -1,6 +1,6 @@
 -- Which processes have rows, and how many.
 use Rattle.std.specs.Prelude.{ℕ, ◌<◌, ◌≡◌, Bool, true, false, List, [], ◌∷◌, length, get_or, set, eqb}
-use Rattle.rows.specs.declared.Row.{Row}
+use Rattle.rows.specs.declared.row.Row.{Row}
 use Rattle.rows.specs.Limits.{PROCESSES}
 use Rattle.rows.specs.Counting.{count_below}
 use Rattle.rows.specs.Tests.{any}

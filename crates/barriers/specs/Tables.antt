@@ -1,6 +1,6 @@
 -- The tables by which one pass tells who may go on: at which barrier each process stands, and how many rows each barrier has.
 use Rattle.std.specs.Prelude.{ℕ, zero, suc, Bool, false, cond, ◌&&◌, ◌||◌, List, [], ◌∷◌, get_or, set, replicate, leb, ltb}
-use Rattle.rows.specs.declared.Row.{Row}
+use Rattle.rows.specs.declared.row.Row.{Row}
 use Rattle.rows.specs.Limits.{PROCESSES, MESSAGES}
 use Rattle.barriers.specs.Barriers.{is_barrier}
 

@@ -1,7 +1,7 @@
 -- The numbers in an answer of the whole call and of the list of races are small.
 use Rattle.std.proofs.Common.{ℕ, ◌+◌, ◌*◌, ◌≤◌, ◌<◌, arith, ◌≡◌, refl, Bool, true, false, cond, List, length}
 use Rattle.rows.specs.Limits.{ROWS}
-use Rattle.rows.specs.declared.Row.{Row}
+use Rattle.rows.specs.declared.row.Row.{Row}
 use Rattle.trace.specs.Questions.{Outcome, refused, accepted, check_trace}
 use Rattle.trace.proofs.Laws.{accepted-passed, accepted-sound}
 use Rattle.trace.proofs.Refusals.{Bounded, refusal-bounded}

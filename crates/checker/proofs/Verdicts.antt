@@ -3,7 +3,7 @@ use Rattle.std.proofs.Common.{ℕ, ◌*◌, ◌-◌, ◌≤◌, ◌<◌, arith, 
 use lib.ListN.{length-replicate}
 use Rattle.rows.specs.Limits.{MODELS, ROWS}
 use Rattle.csv_records.specs.Reading.{records}
-use Rattle.rows.specs.declared.Row.{Row}
+use Rattle.rows.specs.declared.row.Row.{Row}
 use Rattle.trace.specs.declared.Checked.{Checked}
 use Rattle.trace.specs.declared.Checked.TheVariants as checked
 use Rattle.rows.specs.Rows.{numbers, rows_in, row_at}

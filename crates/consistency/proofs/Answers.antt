@@ -2,7 +2,7 @@
 use Rattle.std.proofs.Common.{ℕ, arith, ◌≡◌, refl, ◌↔◌, Bool, true, false, cond, List, [], ◌++◌, length, drop, leb-true, ltb-true}
 use lib.Dec.{leb, eqb}
 use Rattle.rows.specs.Kinds.{READ}
-use Rattle.rows.specs.declared.Row.{Row}
+use Rattle.rows.specs.declared.row.Row.{Row}
 use Rattle.rows.proofs.Bools.{and_out}
 use Rattle.extents_meaning.specs.Cells.{Bytes, number_in, in_range}
 use Rattle.extents_meaning.specs.Runs.{pieces_of}

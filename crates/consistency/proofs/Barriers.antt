@@ -1,7 +1,7 @@
 -- The barriers of an accepted trace: every process has one row of each, a row of a barrier happens before every row that follows a row of that
 -- barrier in any process, and an allowed order lets no process pass before all have arrived.
 use Rattle.std.proofs.Common.{ℕ, ◌<◌, ◌≡◌, ◌↔◌, List, length}
-use Rattle.rows.specs.declared.Row.{Row}
+use Rattle.rows.specs.declared.row.Row.{Row}
 use Rattle.rows.specs.Kinds.{BARRIER}
 use Rattle.rows.specs.Lists.{In}
 use Rattle.rows.specs.Rows.{row_at}

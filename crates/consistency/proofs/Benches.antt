@@ -7,7 +7,7 @@ use Rattle.models.specs.Table.{publishes, refreshes}
 use Rattle.csv_field.specs.FieldReading.{field_at, after_cr, stop_of, text_length, is_text}
 use Rattle.csv_content.specs.Content.{content_of, same_bytes}
 use Rattle.csv_records.specs.Reading.{records, records_from, on_found, read_at, fields_from, on_stop, prepend}
-use Rattle.rows.specs.declared.Row.{Row}
+use Rattle.rows.specs.declared.row.Row.{Row}
 use Rattle.trace.specs.Rows.{word_of, used_by, all_digits, starts_plain, value_from, row_of}
 use Rattle.trace.specs.Questions.{call_questions, filled_as_used, numbers_in_range, any, message_in_order, wait_in_order, field_questions, record_questions, row_questions, message_questions, judge_rows, read_records, ask_barriers, read_trace, check_trace, accepted}
 use Rattle.rows.specs.Questions.{first_no}

@@ -6,7 +6,7 @@ use lib.Dec.{eqb}
 use Rattle.rows.specs.Kinds.{READ, WRITE, COMMIT}
 use Rattle.models.specs.Models.{COMMIT_MODEL}
 use Rattle.models.specs.Table.{publishes, refreshes}
-use Rattle.rows.specs.declared.Row.{Row}
+use Rattle.rows.specs.declared.row.Row.{Row}
 use Rattle.rows.specs.Rows.{row_at}
 use Rattle.rows.proofs.Bools.{and_out}
 use Rattle.extents_meaning.specs.Cells.{Bytes, cell_of, number_in, unpublished, cleared, in_range, overwrite, as_published, refreshed}

@@ -5,7 +5,7 @@ use mathlib.Core.Logic.Iff
 use lib.Dec.{leb, eqb}
 use Rattle.rows.specs.Limits.{MODELS, PROCESSES, ROWS, FILES, OFFSET_MAX}
 use Rattle.rows.specs.Kinds.{READ, WRITE}
-use Rattle.rows.specs.declared.Row.{Row}
+use Rattle.rows.specs.declared.row.Row.{Row}
 use Rattle.rows.proofs.Bools.{or_right}
 use Rattle.extents_meaning.specs.Cells.{Bytes, number_in}
 use Rattle.extents_meaning.specs.Runs.{Run, pieces_of}

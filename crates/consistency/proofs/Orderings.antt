@@ -1,7 +1,7 @@
 -- Allowed orders of a trace are those that one byte of one file sees, latest row first.
 use Rattle.std.proofs.Common.{ℕ, zero, suc, arith, ◌≡◌, refl, ap, ◌∙◌, ◌⊎◌, inl, inr, true, List, [], ◌∷◌, ◌++◌, reverse, length}
 use mathlib.Core.List.{reverse_aux, reverse-cons, reverse_aux-append, reverse-reverse}
-use Rattle.rows.specs.declared.Row.{Row}
+use Rattle.rows.specs.declared.row.Row.{Row}
 use Rattle.happens_before.specs.Order.{edge, HB, one}
 use Rattle.consistency.specs.Orders.{Stands, Allowed, places_below, trace_order}
 use Rattle.rows.specs.Lists.{In, Once}

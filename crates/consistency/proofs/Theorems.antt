@@ -7,7 +7,7 @@ use Rattle.rows.specs.Limits.{MODELS, PROCESSES, ROWS, FILES, OFFSET_MAX}
 use Rattle.rows.specs.Kinds.{WRITE, COMMIT, SEND}
 use Rattle.models.specs.Models.{COMMIT_MODEL}
 use Rattle.csv_records.specs.Reading.{records}
-use Rattle.rows.specs.declared.Row.{Row}
+use Rattle.rows.specs.declared.row.Row.{Row}
 use Rattle.trace.specs.Questions.{check_trace, accepted}
 use Rattle.trace.proofs.Laws.{WellFormed, Sound, accepted-passed, accepted-sound}
 use Rattle.rows.specs.Rows.{row_at}

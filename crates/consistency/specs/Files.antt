@@ -3,7 +3,7 @@ use Rattle.std.specs.Prelude.{ℕ, suc, ◌+◌, ◌*◌, ◌≤◌, ◌<◌, �
 use Rattle.rows.specs.Limits.{ROWS, FILES, OFFSET_MAX}
 use Rattle.rows.specs.Kinds.{WRITE, COMMIT}
 use Rattle.models.specs.Models.{COMMIT_MODEL}
-use Rattle.rows.specs.declared.Row.{Row}
+use Rattle.rows.specs.declared.row.Row.{Row}
 use Rattle.rows.specs.Questions.{first_no}
 use Rattle.rows.specs.Rows.{row_at}
 use Rattle.extents_meaning.specs.Cells.{number_in}

@@ -1,6 +1,6 @@
 -- Orders of rows, as lists of places with the first row first.
 use Rattle.std.specs.Prelude.{ℕ, zero, suc, ◌<◌, ◌≡◌, ◌⊎◌, true, List, [], ◌∷◌, ◌++◌, length}
-use Rattle.rows.specs.declared.Row.{Row}
+use Rattle.rows.specs.declared.row.Row.{Row}
 use Rattle.happens_before.specs.Order.{edge, HB}
 use Rattle.rows.specs.Lists.{In, Once}
 

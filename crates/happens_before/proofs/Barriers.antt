@@ -4,7 +4,7 @@ use Rattle.std.proofs.Common.{ℕ, zero, suc, ◌≤◌, ◌<◌, arith, ◌≡�
 use native.Mathlib.Decide.{dec_lt}
 use mathlib.Core.Bool.{false≢true}
 use lib.Dec.{ltb, eqb}
-use Rattle.rows.specs.declared.Row.{Row}
+use Rattle.rows.specs.declared.row.Row.{Row}
 use Rattle.rows.specs.Kinds.{BARRIER}
 use Rattle.rows.specs.Rows.{row_at}
 use Rattle.rows.proofs.Bools.{and_out, or_out, or_right}

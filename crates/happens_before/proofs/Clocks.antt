@@ -4,7 +4,7 @@ use native.Mathlib.Decide.{dec_lt}
 use mathlib.Core.Bool.{false≢true, and-false}
 use lib.Dec.{ltb, eqb}
 use borrow.Author.Tests.{eqb-false}
-use Rattle.rows.specs.declared.Row.{Row}
+use Rattle.rows.specs.declared.row.Row.{Row}
 use Rattle.rows.specs.Kinds.{SEND, RECV, ARRIVAL, BARRIER}
 use Rattle.rows.specs.Counting.{any_below, count_below, last_below}
 use Rattle.happens_before.specs.Order.{same_process, delivers, last_of, last_before, passes, crosses, edge, HB, one, more, hb_within, hb, up_to, count}

@@ -4,7 +4,7 @@ use native.Mathlib.Decide.{dec_lt}
 use lib.ListN.{get_or, length-replicate, replicate-append-replicate, get_or-append}
 use lib.Seq.{drop-append-add}
 use lib.Dec.{eqb}
-use Rattle.rows.specs.declared.Row.{Row}
+use Rattle.rows.specs.declared.row.Row.{Row}
 use Rattle.rows.specs.Rows.{rows_in, row_at, row_in}
 use Rattle.rows.specs.Counting.{values, blocks, last_below}
 use Rattle.happens_before.specs.Order.{delivers, same_barrier, last_of, last_before, passes, crosses, count, counts_of}

@@ -6,7 +6,7 @@ use mathlib.Core.Bool.{and-false, or-true, or-false, false≢true}
 use lib.ListN.{get_or, set}
 use lib.Seq.{take-set-le}
 use lib.Dec.{eqb}
-use Rattle.rows.specs.declared.Row.{Row}
+use Rattle.rows.specs.declared.row.Row.{Row}
 use Rattle.rows.specs.Kinds.{SEND, ARRIVAL, BARRIER}
 use Rattle.rows.specs.Rows.{row_here, row_in}
 use Rattle.rows.specs.Counting.{values, last_below}

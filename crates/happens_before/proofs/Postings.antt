@@ -2,7 +2,7 @@
 use Rattle.std.proofs.Common.{ℕ, zero, suc, ◌≡◌, refl, ap, ◌∙◌, Bool, true, false, cond, ◌&&◌, ◌||◌, List, [], ◌∷◌, map, length, eqb-true}
 use lib.ListN.{length-map}
 use lib.Dec.{ltb, eqb}
-use Rattle.rows.specs.declared.Row.{Row}
+use Rattle.rows.specs.declared.row.Row.{Row}
 use Rattle.rows.specs.Kinds.{READ, SEND, RECV, ARRIVAL, BARRIER}
 use Rattle.rows.specs.Rows.{row_at}
 use Rattle.happens_before.specs.Order.{delivers, last_of, last_before, passes, crosses, edge}

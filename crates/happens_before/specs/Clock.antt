@@ -1,7 +1,7 @@
 -- How the counts are filled, row after row: the definitions that the contracts of the private functions cite. That they give the counts of
 -- specs/Order.antt is the law `vector_clock` of proofs/Clocks.antt.
 use Rattle.std.specs.Prelude.{ℕ, zero, suc, ◌+◌, ◌*◌, max, Bool, cond, ◌&&◌, ◌||◌, List, ◌++◌, get_or, take, drop, eqb}
-use Rattle.rows.specs.declared.Row.{Row}
+use Rattle.rows.specs.declared.row.Row.{Row}
 use Rattle.rows.specs.Rows.{row_at, row_in}
 use Rattle.rows.specs.Counting.{values}
 use Rattle.happens_before.specs.Order.{delivers, same_barrier, last_before, passes, crosses, count}

@@ -1,6 +1,6 @@
 -- Happens-before, and the counts of every row by their meaning. Rows are named by their places, from 0; row numbers are one more.
 use Rattle.std.specs.Prelude.{ℕ, zero, suc, ◌≡◌, Bool, true, false, ◌&&◌, ◌||◌, List, length, ltb, eqb}
-use Rattle.rows.specs.declared.Row.{Row}
+use Rattle.rows.specs.declared.row.Row.{Row}
 use Rattle.rows.specs.Kinds.{SEND, ARRIVAL, BARRIER}
 use Rattle.rows.specs.Counting.{any_below, last_below, count_below, values, blocks}
 use Rattle.rows.specs.Rows.{row_at}

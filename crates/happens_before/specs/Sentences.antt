@@ -1,7 +1,7 @@
 -- The order in the documents' own words, by which no row need stand before another in the trace. That an accepted trace is ordered so, and by
 -- nothing more, is the law `literal_order` of proofs/Barriers.antt.
 use Rattle.std.specs.Prelude.{ℕ, Bool, ◌&&◌, ◌||◌, List, length, ltb}
-use Rattle.rows.specs.declared.Row.{Row}
+use Rattle.rows.specs.declared.row.Row.{Row}
 use Rattle.rows.specs.Counting.{any_below}
 use Rattle.rows.specs.Rows.{row_at}
 use Rattle.happens_before.specs.Order.{same_process, delivers, same_barrier}

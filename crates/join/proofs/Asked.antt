@@ -1,6 +1,6 @@
 -- Question 22 of the joined rows, once all records are taken.
 use Rattle.std.proofs.Common.{ℕ, ◌*◌, ◌<◌, ◌≤◌, arith, ◌≡◌, sym, ap, subst, ◌∙◌, List, length, drop, eq-eqb, ne_eqb}
-use Rattle.rows.specs.declared.Row.{Row}
+use Rattle.rows.specs.declared.row.Row.{Row}
 use Rattle.rows.specs.Limits.{PROCESSES, MESSAGES}
 use Rattle.rows.specs.Refusals.{BARRIER_ORDER}
 use Rattle.rows.specs.Rows.{row_at, row_in, rows_in}

@@ -6,7 +6,7 @@ use Rattle.csv_records.specs.Reading.{Finding, nothing, malformed, past-limit, f
 use Rattle.csv_records.specs.declared.Reading.{Reading}
 use Rattle.csv_records.specs.declared.Status.TheVariants.{End, Malformed, Limit, Record}
 use Rattle.csv_records.proofs.Answers.{tells}
-use Rattle.rows.specs.declared.Row.{Row}
+use Rattle.rows.specs.declared.row.Row.{Row}
 use Rattle.rows.specs.Kinds.{ARRIVAL}
 use Rattle.messages.specs.Table.{is_sent, entry_for}
 use Rattle.barriers.specs.Tables.{held_by}

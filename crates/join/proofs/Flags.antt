@@ -2,7 +2,7 @@
 use Rattle.std.proofs.Common.{ℕ, ◌<◌, ◌≡◌, sym, ap, subst, ◌∙◌, Bool, false, List, ◌++◌, length, replicate}
 use lib.ListN.{get_or}
 use lib.Dec.{eqb}
-use Rattle.rows.specs.declared.Row.{Row}
+use Rattle.rows.specs.declared.row.Row.{Row}
 use Rattle.rows.specs.Limits.{PROCESSES}
 use Rattle.rows.specs.Rows.{row_at}
 use Rattle.rows.specs.Tests.{any}

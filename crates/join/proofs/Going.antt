@@ -1,7 +1,7 @@
 -- The loop of the join: the outcome is that of the rest of both files behind the entries taken so far.
 use Rattle.std.proofs.Common.{ℕ, suc, ◌+◌, ◌*◌, ◌<◌, ◌≤◌, arith, ◌≡◌, refl, sym, ap, subst, ◌∙◌, ◌⊎◌, inl, inr, Bool, true, false, cond, List, [], ◌∷◌, ◌++◌, length, take, drop, replicate, length-append, eq-eqb, ne_eqb, ltb-true, lt-ltb}
 use lib.Dec.{eqb, ltb}
-use Rattle.rows.specs.declared.Row.{Row}
+use Rattle.rows.specs.declared.row.Row.{Row}
 use Rattle.rows.specs.Limits.{PROCESSES, MESSAGES}
 use Rattle.rows.specs.Questions.{first_no}
 use Rattle.rows.specs.Refusals.{ROW_LIMIT, STUCK}

@@ -7,7 +7,7 @@ use Rattle.csv_content.specs.Content.{content_of}
 use Rattle.csv_records.specs.Reading.{read_at, found}
 use Rattle.csv_records.proofs.Answers.{all-six}
 use Rattle.csv_records.proofs.Places.{found-places}
-use Rattle.rows.specs.declared.Row.{Row}
+use Rattle.rows.specs.declared.row.Row.{Row}
 use Rattle.rows.specs.Questions.{first_no}
 use Rattle.rows.specs.Kinds.{ARRIVAL}
 use Rattle.rows.specs.Limits.{PROCESSES, MESSAGES}

@@ -4,7 +4,7 @@ use native.Mathlib.Numerals.{add-two}
 use lib.ListN.{set}
 use lib.Seq.{sets-eq}
 use borrow.Author.Tests.{lt-leb}
-use Rattle.rows.specs.declared.Row.{Row}
+use Rattle.rows.specs.declared.row.Row.{Row}
 use Rattle.rows.specs.Questions.{first_no}
 use Rattle.rows.specs.Refusals.{ROW_LIMIT}
 use Rattle.rows.proofs.Slices.{block_next}

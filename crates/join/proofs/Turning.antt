@@ -1,7 +1,7 @@
 -- The chooser's turn by the table is the turn of the two files' entries.
 use Rattle.std.proofs.Common.{ℕ, suc, ◌+◌, ◌-◌, ◌≤◌, arith, ◌≡◌, refl, sym, ap, subst, ◌∙◌, ◌⊎◌, inl, inr, Bool, true, false, not, List, [], ◌∷◌, length, take, drop}
 use lib.Dec.{eqb}
-use Rattle.rows.specs.declared.Row.{Row}
+use Rattle.rows.specs.declared.row.Row.{Row}
 use Rattle.rows.specs.Limits.{PROCESSES}
 use Rattle.trace.proofs.Laws.{WellFormed}
 use Rattle.join_meaning.specs.Files.{Entry, rows_of}

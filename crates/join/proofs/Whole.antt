@@ -3,7 +3,7 @@ use Rattle.std.proofs.Common.{ℕ, ◌*◌, ◌-◌, ◌≤◌, arith, ◌≡◌
 use lib.Dec.{leb}
 use borrow.Author.Tests.{lt-leb}
 use borrow.Rule.Slice.PartMut.{put_mid}
-use Rattle.rows.specs.declared.Row.{Row}
+use Rattle.rows.specs.declared.row.Row.{Row}
 use Rattle.rows.specs.Limits.{PROCESSES}
 use Rattle.rows.specs.Questions.{first_no}
 use Rattle.rows.specs.Refusals.{SHARED_PROCESS}

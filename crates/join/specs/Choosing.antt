@@ -1,7 +1,7 @@
 -- What the chooser answers: what stands next in a file, whether its row waits by the table of messages, which record comes next, and its part.
 use Rattle.std.specs.Prelude.{ℕ, ◌-◌, Bool, true, false, cond, not, ◌&&◌, ◌||◌, List, length, take, drop, eqb}
 use Rattle.csv_records.specs.Reading.{Finding, nothing, malformed, past-limit, found, read_at, first_six}
-use Rattle.rows.specs.declared.Row.{Row}
+use Rattle.rows.specs.declared.row.Row.{Row}
 use Rattle.rows.specs.Kinds.{ARRIVAL}
 use Rattle.rows.specs.Rows.{no_row}
 use Rattle.messages.specs.Table.{is_sent, entry_for}

@@ -1,6 +1,6 @@
 -- What a join answers, and what it leaves of the lent slices.
 use Rattle.std.specs.Prelude.{ℕ, ◌*◌, ◌-◌, ◌≤◌, ◌≡◌, List, ◌++◌, length, drop, replicate}
-use Rattle.rows.specs.declared.Row.{Row}
+use Rattle.rows.specs.declared.row.Row.{Row}
 use Rattle.rows.specs.Limits.{ROWS, PROCESSES, FIELDS}
 use Rattle.rows.specs.Rows.{numbers}
 use Rattle.trace.specs.Questions.{accepted, refusal_leaves}

@@ -1,6 +1,6 @@
 -- Whether rows are of a process that is flagged.
 use Rattle.std.specs.Prelude.{Bool, false, List, get_or}
-use Rattle.rows.specs.declared.Row.{Row}
+use Rattle.rows.specs.declared.row.Row.{Row}
 use Rattle.rows.specs.Tests.{any}
 
 -- Some row is of a process that is flagged.

@@ -1,6 +1,6 @@
 -- What taking one row answers and stores: its questions by the table of messages, and the place of its record in the lent slice.
 use Rattle.std.specs.Prelude.{ℕ, ◌+◌, ◌*◌, cond, List, [], ◌∷◌, ◌++◌, length, take, drop, leb, ltb}
-use Rattle.rows.specs.declared.Row.{Row}
+use Rattle.rows.specs.declared.row.Row.{Row}
 use Rattle.rows.specs.Questions.{Question}
 use Rattle.rows.specs.Refusals.{ROW_LIMIT}
 use Rattle.messages.specs.Table.{table_questions, table_after}

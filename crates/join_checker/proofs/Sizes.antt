@@ -1,7 +1,7 @@
 -- The numbers in an answer of the whole call on two files are small.
 use Rattle.std.proofs.Common.{ℕ, ◌≤◌, ◌<◌, arith, ◌≡◌, refl, List, length}
 use Rattle.rows.specs.Limits.{ROWS}
-use Rattle.rows.specs.declared.Row.{Row}
+use Rattle.rows.specs.declared.row.Row.{Row}
 use Rattle.races_meaning.specs.Races.{Verdict, free, racing, verdict_of}
 use Rattle.races_meaning.proofs.Verdicts.{racing-within}
 use Rattle.join_meaning.specs.Files.{rows_of}

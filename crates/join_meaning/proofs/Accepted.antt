@@ -2,7 +2,7 @@
 -- have the verdict of every other allowed merging. And the way back: where some merging is a sound trace, the join is accepted.
 use Rattle.std.proofs.Common.{ℕ, ◌*◌, ◌≤◌, ◌<◌, arith, ◌≡◌, refl, sym, ◌∙◌, ◌↔◌, Bool, true, false, cond, List, length, leb-true, eqb-true, eq-eqb}
 use lib.Dec.{eqb}
-use Rattle.rows.specs.declared.Row.{Row}
+use Rattle.rows.specs.declared.row.Row.{Row}
 use Rattle.rows.specs.Questions.{first_no, long_enough}
 use Rattle.rows.specs.Refusals.{SHARED_PROCESS}
 use Rattle.rows.specs.Rows.{row_at}

@@ -8,7 +8,7 @@ use Rattle.csv_content.specs.Content.{content_of}
 use Rattle.csv_records.specs.Reading.{read_at, Finding, nothing, malformed, past-limit, found, on_found, records_from, records, Records}
 use Rattle.csv_records.proofs.Places.{found-places}
 use Rattle.csv_records.proofs.Limit.{read_past, records-next}
-use Rattle.rows.specs.declared.Row.{Row}
+use Rattle.rows.specs.declared.row.Row.{Row}
 use Rattle.rows.specs.Rows.{row_at}
 use Rattle.rows.specs.Questions.{first_no}
 use Rattle.rows.specs.Refusals.{HEADER}

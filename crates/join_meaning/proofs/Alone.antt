@@ -2,7 +2,7 @@
 use Rattle.std.proofs.Common.{ℕ, ◌+◌, ◌*◌, ◌≤◌, arith, ◌≡◌, refl, ap, ◌∙◌, Bool, true, false, cond, ◌&&◌, List, [], ◌∷◌, ◌++◌, length, eqb-true, le-leb, lt-ltb}
 use lib.Dec.{leb, eqb}
 use Rattle.csv_records.specs.Reading.{Records, records, records_from, on_found, read_at, Ending, all_read, at-malformed, at-limit}
-use Rattle.rows.specs.declared.Row.{Row}
+use Rattle.rows.specs.declared.row.Row.{Row}
 use Rattle.rows.specs.Limits.{MODELS, ROWS}
 use Rattle.rows.specs.Questions.{first_no, long_enough}
 use Rattle.rows.proofs.Asking.{none-no, none-appended}

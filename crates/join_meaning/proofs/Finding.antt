@@ -1,6 +1,6 @@
 -- A join is accepted where some merging of the two files is an accepted trace.
 use Rattle.std.proofs.Common.{ℕ, zero, suc, ◌+◌, ◌≤◌, ◌<◌, arith, ◌≡◌, refl, sym, ap, subst, ◌∙◌, List, [], ◌∷◌, ◌++◌, length, length-append, lt-ltb}
-use Rattle.rows.specs.declared.Row.{Row}
+use Rattle.rows.specs.declared.row.Row.{Row}
 use Rattle.rows.specs.Questions.{first_no}
 use Rattle.rows.proofs.Tests.{Alike}
 use Rattle.messages.proofs.Asks.{Passes}

@@ -1,6 +1,6 @@
 -- Laws of mergings of two lists, and of the rows of entries.
 use Rattle.std.proofs.Common.{ℕ, zero, suc, ◌+◌, ◌<◌, arith, ◌≡◌, refl, ap, List, [], ◌∷◌, ◌++◌, length}
-use Rattle.rows.specs.declared.Row.{Row}
+use Rattle.rows.specs.declared.row.Row.{Row}
 use Rattle.rows.specs.Rows.{row_at}
 use Rattle.join_meaning.specs.Files.{Entry, rows_of}
 use Rattle.join_meaning.specs.Merging.{Merged, none, first, second}

@@ -8,7 +8,7 @@ use Rattle.csv_content.specs.Content.{content_of}
 use Rattle.csv_records.specs.Grammar.{Record, Line, ended, last, Text, none}
 use Rattle.csv_records.specs.Reading.{read_at, found}
 use Rattle.csv_records.proofs.Grammar.{found-line, line-found}
-use Rattle.rows.specs.declared.Row.{Row}
+use Rattle.rows.specs.declared.row.Row.{Row}
 use Rattle.trace.specs.Rows.{row_of}
 use Rattle.trace.specs.Questions as outcome
 use Rattle.join_meaning.specs.Files.{Entry, part_of, read_file, entries_of}

@@ -1,7 +1,7 @@
 -- Places of a merging's rows in their files and back, and how the rows of one merging stand in another merging of the same files.
 use Rattle.std.proofs.Common.{ℕ, zero, suc, ◌<◌, arith, ◌≡◌, refl, sym, ap, ◌∙◌, List, ◌∷◌, length}
 use native.Mathlib.Decide.{dec_lt}
-use Rattle.rows.specs.declared.Row.{Row}
+use Rattle.rows.specs.declared.row.Row.{Row}
 use Rattle.rows.specs.Rows.{row_at}
 use Rattle.join_meaning.specs.Merging.{Merged, none, first, second}
 

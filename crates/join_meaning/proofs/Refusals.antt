@@ -3,7 +3,7 @@ use Rattle.std.proofs.Common.{ℕ, zero, suc, ◌+◌, ◌≤◌, arith, ◌≡�
 use lib.Dec.{eqb}
 use borrow.Author.Tests.{eqb-false}
 use Rattle.csv_records.specs.Reading.{Records, records, Ending, all_read, at-malformed, at-limit}
-use Rattle.rows.specs.declared.Row.{Row}
+use Rattle.rows.specs.declared.row.Row.{Row}
 use Rattle.rows.specs.Limits.{ROWS}
 use Rattle.rows.specs.Questions.{Question, first_no}
 use Rattle.rows.specs.Refusals.{HEADER, RANGE_END, SHARED_PROCESS, BARRIER_ORDER}

@@ -2,7 +2,7 @@
 use Rattle.std.proofs.Common.{ℕ, zero, suc, ◌+◌, ◌≤◌, ◌<◌, arith, ◌≡◌, refl, sym, ap, subst, ◌∙◌, Bool, true, false, cond, List, [], ◌∷◌, ◌++◌, append-nil, length, take, length-append, ltb-true, eqb-true}
 use lib.Seq.{append_snoc}
 use lib.Dec.{eqb}
-use Rattle.rows.specs.declared.Row.{Row}
+use Rattle.rows.specs.declared.row.Row.{Row}
 use Rattle.rows.specs.Rows.{row_at}
 use Rattle.rows.specs.Questions.{Question, first_no}
 use Rattle.rows.specs.Refusals.{ROW_LIMIT, BARRIER_ORDER}

@@ -3,7 +3,7 @@ use Rattle.std.proofs.Common.{ℕ, ◌<◌, arith, ◌≡◌, sym, ap, ◌∙◌
 use mathlib.Core.Bool.{false≢true}
 use lib.Dec.{eqb}
 use borrow.Author.Tests.{not-true, not-false}
-use Rattle.rows.specs.declared.Row.{Row}
+use Rattle.rows.specs.declared.row.Row.{Row}
 use Rattle.rows.specs.Kinds.{SEND, ARRIVAL}
 use Rattle.rows.specs.Rows.{row_at, no_row}
 use Rattle.rows.proofs.Bools.{and_out, not_both}

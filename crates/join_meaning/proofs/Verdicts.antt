@@ -1,7 +1,7 @@
 -- An accepted join and any other allowed merging of the two files have the same rows and the same direct edges, so both are free or neither is.
 use Rattle.std.proofs.Common.{ℕ, ◌<◌, arith, ◌≡◌, refl, sym, ap, subst, ◌∙◌, ◌↔◌, true, false, List, ◌++◌, length, take, length-take, get_or-take, length-take-le, eqb-true, eq-eqb}
 use lib.Dec.{eqb}
-use Rattle.rows.specs.declared.Row.{Row}
+use Rattle.rows.specs.declared.row.Row.{Row}
 use Rattle.rows.specs.Rows.{row_at, no_row}
 use Rattle.rows.proofs.Bools.{and_out}
 use Rattle.rows.proofs.Tests.{some_in}

@@ -2,7 +2,7 @@
 use Rattle.std.specs.Prelude.{ℕ, zero, suc, ◌+◌, ◌-◌, cond, List, [], ◌∷◌, ◌++◌, map, length, take, drop, eqb}
 use Rattle.csv_records.specs.Reading.{Finding, nothing, malformed, past-limit, found, read_at, Records, records, Ending, all_read, at-malformed, at-limit}
 use Rattle.csv_content.specs.Content.{content_of}
-use Rattle.rows.specs.declared.Row.{Row}
+use Rattle.rows.specs.declared.row.Row.{Row}
 use Rattle.rows.specs.Questions.{first_no}
 use Rattle.rows.specs.Refusals.{MALFORMED, HEADER, ROW_LIMIT}
 use Rattle.trace.specs.Rows.{row_of}

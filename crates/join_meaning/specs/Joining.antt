@@ -1,7 +1,7 @@
 -- Two files joined into one trace, as document 02 says it: which record comes next, which rows wait, the questions of the joined rows, and the
 -- whole call.
 use Rattle.std.specs.Prelude.{ℕ, zero, suc, ◌+◌, ◌*◌, Bool, cond, not, ◌&&◌, ◌||◌, List, [], ◌∷◌, ◌++◌, length, leb, eqb}
-use Rattle.rows.specs.declared.Row.{Row}
+use Rattle.rows.specs.declared.row.Row.{Row}
 use Rattle.rows.specs.Kinds.{ARRIVAL}
 use Rattle.rows.specs.Questions.{Question, first_no, long_enough}
 use Rattle.rows.specs.Refusals.{SHORT_SLICE, LIMITS, HEADER_WORD, ROW_LIMIT, SHARED_PROCESS, STUCK, BARRIER_ORDER}

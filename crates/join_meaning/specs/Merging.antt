@@ -1,6 +1,6 @@
 -- Mergings of two files: every order of their rows that keeps the order of each file. An allowed merging lets no row stand where it would wait.
 use Rattle.std.specs.Prelude.{ℕ, ◌<◌, ◌≡◌, false, List, [], ◌∷◌, ◌++◌, length, take}
-use Rattle.rows.specs.declared.Row.{Row}
+use Rattle.rows.specs.declared.row.Row.{Row}
 use Rattle.rows.specs.Rows.{row_at}
 use Rattle.join_meaning.specs.Joining.{waits}
 

@@ -4,7 +4,7 @@ use Rattle.csv_records.specs.Reading.{read_at, nothing, malformed, past-limit, r
 use Rattle.csv_records.specs.declared.Reading.{Reading}
 use Rattle.csv_records.specs.declared.Status.TheVariants.{Record}
 use Rattle.csv_records.proofs.Answers.{Told, tells}
-use Rattle.rows.specs.declared.Row.{Row}
+use Rattle.rows.specs.declared.row.Row.{Row}
 use Rattle.rows.specs.Rows.{six}
 use Rattle.rows.specs.Questions.{Question, first_no}
 use Rattle.rows.proofs.Asking.{all_yes}

@@ -5,7 +5,7 @@ use Rattle.happens_before.specs.Filling.{filled_left}
 use Rattle.races_meaning.specs.Lists.{race_pairs}
 use Rattle.races.specs.Answers.{judge_questions, found_of}
 use Rattle.races.specs.Listing.{list_questions, listed_of, list_left}
-use Rattle.rows.specs.declared.Row.{Row}
+use Rattle.rows.specs.declared.row.Row.{Row}
 use Rattle.rows.specs.Rows.{rows_in}
 use Rattle.trace.specs.Questions.{Outcome, checked_of, rows_left, counts_left}
 use Rattle.rows.specs.Questions.{Question, first_no}

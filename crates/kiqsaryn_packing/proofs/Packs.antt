@@ -3,7 +3,7 @@ use Rattle.std.proofs.Common.{ℕ, ◌+◌, ◌*◌, ◌/◌, ◌%◌, ◌<◌, 
 use lib.Dec.{eqb}
 use Rattle.rows.specs.Questions.{first_no}
 use Rattle.rows.specs.Rows.{rows_in}
-use Rattle.rows.specs.declared.Row.{Row}
+use Rattle.rows.specs.declared.row.Row.{Row}
 use Rattle.rows.proofs.Slices.{length-rows}
 use Rattle.races_meaning.specs.Races.{Verdict, free, racing, verdict_of}
 use Rattle.races_meaning.proofs.Verdicts.{racing-within}

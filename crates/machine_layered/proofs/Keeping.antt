@@ -2,7 +2,7 @@
 use Rattle.std.proofs.Common.{ℕ, suc, ◌≤◌, ◌≡◌, refl, sym, ap, ◌∙◌, true, cond, List, length, leb-true, ltb-true, lt-ltb}
 use lib.Dec.{leb, ltb}
 use Rattle.rows.specs.Limits.{OFFSET_MAX}
-use Rattle.rows.specs.declared.Row.{Row}
+use Rattle.rows.specs.declared.row.Row.{Row}
 use Rattle.rows.specs.Lists.{In}
 use Rattle.rows.proofs.Bools.{and_out}
 use Rattle.extents_meaning.specs.Runs.{runs_of}

@@ -5,7 +5,7 @@ use lib.Dec.{eqb}
 use Rattle.rows.specs.Limits.{ROWS, OFFSET_MAX}
 use Rattle.rows.specs.Kinds.{WRITE}
 use Rattle.models.specs.Table.{publishes, refreshes}
-use Rattle.rows.specs.declared.Row.{Row}
+use Rattle.rows.specs.declared.row.Row.{Row}
 use Rattle.extents_meaning.specs.Cells.{Bytes, cell_of, number_in, unpublished, cleared, in_range, overwrite, published, as_published, refreshed}
 use Rattle.extents_meaning.specs.Runs.{runs_of, pieces_of}
 use Rattle.rows.specs.Lists.{In}

@@ -4,7 +4,7 @@ use lib.Dec.{leb, ltb, eqb}
 use Rattle.rows.specs.Limits.{MODELS}
 use Rattle.rows.specs.Kinds.{WRITE}
 use Rattle.models.specs.Table.{publishes, refreshes}
-use Rattle.rows.specs.declared.Row.{Row}
+use Rattle.rows.specs.declared.row.Row.{Row}
 use Rattle.rows.proofs.Asking.{AllYes, none-no, yes-append}
 use Rattle.extents_meaning.specs.Cells.{Bytes, cell_of, overwrite, published, as_published, refreshed}
 use Rattle.extents_meaning.specs.Runs.{Run}

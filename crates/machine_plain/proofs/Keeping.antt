@@ -1,7 +1,7 @@
 -- A step of the plain file preserves a lawful state.
 use Rattle.std.proofs.Common.{ℕ, ◌≤◌, ◌≡◌, true, List, leb-true}
 use Rattle.rows.specs.Limits.{OFFSET_MAX}
-use Rattle.rows.specs.declared.Row.{Row}
+use Rattle.rows.specs.declared.row.Row.{Row}
 use Rattle.rows.specs.Lists.{In}
 use Rattle.extents_meaning.specs.Maps.{map_at}
 use Rattle.machine_meaning.specs.Layers.{after_plain, pieces_read}

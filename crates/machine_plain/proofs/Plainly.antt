@@ -4,7 +4,7 @@ use lib.Dec.{leb, eqb}
 use borrow.Author.Tests.{lt-leb}
 use Rattle.rows.specs.Limits.{ROWS, FILES, OFFSET_MAX}
 use Rattle.rows.specs.Kinds.{READ, WRITE}
-use Rattle.rows.specs.declared.Row.{Row}
+use Rattle.rows.specs.declared.row.Row.{Row}
 use Rattle.rows.specs.Questions.{first_no, is_process_limit}
 use Rattle.extents_meaning.specs.Cells.{Bytes, cell_of, overwrite}
 use Rattle.extents_meaning.specs.Runs.{Run, runs_of, pieces_of}

@@ -1,7 +1,7 @@
 -- The code answers and leaves what a step does, whether it is refused or not.
 use Rattle.std.proofs.Common.{ℕ, ◌≡◌, refl, sym, ◌∙◌, Bool, true, false, cond, List, ◌++◌, eqb-true, ne_eqb}
 use lib.Dec.{eqb}
-use Rattle.rows.specs.declared.Row.{Row}
+use Rattle.rows.specs.declared.row.Row.{Row}
 use Rattle.machine_meaning.specs.Layers.{of_file}
 use Rattle.machine_meaning.specs.Steps.{refusing, Step, decided}
 use Rattle.extents.specs.declared.Answer as extents

@@ -2,7 +2,7 @@
 use Rattle.std.proofs.Common.{ℕ, ◌*◌, ◌≤◌, arith, ◌≡◌, refl, Bool, true, List, ◌∷◌, ◌++◌, length, drop, length-append, length-drop, leb-true, eqb-true}
 use lib.Dec.{eqb}
 use Rattle.rows.specs.Kinds.{READ}
-use Rattle.rows.specs.declared.Row.{Row}
+use Rattle.rows.specs.declared.row.Row.{Row}
 use Rattle.rows.specs.Questions.{Question, first_no}
 use Rattle.extents_meaning.specs.Runs.{Run}
 use Rattle.extents_meaning.specs.Maps.{threes}

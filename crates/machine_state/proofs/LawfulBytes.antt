@@ -3,7 +3,7 @@ use Rattle.std.proofs.Common.{ℕ, zero, suc, ◌+◌, ◌≤◌, ◌<◌, arith
 use native.Mathlib.Decide.{dec_lt, ℕ_discrete}
 use Rattle.rows.specs.Limits.{OFFSET_MAX}
 use Rattle.rows.specs.Kinds.{WRITE}
-use Rattle.rows.specs.declared.Row.{Row}
+use Rattle.rows.specs.declared.row.Row.{Row}
 use Rattle.rows.specs.Lists.{In}
 use Rattle.rows.proofs.Bools.{and_out}
 use Rattle.extents_meaning.specs.Maps.{runs, bytes_of, lawful, lawful_published, no_marks}

@@ -7,7 +7,7 @@ use borrow.Author.Tests.{eqb-false}
 use Rattle.rows.specs.Limits.{FILES}
 use Rattle.rows.specs.Kinds.{WRITE}
 use Rattle.models.specs.Table.{publishes, refreshes}
-use Rattle.rows.specs.declared.Row.{Row}
+use Rattle.rows.specs.declared.row.Row.{Row}
 use Rattle.extents_meaning.specs.Cells.{Bytes, cell_of, overwrite, published, as_published, refreshed}
 use Rattle.extents_meaning.specs.Runs.{runs_of}
 use Rattle.extents_meaning.specs.Maps.{map_for, lawful, lawful_published, map_at, with_map}

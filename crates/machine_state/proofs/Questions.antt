@@ -5,7 +5,7 @@ use lib.Dec.{leb, ltb, eqb}
 use borrow.Author.Tests.{lt-leb}
 use Rattle.rows.specs.Limits.{ROWS, OFFSET_MAX}
 use Rattle.rows.specs.Kinds.{READ, WRITE, COMMIT, SEND}
-use Rattle.rows.specs.declared.Row.{Row}
+use Rattle.rows.specs.declared.row.Row.{Row}
 use Rattle.rows.specs.Questions.{first_no}
 use Rattle.extents_meaning.specs.Runs.{Run}
 use Rattle.machine_meaning.specs.Layers.{of_file}

@@ -3,7 +3,7 @@ use Rattle.std.proofs.Common.{ℕ, zero, suc, ◌+◌, ◌*◌, ◌-◌, ◌≤�
 use lib.ListN.{set}
 use lib.Dec.{leb, eqb}
 use borrow.Author.Tests.{not-true, not-false}
-use Rattle.rows.specs.declared.Row.{Row}
+use Rattle.rows.specs.declared.row.Row.{Row}
 use Rattle.rows.specs.Questions.{first_no}
 use Rattle.rows.specs.Rows.{row_in}
 use Rattle.rows.proofs.Bools.{and_out}

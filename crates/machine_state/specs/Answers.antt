@@ -4,7 +4,7 @@ use Rattle.rows.specs.Limits.{ROWS, OFFSET_MAX}
 use Rattle.rows.specs.Questions.{Question, first_no}
 use Rattle.extents.specs.declared.Answer as extents
 use Rattle.extents.specs.declared.Answer.TheVariants.{Done, Listed, Refused}
-use Rattle.rows.specs.declared.Row.{Row}
+use Rattle.rows.specs.declared.row.Row.{Row}
 use Rattle.machine_meaning.specs.Layers.{of_file}
 use Rattle.machine_meaning.specs.States.{Header, lawful_state}
 use Rattle.machine_meaning.specs.Steps.{StepAnswer, refusing, done, listed, Step, row_asked}

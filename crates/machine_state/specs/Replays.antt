@@ -1,6 +1,6 @@
 -- A replay steps through the rows of a trace from a place on. Each row of the file is one step, under its number in the trace.
 use Rattle.std.specs.Prelude.{ℕ, zero, suc, ◌+◌, ◌*◌, ◌-◌, ◌≡◌, Bool, cond, ◌&&◌, List, [], ◌∷◌, ◌++◌, length, take, drop, set, leb, eqb}
-use Rattle.rows.specs.declared.Row.{Row}
+use Rattle.rows.specs.declared.row.Row.{Row}
 use Rattle.rows.specs.Questions.{Question, first_no}
 use Rattle.rows.specs.Rows.{row_in}
 use Rattle.machine_meaning.specs.States.{Header, lawful_state, lawful_plain}

@@ -1,7 +1,7 @@
 -- An entry tells what the rows so far did with its message.
 use Rattle.std.proofs.Common.{ℕ, ◌+◌, ◌*◌, ◌/◌, ◌%◌, ◌<◌, arith, ◌≡◌, refl, sym, ap, ◌∙◌, true, false, List, [], ◌∷◌, ◌++◌, eq-eqb}
 use lib.Dec.{eqb}
-use Rattle.rows.specs.declared.Row.{Row}
+use Rattle.rows.specs.declared.row.Row.{Row}
 use Rattle.rows.specs.Kinds.{SEND, RECV, WAIT}
 use Rattle.rows.specs.Limits.{PROCESSES}
 use Rattle.rows.proofs.Tests.{any_last, any-fails, any-passes}

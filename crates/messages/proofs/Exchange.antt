@@ -2,7 +2,7 @@
 -- one does, was sent before both.
 use Rattle.std.proofs.Common.{ℕ, ◌≡◌, sym, ◌∙◌, ◌⊎◌, inl, inr, Bool, true, false, List, [], ◌∷◌, ◌++◌}
 use mathlib.Core.Bool.{false≢true}
-use Rattle.rows.specs.declared.Row.{Row}
+use Rattle.rows.specs.declared.row.Row.{Row}
 use Rattle.rows.specs.Kinds.{SEND, RECV, WAIT, ARRIVAL}
 use Rattle.rows.proofs.Bools.{or_out}
 use Rattle.rows.proofs.Tests.{any_last, any-more, none-snoc, none_more, carries-iff, carries_by-iff, Alike}

@@ -1,7 +1,7 @@
 -- The questions 12 and 21 in the documents' words: the rows before a row that send its message, post its receive or wait for it.
 use Rattle.std.proofs.Common.{ℕ, ◌≤◌, ◌<◌, arith, ◌≡◌, sym, subst, ◌↔◌, true, false, List, ◌++◌, length}
 use lib.ListN.{get_or-append}
-use Rattle.rows.specs.declared.Row.{Row}
+use Rattle.rows.specs.declared.row.Row.{Row}
 use Rattle.rows.specs.Kinds.{SEND, RECV, WAIT, ARRIVAL}
 use Rattle.rows.specs.Rows.{row_at, no_row}
 use Rattle.rows.proofs.Tests.{carries-iff, carries_by-iff, some-iff, none-iff}

@@ -5,7 +5,7 @@ use mathlib.Core.Bool.{and-false}
 use lib.ListN.{get_or, set, length-replicate}
 use lib.Dec.{eqb}
 use borrow.Author.Tests.{not-true}
-use Rattle.rows.specs.declared.Row.{Row}
+use Rattle.rows.specs.declared.row.Row.{Row}
 use Rattle.rows.specs.Kinds.{SEND, RECV, WAIT}
 use Rattle.rows.specs.Limits.{PROCESSES, MESSAGES}
 use Rattle.rows.specs.Questions.{first_no}

@@ -3,7 +3,7 @@ use Rattle.std.specs.Prelude.{ℕ, Bool, true, cond, not, ◌&&◌, List, [], �
 use Rattle.rows.specs.Kinds.{SEND, RECV, WAIT}
 use Rattle.rows.specs.Questions.{Question}
 use Rattle.rows.specs.Refusals.{MESSAGE_ORDER, WAIT_ORDER}
-use Rattle.rows.specs.declared.Row.{Row}
+use Rattle.rows.specs.declared.row.Row.{Row}
 pub use Rattle.rows.specs.Tests.{carries, carries_by}
 unfoldable pub use Rattle.rows.specs.Tests.{any}
 

@@ -3,7 +3,7 @@ use Rattle.std.proofs.Common.{ℕ, zero, suc, ◌≤◌, ◌<◌, arith, ◌≡�
 use native.Mathlib.Decide.{dec_lt}
 use mathlib.Core.List.{map-append}
 use lib.Seq.{take-length}
-use Rattle.rows.specs.declared.Row.{Row}
+use Rattle.rows.specs.declared.row.Row.{Row}
 use Rattle.rows.specs.Rows.{row_at, no_row}
 use Rattle.rows.specs.Lists.{In, Once}
 use Rattle.trace.proofs.Laws.{Sound}

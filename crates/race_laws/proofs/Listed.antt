@@ -1,7 +1,7 @@
 -- The list of every race in another allowed order of a trace's rows: it has the same pairs of rows, and as many.
 use Rattle.std.proofs.Common.{ℕ, ◌≤◌, ◌<◌, arith, ◌≡◌, sym, ◌∙◌, ◌↔◌, ◌⊎◌, inl, inr, true, List, length}
 use lib.ListN.{get_or}
-use Rattle.rows.specs.declared.Row.{Row}
+use Rattle.rows.specs.declared.row.Row.{Row}
 use Rattle.rows.proofs.Bools.{or_out, or_right}
 use Rattle.trace.specs.Questions.{accepted, check_trace}
 use Rattle.trace.proofs.Laws.{Sound, accepted-kept}

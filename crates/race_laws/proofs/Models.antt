@@ -4,7 +4,7 @@ use Rattle.std.proofs.Common.{ℕ, zero, suc, ◌<◌, ◌≡◌, refl, sym, ◌
 use lib.ListN.{length-map, get_or-map}
 use lib.Dec.{ltb, eqb}
 use Rattle.rows.specs.Kinds.{READ, WRITE, COMMIT, OPEN, CLOSE, SYNC, SEND, ARRIVAL, BARRIER}
-use Rattle.rows.specs.declared.Row.{Row}
+use Rattle.rows.specs.declared.row.Row.{Row}
 use Rattle.rows.specs.Rows.{no_row, row_at}
 use Rattle.rows.proofs.Bools.{and_out, or_right}
 use Rattle.models.specs.Models.{POSIX, COMMIT_MODEL, SESSION, MPI_IO}

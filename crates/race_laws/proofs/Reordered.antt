@@ -1,7 +1,7 @@
 -- The races of a trace are the same pairs of rows in every allowed order of its rows.
 use Rattle.std.proofs.Common.{ℕ, ◌<◌, arith, ◌≡◌, sym, ap, ◌∙◌, ◌↔◌, ◌⊎◌, inl, inr, true, List, length}
 use lib.ListN.{get_or, length-map}
-use Rattle.rows.specs.declared.Row.{Row}
+use Rattle.rows.specs.declared.row.Row.{Row}
 use Rattle.rows.specs.Rows.{row_at}
 use Rattle.rows.proofs.Bools.{or_out, or_right, same_test}
 use Rattle.trace.specs.Questions.{accepted, check_trace}

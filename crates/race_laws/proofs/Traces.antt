@@ -1,6 +1,6 @@
 -- The rows of a trace in another allowed order are a trace too: they pass the questions from 12 on.
 use Rattle.std.proofs.Common.{ℕ, ◌<◌, arith, ◌≡◌, refl, sym, ap, subst, ◌∙◌, inl, inr, List, length}
-use Rattle.rows.specs.declared.Row.{Row}
+use Rattle.rows.specs.declared.row.Row.{Row}
 use Rattle.rows.specs.Rows.{row_at}
 use Rattle.rows.specs.Kinds.{SEND, RECV, WAIT, BARRIER}
 use Rattle.messages.proofs.InOrder.{Arrives, InOrder}

@@ -1,6 +1,6 @@
 -- Rows in which each close is renamed commit.
 use Rattle.std.specs.Prelude.{cond, List, map, eqb}
-use Rattle.rows.specs.declared.Row.{Row}
+use Rattle.rows.specs.declared.row.Row.{Row}
 use Rattle.rows.specs.Kinds.{COMMIT, CLOSE}
 
 -- A close, of whatever file, becomes a commit of that file; any other row stays.

@@ -1,6 +1,6 @@
 -- The rows of a trace put in another allowed order.
 use Rattle.std.specs.Prelude.{ℕ, suc, ◌<◌, Bool, cond, ◌||◌, List, [], ◌∷◌, map, length, eqb}
-use Rattle.rows.specs.declared.Row.{Row}
+use Rattle.rows.specs.declared.row.Row.{Row}
 use Rattle.rows.specs.Rows.{row_at}
 use Rattle.rows.specs.Lists.{In}
 use Rattle.races_meaning.specs.Races.{race}

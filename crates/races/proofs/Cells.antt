@@ -6,7 +6,7 @@ use lib.ListN.{get_or}
 use lib.Dec.{eqb}
 use Rattle.rows.specs.Kinds.{READ, WRITE}
 use Rattle.models.specs.Table.{refreshes}
-use Rattle.rows.specs.declared.Row.{Row}
+use Rattle.rows.specs.declared.row.Row.{Row}
 use Rattle.rows.specs.Rows.{row_here, rows_in, row_at, row_in}
 use Rattle.rows.proofs.Slices.{row-in}
 pub use Rattle.happens_before.proofs.Joins.{process-in}

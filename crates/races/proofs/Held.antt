@@ -1,7 +1,7 @@
 -- Rows that a slice holds at its front: they pass the questions of a verdict, and what a verdict and a list answer and leave is that of the rows.
 use Rattle.std.proofs.Common.{ℕ, ◌*◌, ◌-◌, ◌≤◌, ◌<◌, arith, ◌≡◌, sym, ap, ◌∙◌, List, ◌++◌, length, replicate, length-append}
 use Rattle.rows.specs.Limits.{MODELS, ROWS, PROCESSES}
-use Rattle.rows.specs.declared.Row.{Row}
+use Rattle.rows.specs.declared.row.Row.{Row}
 use Rattle.rows.specs.Rows.{numbers, rows_in, row_at}
 use Rattle.rows.specs.Questions.{first_no}
 use Rattle.rows.proofs.Slices.{length-numbers, row-in, rows_back}

@@ -7,7 +7,7 @@ use Rattle.rows.specs.Kinds.{READ, WRITE}
 use Rattle.rows.specs.Limits.{PROCESSES, MODELS, ROWS}
 use Rattle.models.specs.Table.{publishes, refreshes}
 use Rattle.models.proofs.Entries.{own-refresh, no_data_publishes}
-use Rattle.rows.specs.declared.Row.{Row}
+use Rattle.rows.specs.declared.row.Row.{Row}
 use Rattle.rows.specs.Rows.{rows_in, row_here, row_at, row_in}
 use Rattle.happens_before.specs.Order.{count, counts_of}
 use Rattle.happens_before.specs.Clock.{cell_in}

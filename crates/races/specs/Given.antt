@@ -1,6 +1,6 @@
 -- What the search for races relies on.
 use Rattle.std.specs.Prelude.{ℕ, ◌*◌, ◌-◌, ◌≤◌, ◌<◌, ◌≡◌, Bool, false, not, ◌&&◌, ◌||◌, List, ◌++◌, length, get_or}
-use Rattle.rows.specs.declared.Row.{Row}
+use Rattle.rows.specs.declared.row.Row.{Row}
 use Rattle.rows.specs.Rows.{rows_in, row_in}
 use Rattle.happens_before.specs.Order.{same_process, counts_of}
 use Rattle.models.specs.Table.{publishes}

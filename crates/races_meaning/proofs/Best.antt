@@ -6,7 +6,7 @@ use mathlib.Core.Bool.{false≢true}
 use lib.Dec.{leb, ltb, eqb}
 use Rattle.rows.specs.Kinds.{READ, WRITE}
 use Rattle.models.specs.Table.{publishes, refreshes}
-use Rattle.rows.specs.declared.Row.{Row}
+use Rattle.rows.specs.declared.row.Row.{Row}
 use Rattle.rows.specs.Counting.{any_below, least_from, last_below}
 use Rattle.happens_before.specs.Order.{edge, HB, one, more, hb, up_to, count}
 use Rattle.rows.specs.Rows.{row_at}

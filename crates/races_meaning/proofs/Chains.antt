@@ -4,7 +4,7 @@ use mathlib.Core.Bool.{or-false, and_assoc}
 use lib.Dec.{ltb, eqb}
 use Rattle.rows.specs.Kinds.{COMMIT, OPEN, CLOSE, SYNC}
 use Rattle.models.specs.Table.{publishes, refreshes}
-use Rattle.rows.specs.declared.Row.{Row}
+use Rattle.rows.specs.declared.row.Row.{Row}
 use Rattle.rows.specs.Counting.{any_below}
 use Rattle.happens_before.specs.Order.{same_process, edge, HB, one, more, hb}
 use Rattle.rows.specs.Rows.{row_at}

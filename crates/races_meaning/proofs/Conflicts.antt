@@ -4,7 +4,7 @@ use mathlib.Core.Bool.{or-true}
 use lib.Dec.{eqb}
 use borrow.Author.Tests.{eqb-false, not-true}
 use Rattle.rows.specs.Kinds.{READ, WRITE}
-use Rattle.rows.specs.declared.Row.{Row}
+use Rattle.rows.specs.declared.row.Row.{Row}
 use Rattle.happens_before.specs.Order.{same_process}
 use Rattle.rows.proofs.Bools.{and_out, or_out}
 use Rattle.races_meaning.specs.Races.{is_write, is_data, same_file, share_byte, conflict}

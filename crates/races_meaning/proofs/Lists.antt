@@ -3,7 +3,7 @@
 use Rattle.std.proofs.Common.{ℕ, zero, suc, ◌+◌, ◌*◌, ◌-◌, ◌≤◌, ◌<◌, suc-mul, mul-suc, arith, ◌≡◌, refl, sym, ap, subst, ◌∙◌, ◌↔◌, ◌⊎◌, inl, inr, Bool, true, false, cond, List, [], ◌∷◌, ◌++◌, append-nil, append_assoc, length, length-append, get_or-append-add}
 use native.Mathlib.Decide.{dec_lt}
 use lib.ListN.{get_or, get_or-append}
-use Rattle.rows.specs.declared.Row.{Row}
+use Rattle.rows.specs.declared.row.Row.{Row}
 use Rattle.races_meaning.specs.Races.{race, verdict_of}
 use Rattle.races_meaning.specs.Lists.{RowPair, pairs_with, pairs_below, race_pairs, pair_numbers, first_of}
 use Rattle.races_meaning.proofs.Verdicts.{race_out, First, free-iff, racing-iff}

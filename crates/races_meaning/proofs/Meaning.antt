@@ -6,7 +6,7 @@ use borrow.Author.Tests.{not-true}
 use Rattle.rows.specs.Limits.{MODELS}
 use Rattle.rows.specs.Kinds.{READ, WRITE, COMMIT, OPEN, CLOSE, SYNC}
 use Rattle.models.specs.Models.{POSIX, COMMIT_MODEL, SESSION, MPI_IO}
-use Rattle.rows.specs.declared.Row.{Row}
+use Rattle.rows.specs.declared.row.Row.{Row}
 use Rattle.happens_before.specs.Order.{same_process, edge, HB}
 use Rattle.rows.specs.Rows.{row_at}
 use Rattle.rows.proofs.Bools.{and_out, or_out, or_right, not_passed}

@@ -4,7 +4,7 @@ use native.Mathlib.Decide.{dec_lt}
 use mathlib.Core.Bool.{false≢true}
 use lib.Dec.{ltb, eqb}
 use borrow.Author.Tests.{eqb-false}
-use Rattle.rows.specs.declared.Row.{Row}
+use Rattle.rows.specs.declared.row.Row.{Row}
 use Rattle.rows.specs.Counting.{any_below, least_from}
 use Rattle.rows.proofs.Bools.{and_out}
 use Rattle.rows.proofs.Below.{any-in, any_out}

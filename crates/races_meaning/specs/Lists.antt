@@ -1,6 +1,6 @@
 -- Every race of the rows under a model, once, by its later row and then by its earlier row.
 use Rattle.std.specs.Prelude.{ℕ, zero, suc, cond, List, [], ◌∷◌, ◌++◌, length}
-use Rattle.rows.specs.declared.Row.{Row}
+use Rattle.rows.specs.declared.row.Row.{Row}
 use Rattle.races_meaning.specs.Races.{race, Verdict, free, racing}
 
 -- Two rows by their numbers, the earlier row first.

@@ -3,7 +3,7 @@
 use Rattle.std.specs.Prelude.{ℕ, ◌+◌, max, min, Bool, cond, not, ◌&&◌, ◌||◌, List, length, ltb, eqb}
 use Rattle.rows.specs.Kinds.{READ, WRITE, COMMIT, OPEN, CLOSE, SYNC}
 use Rattle.models.specs.Models.{POSIX, COMMIT_MODEL, SESSION}
-use Rattle.rows.specs.declared.Row.{Row}
+use Rattle.rows.specs.declared.row.Row.{Row}
 use Rattle.rows.specs.Counting.{any_below, least_from}
 use Rattle.happens_before.specs.Order.{same_process, edge, hb}
 use Rattle.rows.specs.Rows.{row_at}

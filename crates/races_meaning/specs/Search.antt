@@ -3,7 +3,7 @@
 use Rattle.std.specs.Prelude.{ℕ, suc, ◌-◌, Bool, cond, ◌&&◌, List, length, leb, ltb}
 use Rattle.rows.specs.Kinds.{READ, WRITE}
 use Rattle.models.specs.Table.{publishes, refreshes}
-use Rattle.rows.specs.declared.Row.{Row}
+use Rattle.rows.specs.declared.row.Row.{Row}
 use Rattle.happens_before.specs.Order.{same_process, edge, hb, count}
 use Rattle.rows.specs.Rows.{row_at}
 use Rattle.races_meaning.specs.Races.{same_file}

@@ -4,7 +4,7 @@ use mathlib.Core.Bool.{false≢true}
 use lib.Dec.{ltb, eqb}
 use borrow.Author.Tests.{not-true}
 use Rattle.rows.specs.Kinds.{COMMIT, OPEN, CLOSE, SYNC}
-use Rattle.rows.specs.declared.Row.{Row}
+use Rattle.rows.specs.declared.row.Row.{Row}
 use Rattle.rows.specs.Rows.{row_at}
 use Rattle.rows.proofs.Bools.{and_out, or_out, not_passed}
 use Rattle.models.specs.Models.{POSIX, COMMIT_MODEL, SESSION}

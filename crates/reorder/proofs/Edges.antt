@@ -1,7 +1,7 @@
 -- The direct edges of rows go along under a new numbering that keeps the order of the rows of every edge.
 use Rattle.std.proofs.Common.{ℕ, zero, suc, ◌≤◌, ◌<◌, arith, ◌≡◌, refl, sym, ap, ◌∙◌, ◌⊎◌, inl, inr, true, List, length}
 use native.Mathlib.Decide.{dec_lt}
-use Rattle.rows.specs.declared.Row.{Row}
+use Rattle.rows.specs.declared.row.Row.{Row}
 use Rattle.rows.specs.Rows.{row_at}
 use Rattle.rows.proofs.Bools.{or_right}
 use Rattle.barriers.proofs.Kept.{Meet, Kept, barrier_first}

@@ -2,7 +2,7 @@
 use Rattle.std.proofs.Common.{ℕ, zero, suc, ◌<◌, arith, ◌≡◌, sym, ap, ◌∙◌, ◌↔◌, ◌⊎◌, inl, inr, Bool, true, false, cond, List, length}
 use native.Mathlib.Decide.{dec_lt}
 use Rattle.rows.specs.Kinds.{COMMIT, OPEN, CLOSE, SYNC}
-use Rattle.rows.specs.declared.Row.{Row}
+use Rattle.rows.specs.declared.row.Row.{Row}
 use Rattle.rows.specs.Rows.{row_at}
 use Rattle.happens_before.specs.Order.{edge, HB, one, more, hb}
 use Rattle.happens_before.proofs.Clocks.{edge-forward, program-order, HB-less, hb-iff}

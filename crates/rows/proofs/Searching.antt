@@ -1,6 +1,6 @@
 -- A search for a row that passes a test, row after row of a slice.
 use Rattle.std.proofs.Common.{ℕ, ◌+◌, ◌<◌, ◌≤◌, arith, ◌≡◌, refl, sym, ap, ◌∙◌, Bool, true, false, ◌||◌, List, length}
-use Rattle.rows.specs.declared.Row.{Row}
+use Rattle.rows.specs.declared.row.Row.{Row}
 use Rattle.rows.specs.Rows.{row_in, rows_in}
 use Rattle.rows.specs.Tests.{any}
 use Rattle.rows.proofs.Slices.{row_next, row-in, length-rows}

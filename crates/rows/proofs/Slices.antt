@@ -1,10 +1,10 @@
 -- Rows in a slice of six numbers each.
-use Rattle.std.proofs.Common.{ℕ, zero, suc, ◌+◌, ◌*◌, ◌/◌, ◌≤◌, ◌<◌, add-one, arith, ◌≡◌, refl, sym, ap, ◌∙◌, List, [], ◌∷◌, ◌++◌, append_assoc, append-nil, length, take, drop, length-drop, drop_of_length-le, take-add, take_at, drop-drop, get_or-drop, le-leb}
+use Rattle.std.proofs.Common.{ℕ, zero, suc, ◌+◌, ◌-◌, ◌*◌, ◌/◌, ◌≤◌, ◌<◌, add-one, arith, ◌≡◌, refl, sym, ap, ◌∙◌, List, [], ◌∷◌, ◌++◌, append_assoc, append-nil, length, take, drop, length-drop, drop_of_length-le, take-add, take_at, drop-drop, get_or-drop, le-leb}
 use native.Mathlib.Numerals.{add-two, add-three, add-four, add_five}
 use lib.ListN.{get_or, set}
 use lib.Seq.{drop-append-add, sets-eq}
 use borrow.Author.Tests.{lt-leb}
-use Rattle.rows.specs.declared.Row.{Row}
+use Rattle.rows.specs.declared.row.Row.{Row}
 use Rattle.rows.specs.Limits.{FIELDS}
 use Rattle.rows.specs.Rows.{no_row, row_at, six, numbers, row_here, rows_in, row_in, with_row}
 
@@ -52,6 +52,12 @@ pub length-rows : (n : ℕ) (xs : List ℕ) → length (rows_in n xs) ≡ n
 unfolding rows_in
 length-rows zero xs = refl
 length-rows (suc n) xs = ap suc (length-rows n (drop 6 xs))
+
+-- The first of some first rows, and the others.
+pub first-apart : (n : ℕ) (xs : List ℕ) → 0 < n → rows_in n xs ≡ row_here xs ∷ rows_in (n - 1) (drop FIELDS xs)
+unfolding rows_in
+first-apart zero xs h = absurd (omega arith)
+first-apart (suc n) xs h = ap (λ (m : ℕ). row_here xs ∷ rows_in m (drop FIELDS xs)) (omega arith)
 
 -- The first rows of a slice, and those behind them.
 pub rows-add : (i k : ℕ) (xs : List ℕ) → rows_in (i + k) xs ≡ rows_in i xs ++ rows_in k (drop (i * FIELDS) xs)

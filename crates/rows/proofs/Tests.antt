@@ -2,7 +2,7 @@
 use Rattle.std.proofs.Common.{ℕ, zero, suc, ◌<◌, arith, ◌≡◌, refl, sym, ap, ◌∙◌, ◌↔◌, ◌⊎◌, inl, inr, Bool, true, false, ◌||◌, List, [], ◌∷◌, ◌++◌, length, eq-eqb, eqb-true}
 use mathlib.Core.Bool.{false≢true, or-false, or-true, or_assoc}
 use lib.Dec.{eqb}
-use Rattle.rows.specs.declared.Row.{Row}
+use Rattle.rows.specs.declared.row.Row.{Row}
 use Rattle.rows.specs.Rows.{row_at}
 use Rattle.rows.specs.Tests.{any, carries, carries_by}
 use Rattle.rows.proofs.Bools.{and_out, or_out, or_right, not_passed}

@@ -6,3 +6,4 @@ pub mod Questions
 pub mod Counting
 pub mod Lists
 pub mod Tests
+pub mod First

@@ -1,6 +1,6 @@
 -- Rows of a trace, and the slice that holds six numbers for each row.
 use Rattle.std.specs.Prelude.{ℕ, zero, suc, ◌+◌, ◌*◌, cond, List, [], ◌∷◌, ◌++◌, length, get_or, take, drop, leb}
-use Rattle.rows.specs.declared.Row.{Row}
+use Rattle.rows.specs.declared.row.Row.{Row}
 use Rattle.rows.specs.Limits.{FIELDS, PROCESS_AT, KIND_AT, FILE_AT, OFFSET_AT, LENGTH_AT, MESSAGE_AT}
 
 -- ---- Rows by their places
@@ -48,3 +48,7 @@ row_in xs k = row_here (drop (k * FIELDS) xs)
 -- The slice with a row put at index k. A slice that has no room there stays as it is.
 unfoldable pub with_row : ℕ → Row → List ℕ → List ℕ
 with_row k r xs = cond (leb (k * FIELDS + FIELDS) (length xs)) (take (k * FIELDS) xs ++ (six r ++ drop (k * FIELDS + FIELDS) xs)) xs
+
+-- The slice with a group of n numbers put at the place of group k. A slice that has no room there stays as it is.
+unfoldable pub with_group : ℕ → ℕ → List ℕ → List ℕ → List ℕ
+with_group n k group xs = cond (leb (k * n + n) (length xs)) (take (k * n) xs ++ (group ++ drop (k * n + n) xs)) xs

@@ -1,6 +1,6 @@
 -- Tests on the rows of a list.
 use Rattle.std.specs.Prelude.{ℕ, Bool, false, ◌&&◌, ◌||◌, List, [], ◌∷◌, eqb}
-use Rattle.rows.specs.declared.Row.{Row}
+use Rattle.rows.specs.declared.row.Row.{Row}
 
 -- Some row passes a test.
 unfoldable pub any : (Row → Bool) → List Row → Bool

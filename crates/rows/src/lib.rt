@@ -2,12 +2,18 @@
 // specs/Limits.antt, specs/Kinds.antt and specs/Refusals.antt have these numbers for the contracts.
 #![tactic(auto)]
 
+mod first;
+mod group;
 pub mod kind;
 pub mod refusal;
+mod row;
 
-ghost use Rattle.std.specs.Prelude.{◌≡◌, length, get_or, replicate};
-ghost use Rattle.rows.specs.Rows.{row_in, with_row};
+ghost use Rattle.std.specs.Prelude.{◌≡◌, length, replicate};
 ghost use Rattle.rows.specs.Questions.{is_process_limit};
+
+pub use first::{FirstRows, first_rows};
+pub use group::put_group;
+pub use row::{Row, put_row, row_at};
 
 // Models are numbered from 0.
 pub const MODELS: u32 = 4;
@@ -65,17 +71,6 @@ pub const LENGTH_AT: usize = 4;
 
 pub const MESSAGE_AT: usize = 5;
 
-// A row: six numbers in field order. Fields that the kind does not use are 0.
-#[derive(Clone, Copy)]
-pub struct Row {
-    pub process: u32,
-    pub kind: u32,
-    pub file: u32,
-    pub offset: u32,
-    pub length: u32,
-    pub message: u32,
-}
-
 // Answers whether the number is a process limit: 1 to PROCESSES.
 pub fn is_process_limit(n: u32) -> bool
     ensures { result ≡ is_process_limit n }
@@ -84,54 +79,6 @@ pub fn is_process_limit(n: u32) -> bool
         return false;
     }
     n <= PROCESSES
-}
-
-// Answers the number at an index, and 0 past the end.
-fn number_at(numbers: &[u32], i: usize) -> u32
-    ensures { result ≡ get_or numbers.now i 0 }
-{
-    if i < numbers.len() { numbers[i] } else { 0 }
-}
-
-// Answers row k of a slice. Numbers past the slice's end are 0.
-pub fn row_at(rows: &[u32], k: usize) -> Row
-    ensures { result ≡ row_in rows.now k }
-{
-    if rows.len() / FIELDS < k {
-        return Row {
-            process: 0,
-            kind: 0,
-            file: 0,
-            offset: 0,
-            length: 0,
-            message: 0,
-        };
-    }
-    let at = k * FIELDS;
-    Row {
-        process: number_at(rows, at),
-        kind: number_at(rows, at + KIND_AT),
-        file: number_at(rows, at + FILE_AT),
-        offset: number_at(rows, at + OFFSET_AT),
-        length: number_at(rows, at + LENGTH_AT),
-        message: number_at(rows, at + MESSAGE_AT),
-    }
-}
-
-// Puts a row at index k of a slice. A slice that has no room there stays as it is.
-pub fn put_row(rows: &mut [u32], k: usize, row: Row)
-    ensures { rows.new ≡ with_row k row rows.old }
-{
-    if rows.len() / FIELDS <= k {
-        return;
-    }
-    let at = k * FIELDS;
-    rows[at] = row.process;
-    rows[at + KIND_AT] = row.kind;
-    rows[at + FILE_AT] = row.file;
-    rows[at + OFFSET_AT] = row.offset;
-    rows[at + LENGTH_AT] = row.length;
-    rows[at + MESSAGE_AT] = row.message;
 }
 
 // Fills a slice with 0.

@@ -9,7 +9,7 @@ use Rattle.csv_content.specs.Content.{same_bytes}
 use Rattle.csv_records.specs.Reading.{records, Records, Ending, all_read, at-malformed, at-limit}
 use Rattle.csv_content.proofs.Contents.{same-iff}
 use Rattle.csv_records.proofs.Grammar.{all-read_iff}
-use Rattle.rows.specs.declared.Row.{Row}
+use Rattle.rows.specs.declared.row.Row.{Row}
 use Rattle.trace.specs.Rows.{header_names, same_fields, row_of}
 use Rattle.trace.specs.Questions.{in_row_limit, six_fields, kind_known, filled_as_used, numbers_in_range, end_in_range, message_questions, field_questions, record_questions, row_questions, is_header, Outcome, refused, accepted, judge_rows, judge_header, read_records, read_trace, check_trace}
 use Rattle.rows.specs.Questions.{first_no}

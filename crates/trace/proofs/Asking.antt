@@ -8,7 +8,7 @@ use Rattle.csv_field.specs.FieldReading.{no_span}
 use Rattle.csv_content.specs.Content.{content_of, same_bytes}
 use Rattle.csv_field.specs.declared.Span.{Span}
 use Rattle.rows.specs.Limits.{MODELS, ROWS}
-use Rattle.rows.specs.declared.Row.{Row}
+use Rattle.rows.specs.declared.row.Row.{Row}
 use Rattle.trace_numbers.specs.declared.ReadRow.{ReadRow}
 use Rattle.trace_numbers.specs.declared.ReadRow.TheVariants.{Kept, No}
 use Rattle.trace.specs.Rows.{header_names, same_fields, row_of}

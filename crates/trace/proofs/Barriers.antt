@@ -3,7 +3,7 @@ use Rattle.std.proofs.Common.{ℕ, ◌≤◌, arith, ◌≡◌, refl, ap, ◌∙
 use lib.Dec.{eqb}
 use borrow.Author.Tests.{eqb-false}
 use Rattle.csv_records.specs.Reading.{Records}
-use Rattle.rows.specs.declared.Row.{Row}
+use Rattle.rows.specs.declared.row.Row.{Row}
 use Rattle.rows.specs.Refusals.{BARRIER_ORDER}
 use Rattle.barriers.specs.Barriers.{barrier_place}
 use Rattle.barriers.proofs.Kept.{place-most}

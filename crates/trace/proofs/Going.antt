@@ -6,7 +6,7 @@ use Rattle.csv_records.specs.Reading.{read_at, reading_of}
 use Rattle.csv_records.specs.declared.Reading.{Reading}
 use Rattle.csv_records.specs.declared.Status.TheVariants.{Record}
 use Rattle.csv_records.proofs.Answers.{Told, tells}
-use Rattle.rows.specs.declared.Row.{Row}
+use Rattle.rows.specs.declared.row.Row.{Row}
 use Rattle.trace_numbers.specs.declared.ReadRow.{ReadRow}
 use Rattle.trace_numbers.specs.declared.ReadRow.TheVariants.{Kept, No}
 use Rattle.trace.specs.Rows.{row_of}

@@ -6,7 +6,7 @@ use lib.Dec.{ltb, eqb}
 use borrow.Author.Tests.{eqb-false}
 use Rattle.csv_records.specs.Reading.{Records, records, Ending, all_read, at-malformed, at-limit}
 use Rattle.rows.specs.Limits.{PROCESSES, ROWS, FILES, MESSAGES, OFFSET_MAX}
-use Rattle.rows.specs.declared.Row.{Row}
+use Rattle.rows.specs.declared.row.Row.{Row}
 use Rattle.trace.specs.Rows.{kind_of, used_by, is_plain, value, value_from, is_number, field, row_of}
 use Rattle.rows.specs.Kinds.{KINDS}
 use Rattle.trace.specs.Questions.{call_questions, is_header, kind_known, as_used, filled_as_used, number_if, OFFSETS, numbers_in_range, end_in_range, message_questions, field_questions, record_questions, row_questions, Outcome, refused, accepted, judge_rows, judge_header, read_records, ask_barriers, read_trace, check_trace}

@@ -4,7 +4,7 @@ use Rattle.std.proofs.Common.{ℕ, zero, suc, ◌≤◌, ◌<◌, arith, ◌≡�
 use native.Mathlib.Decide.{dec_lt}
 use lib.ListN.{get_or-append}
 use lib.Seq.{take-length, get_or-append_seam}
-use Rattle.rows.specs.declared.Row.{Row}
+use Rattle.rows.specs.declared.row.Row.{Row}
 use Rattle.rows.specs.Rows.{row_at, no_row}
 use Rattle.messages.proofs.InOrder.{Sends, Posts, Arrives, InOrder, message-iff, same-before, more_rows}
 use Rattle.trace.proofs.Laws.{WellFormed, Sound, none, next}

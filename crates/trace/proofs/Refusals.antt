@@ -4,7 +4,7 @@ use lib.Dec.{eqb}
 use borrow.Author.Tests.{eqb-false}
 use Rattle.csv_records.specs.Reading.{Records, records, Ending, all_read, at-malformed, at-limit}
 use Rattle.rows.specs.Limits.{ROWS}
-use Rattle.rows.specs.declared.Row.{Row}
+use Rattle.rows.specs.declared.row.Row.{Row}
 use Rattle.trace.specs.Rows.{row_of}
 use Rattle.trace.specs.Questions.{call_questions, is_header, field_questions, record_questions, row_questions, message_questions, Outcome, refused, accepted, judge_rows, judge_header, read_records, read_trace, check_trace}
 use Rattle.rows.specs.Questions.{Question, first_no}

@@ -12,7 +12,7 @@ use Rattle.csv_records.specs.declared.Status.TheVariants.{Record}
 use Rattle.csv_records.proofs.Limit.{records-next}
 use Rattle.csv_records.proofs.Places.{found-places}
 use Rattle.csv_records.proofs.Answers.{Told, tells, all-six}
-use Rattle.rows.specs.declared.Row.{Row}
+use Rattle.rows.specs.declared.row.Row.{Row}
 use Rattle.rows.specs.Rows.{six, numbers}
 use Rattle.rows.specs.Questions.{Question, first_no}
 use Rattle.rows.proofs.Slices.{numbers-next}

@@ -5,7 +5,7 @@ use borrow.Author.Tests.{lt-leb}
 use Rattle.csv_records.specs.Reading.{read_at, reading_of, records, Records, Ending, all_read, at-malformed, at-limit}
 use Rattle.csv_records.specs.declared.Reading.{Reading}
 use Rattle.csv_records.specs.declared.Status.TheVariants.{Record}
-use Rattle.rows.specs.declared.Row.{Row}
+use Rattle.rows.specs.declared.row.Row.{Row}
 use Rattle.trace.specs.declared.Checked.TheVariants.{Accepted, Refused}
 use Rattle.rows.specs.Limits.{PROCESSES, MESSAGES}
 use Rattle.rows.specs.Refusals.{BARRIER_ORDER}

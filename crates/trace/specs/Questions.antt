@@ -4,7 +4,7 @@
 use Rattle.std.specs.Prelude.{ℕ, ◌+◌, ◌*◌, ◌-◌, Bool, cond, ◌&&◌, List, [], ◌∷◌, ◌++◌, ◌≡◌, length, drop, replicate, leb, ltb, eqb}
 use Rattle.csv_records.specs.Reading.{records, Records, Ending, all_read, at-malformed, at-limit}
 use Rattle.rows.specs.Limits.{MODELS, ROWS}
-use Rattle.rows.specs.declared.Row.{Row}
+use Rattle.rows.specs.declared.row.Row.{Row}
 use Rattle.trace.specs.declared.Checked.{Checked}
 use Rattle.trace.specs.declared.Checked.TheVariants.{Accepted, Refused}
 use Rattle.trace.specs.Rows.{header_names, same_fields, row_of}

@@ -7,7 +7,7 @@ use Rattle.csv_field.specs.declared.Span.{Span}
 use Rattle.rows.specs.Limits.{OFFSET_MAX}
 use Rattle.rows.specs.Kinds.{KINDS}
 use Rattle.rows.specs.Questions.{first_no}
-use Rattle.rows.specs.declared.Row.{Row}
+use Rattle.rows.specs.declared.row.Row.{Row}
 use Rattle.trace_numbers.specs.declared.Used.{Used}
 use Rattle.trace_numbers.specs.declared.ReadRow.{ReadRow}
 use Rattle.trace_numbers.specs.declared.ReadRow.TheVariants.{Kept, No}

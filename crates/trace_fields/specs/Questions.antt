@@ -2,7 +2,7 @@
 use Rattle.std.specs.Prelude.{ℕ, ◌+◌, Bool, true, false, not, ◌&&◌, List, [], ◌∷◌, leb, ltb}
 use Rattle.csv_content.specs.Content.{is_nil}
 use Rattle.rows.specs.Limits.{FILES, MESSAGES, OFFSET_MAX}
-use Rattle.rows.specs.declared.Row.{Row}
+use Rattle.rows.specs.declared.row.Row.{Row}
 use Rattle.trace_numbers.specs.Numbers.{is_number, field, number_if, OFFSETS}
 use Rattle.trace_fields.specs.Rows.{kind_of, used_by, row_of}
 use Rattle.rows.specs.Kinds.{KINDS}

@@ -1,7 +1,7 @@
 -- Rows of a trace: kinds and their words, the fields that a kind uses, and the row that a record stands for.
 use Rattle.std.specs.Prelude.{ℕ, ◌+◌, Bool, true, false, cond, ◌&&◌, List, [], ◌∷◌, get_or}
 use Rattle.csv_content.specs.Content.{same_bytes}
-use Rattle.rows.specs.declared.Row.{Row}
+use Rattle.rows.specs.declared.row.Row.{Row}
 use Rattle.trace_numbers.specs.declared.Used.{Used}
 use Rattle.trace_numbers.specs.Numbers.{value, field}
 

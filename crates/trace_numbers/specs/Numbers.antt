@@ -4,7 +4,7 @@ use Rattle.csv_field.specs.FieldReading.{byte_between}
 use Rattle.csv_field.specs.declared.Span.{Span}
 use Rattle.csv_content.specs.Content.{is_nil, content_of}
 use Rattle.rows.specs.Limits.{FILES, MESSAGES, OFFSET_MAX}
-use Rattle.rows.specs.declared.Row.{Row}
+use Rattle.rows.specs.declared.row.Row.{Row}
 use Rattle.trace_numbers.specs.declared.Number.{Number}
 use Rattle.trace_numbers.specs.declared.Number.TheVariants.{Plain, Bad}
 use Rattle.trace_numbers.specs.declared.Used.{Used}

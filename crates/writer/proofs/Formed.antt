@@ -7,7 +7,7 @@ use Rattle.csv_records.specs.Reading.{records}
 use Rattle.csv_content.specs.Content.{is_nil}
 use Rattle.messages.specs.Questions.{message_questions}
 use Rattle.print.specs.Decimal.{decimal_of}
-use Rattle.rows.specs.declared.Row.{Row}
+use Rattle.rows.specs.declared.row.Row.{Row}
 use Rattle.rows.specs.Kinds.{KINDS}
 use Rattle.rows.specs.Limits.{PROCESSES, FILES, MESSAGES, OFFSET_MAX}
 use Rattle.rows.specs.Questions.{first_no}

@@ -5,7 +5,7 @@ use borrow.Rule.Slice.PartMut.{put_mid}
 use Rattle.print.specs.Puts.{lay, put_in, put_end}
 use Rattle.print.proofs.Laying.{lay-none}
 use Rattle.print.proofs.Parts.{Laid, put-laid, laid-length, then, part-laid}
-use Rattle.rows.specs.declared.Row.{Row}
+use Rattle.rows.specs.declared.row.Row.{Row}
 use Rattle.rows.specs.Limits.{FIELDS}
 use Rattle.rows.specs.Rows.{rows_in, row_in}
 use Rattle.rows.proofs.Slices.{rows-add, row_next, length-rows}

@@ -4,7 +4,7 @@ use lib.Dec.{eqb}
 use Rattle.messages.specs.Questions.{message_questions}
 use Rattle.messages.specs.Table.{table_questions, table_after}
 use Rattle.messages.proofs.Tables.{Tells, tells_none, tells-asks, tells-next}
-use Rattle.rows.specs.declared.Row.{Row}
+use Rattle.rows.specs.declared.row.Row.{Row}
 use Rattle.rows.specs.Limits.{PROCESSES, MESSAGES, FIELDS}
 use Rattle.rows.specs.Questions.{first_no}
 use Rattle.rows.specs.Rows.{rows_in, row_in}

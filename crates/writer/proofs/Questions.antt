@@ -2,7 +2,7 @@
 use Rattle.std.proofs.Common.{ℕ, ◌+◌, ◌*◌, ◌-◌, ◌≤◌, ◌<◌, arith, ◌≡◌, refl, sym, ap, ◌∙◌, Bool, true, false, cond, not, lt-ltb, le-ltb, le-leb, leb-true}
 use lib.Dec.{leb}
 use borrow.Author.Tests.{lt-leb}
-use Rattle.rows.specs.declared.Row.{Row}
+use Rattle.rows.specs.declared.row.Row.{Row}
 use Rattle.rows.specs.Kinds.{KINDS}
 use Rattle.rows.specs.Limits.{ROWS, PROCESSES, FILES, MESSAGES, FIELDS, OFFSET_MAX}
 use Rattle.rows.specs.Questions.{first_no, is_process_limit}

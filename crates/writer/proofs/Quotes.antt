@@ -5,7 +5,7 @@ use lib.Dec.{eqb}
 use borrow.Author.Tests.{eqb-false, not-true}
 use Rattle.csv_field.specs.FieldGrammar.{COMMA, DQUOTE, CRLF, NonEscaped, none, text}
 use Rattle.csv_field.proofs.Bytes.{text-unquote}
-use Rattle.rows.specs.declared.Row.{Row}
+use Rattle.rows.specs.declared.row.Row.{Row}
 use Rattle.rows.proofs.Bools.{and_out}
 use Rattle.trace.specs.Rows.{header_names, kind_words, used_by}
 use Rattle.writer_line.specs.Lines.{number_field, contents_of, commas, line_of, record_of}

@@ -10,7 +10,7 @@ use Rattle.csv_records.specs.Grammar.{Record, ended, Text}
 use Rattle.csv_records.specs.Reading.{Records, records}
 use Rattle.csv_records.proofs.Grammar.{records-text}
 use Rattle.messages.specs.Questions.{message_questions}
-use Rattle.rows.specs.declared.Row.{Row}
+use Rattle.rows.specs.declared.row.Row.{Row}
 use Rattle.rows.specs.Limits.{MODELS, PROCESSES, ROWS, FIELDS}
 use Rattle.rows.specs.Questions.{first_no}
 use Rattle.rows.specs.Refusals.{TEXT_SPACE}

@@ -7,7 +7,7 @@ use borrow.Author.Tests.{lt-leb, eqb-false}
 use Rattle.print.specs.Decimal.{width_within, decimal_of}
 use Rattle.print.proofs.Laying.{number-length}
 use Rattle.print.proofs.Parts.{number-most}
-use Rattle.rows.specs.declared.Row.{Row}
+use Rattle.rows.specs.declared.row.Row.{Row}
 use Rattle.rows.specs.Kinds.{KINDS}
 use Rattle.rows.specs.Limits.{PROCESSES, ROWS}
 use Rattle.rows.specs.Questions.{first_no}

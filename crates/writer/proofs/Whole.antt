@@ -2,7 +2,7 @@
 use Rattle.std.proofs.Common.{ℕ, ◌+◌, ◌*◌, ◌-◌, ◌≤◌, ◌<◌, arith, ◌≡◌, refl, sym, ap, ◌∙◌, Bool, true, false, not, List, [], length, ne_eqb, leb-true}
 use Rattle.print.specs.Puts.{lay}
 use Rattle.print.proofs.Laying.{lay-length, lay-lay}
-use Rattle.rows.specs.declared.Row.{Row}
+use Rattle.rows.specs.declared.row.Row.{Row}
 use Rattle.rows.specs.Limits.{PROCESSES, MESSAGES}
 use Rattle.rows.specs.Questions.{first_no}
 use Rattle.rows.specs.Refusals.{TEXT_SPACE, BARRIER_ORDER}

@@ -3,7 +3,7 @@ use Rattle.std.specs.Prelude.{ℕ, ◌+◌, ◌*◌, Bool, true, cond, ◌&&◌,
 use Rattle.csv_field.specs.FieldGrammar.{CRLF}
 use Rattle.messages.specs.Questions.{message_questions}
 use Rattle.print.specs.Puts.{lay}
-use Rattle.rows.specs.declared.Row.{Row}
+use Rattle.rows.specs.declared.row.Row.{Row}
 use Rattle.rows.specs.Kinds.{KINDS}
 use Rattle.rows.specs.Limits.{ROWS, FILES, MESSAGES, FIELDS}
 use Rattle.rows.specs.Questions.{Question, first_no, is_process_limit}

@@ -12,7 +12,7 @@ use Rattle.csv_records.specs.Grammar.{Record, one, more}
 use Rattle.print.specs.Decimal.{decimal_of, width_of}
 use Rattle.print.proofs.Laying.{number-length}
 use Rattle.print.proofs.Parts.{number-most}
-use Rattle.rows.specs.declared.Row.{Row}
+use Rattle.rows.specs.declared.row.Row.{Row}
 use Rattle.rows.specs.Kinds.{KINDS}
 use Rattle.rows.specs.Counting.{any_below}
 use Rattle.rows.proofs.Bools.{and_out}

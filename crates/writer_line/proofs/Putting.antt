@@ -6,7 +6,7 @@ use Rattle.print.specs.Decimal.{decimal_of, width_of}
 use Rattle.print.specs.Puts.{lay, put_in, put_end}
 use Rattle.print.proofs.Laying.{number-length, put-lay}
 use Rattle.print.proofs.Parts.{Laid, put-laid, laid-length, then}
-use Rattle.rows.specs.declared.Row.{Row}
+use Rattle.rows.specs.declared.row.Row.{Row}
 use Rattle.rows.specs.Kinds.{KINDS}
 use Rattle.trace_numbers.specs.declared.Used.{Used}
 use Rattle.trace_fields.specs.Rows.{kind_words, used_by}

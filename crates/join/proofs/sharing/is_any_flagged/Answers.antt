@@ -1,7 +1,7 @@
 -- `join::sharing::is_any_flagged` meets its contract.
 use Rattle.std.proofs.Common.{arith, ap, ◌∙◌, false}
 use lib.ListN.{get_or}
-use Rattle.rows.specs.declared.Row.{Row}
+use Rattle.rows.specs.declared.row.Row.{Row}
 use Rattle.rows.proofs.Searching.{search_none, search_on, search_found}
 use Rattle.join.proofs.sharing.is_any_flagged.Goals as goal
 
