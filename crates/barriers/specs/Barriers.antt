@@ -1,6 +1,6 @@
 -- Question 22, as document 02 says it: whether a process repeats a barrier number, goes on before all have arrived, or the trace ends with a
 -- barrier unfinished. All are the processes that have a row anywhere in the trace.
-use Rattle.std.specs.Prelude.{ℕ, suc, Bool, cond, not, ◌&&◌, ◌||◌, List, [], ◌∷◌, ◌++◌, length, eqb}
+use Rattle.std.specs.Prelude.{ℕ, suc, ◌≡◌, ◌<◌, Option, MatchOption, Bool, cond, not, ◌&&◌, ◌||◌, List, [], ◌∷◌, ◌++◌, length, eqb}
 use Rattle.rows.specs.declared.row.Row.{Row}
 use Rattle.rows.specs.Kinds.{BARRIER}
 use Rattle.rows.specs.Tests.{any, carries_by}
@@ -42,3 +42,7 @@ unfinished rows = any (λ r. is_barrier r && not (all_arrived r.message rows row
 -- the answer is Yes.
 unfoldable pub barrier_place : List Row → ℕ
 barrier_place rows = cond (eqb (first_out rows [] rows) 0) (cond (unfinished rows) (length rows) 0) (first_out rows [] rows)
+
+-- The place of a No, as an answer: none where there is no No, whose place as a number is 0.
+abbrev pub AtPlace : ℕ → Option ℕ → Type 0
+AtPlace place answer = MatchOption answer (place ≡ 0) (λ at. (at ≡ place) × (0 < at))

@@ -22,20 +22,17 @@ fn set_flag(flags: &mut [bool], process: u32)
 pub fn flag_at(flags: &[bool], process: u32) -> bool
     ensures { result ≡ get_or flags.now process false }
 {
-    let p = process as usize;
-    if p < flags.len() { flags[p] } else { false }
+    flags.get(process as usize).copied().unwrap_or(false)
 }
 
 // Answers the flags with those of the processes of the first n rows set.
+#[tactic(auto, unfolding(crate::specs::Participants::flagged))]
 pub fn flag_processes(before: [bool; FLAGS], rows: &[u32], n: usize) -> [bool; FLAGS]
     ensures { result ≡ flagged before (rows_in n rows.now) }
 {
     let mut flags = before;
-    let mut k = 0;
-    while k < n {
-        let row = rows::row_at(rows, k);
+    for row in rows::first_rows(rows, n) {
         set_flag(&mut flags, row.process);
-        k += 1;
     }
     flags
 }
@@ -44,13 +41,5 @@ pub fn flag_processes(before: [bool; FLAGS], rows: &[u32], n: usize) -> [bool; F
 pub fn count_flags(flags: [bool; FLAGS]) -> u32
     ensures { result ≡ count_below PROCESSES (λ p. get_or flags p false) }
 {
-    let mut count = 0;
-    let mut p: u32 = 0;
-    while p < rows::PROCESSES {
-        if flag_at(&flags, p) {
-            count += 1;
-        }
-        p += 1;
-    }
-    count
+    flags.iter().filter(|flag| **flag).count() as u32
 }

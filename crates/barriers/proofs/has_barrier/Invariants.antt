@@ -1,13 +1,13 @@
 -- `barriers::has_barrier` meets its contract.
-use Rattle.std.proofs.Common.{◌≡◌, ◌-◌, ◌≤◌, false}
+use Rattle.std.proofs.Common.{◌≡◌}
+use Rattle.rows.specs.First.{rest}
 use Rattle.rows.specs.Rows.{rows_in}
 use Rattle.rows.specs.Tests.{any}
 use Rattle.barriers.specs.Barriers.{is_barrier}
 use Rattle.barriers.proofs.has_barrier.Given as goal
 
--- None of the first k rows is of a barrier.
-abbrev pub invariant-loop-k : goal.invariant-loop-k
-invariant-loop-k l = (any is_barrier (rows_in l.k l.rows) ≡ false) × (l.k ≤ l.n)
-
-abbrev pub decreases-loop-k : goal.decreases-loop-k
-decreases-loop-k l = l.n - l.k
+-- One of the rows that are left is of a barrier where one of all rows is.
+abbrev pub invariant-loop-row : goal.invariant-loop-row
+invariant-loop-row l =
+    (goal.iterator-loop-row).can_next l.row-iterator × (goal.iterator-loop-row).is_finite l.row-iterator
+    × (any is_barrier (rest l.row-iterator) ≡ any is_barrier (rows_in l.fn.n l.fn.rows))
