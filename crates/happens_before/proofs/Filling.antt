@@ -9,7 +9,6 @@ use Rattle.rows.specs.Rows.{rows_in, row_at, row_in}
 use Rattle.rows.specs.Counting.{values, blocks, last_below}
 use Rattle.happens_before.specs.Order.{delivers, same_barrier, last_of, last_before, passes, crosses, count, counts_of}
 use Rattle.happens_before.specs.Clock.{from_last, joined_to, clock, cell_in, with_counts, filled_row}
-use Rattle.happens_before.specs.Tables.{Tables}
 use Rattle.happens_before.proofs.Cells.{values_length, values-at, values_same}
 use Rattle.happens_before.proofs.Joins.{last-low, joined_same}
 use Rattle.happens_before.proofs.Clocks.{count_most, vector_clock}
@@ -100,12 +99,10 @@ module _ (n P L : ℕ) (xs : List ℕ) where
   abbrev pub filled_to : ℕ → List ℕ
   filled_to j = rows_of P counted j ++ replicate (L - j * P) 0
 
-  -- After j rows: their counts are filled, the rest of the slice is 0, and the tables tell of those rows.
-  pub record Passed (counts lasts heads earlier : List ℕ) (j : ℕ) : Type 0 where
-    pub low : j ≤ n
+  -- After j rows: their counts are filled, and the rest of the slice is 0.
+  pub record Passed (counts : List ℕ) (j : ℕ) : Type 0 where
     pub size : length counts ≡ L
     pub filled : counts ≡ filled_to j
-    pub tables : Tables xs j lasts heads earlier
 
   module _ (j : ℕ) (h : j < n) where
     abbrev rows : List Row

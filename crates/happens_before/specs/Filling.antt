@@ -1,12 +1,10 @@
--- What filling the counts asks, answers and leaves. Question 1 is the one put to a trace, with the number of rows for the row limit.
+-- What filling the counts asks and leaves. Question 1 is the one put to a trace, with the number of rows for the row limit.
 use Rattle.std.specs.Prelude.{ℕ, zero, suc, ◌*◌, ◌-◌, Bool, true, cond, ◌&&◌, List, [], ◌∷◌, ◌++◌, length, replicate, leb, ltb, eqb}
 use Rattle.rows.specs.Limits.{ROWS}
 use Rattle.rows.specs.Refusals.{SHORT_SLICE, LIMITS, RANGE}
 use Rattle.rows.specs.Rows.{rows_in, row_in}
 use Rattle.rows.specs.Questions.{long_enough, is_process_limit, Question}
 use Rattle.happens_before.specs.Order.{counts_of}
-use Rattle.happens_before.specs.declared.Filled.{Filled}
-use Rattle.happens_before.specs.declared.Filled.TheVariants.{Done, Refused}
 
 -- 2. Are there at most 4,096 rows, and is the process limit within its range?
 abbrev pub count_limits : ℕ → ℕ → Bool
@@ -22,10 +20,6 @@ unfoldable pub fill_questions : ℕ → ℕ → List ℕ → ℕ → List Questi
 fill_questions n processLimit xs countsLength =
     record { number = SHORT_SLICE; yes = long_enough n processLimit (length xs) countsLength }
     ∷ (record { number = LIMITS; yes = count_limits n processLimit } ∷ (record { number = RANGE; yes = processes_in n processLimit xs } ∷ []))
-
--- Done, or refused with the first No.
-abbrev pub filled_of : ℕ → Filled
-filled_of first = cond (eqb first 0) Done (Refused first)
 
 -- The counts of the first n rows, then 0 to the end; the slice as it was where there is a No.
 abbrev pub filled_left : ℕ → ℕ → ℕ → List ℕ → List ℕ → List ℕ

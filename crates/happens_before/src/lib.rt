@@ -4,66 +4,57 @@
 
 ghost use Rattle.std.specs.Prelude.{◌≡◌, ℕ, max, ◌+◌, ◌*◌, ◌-◌, ◌<◌, ◌≤◌, length};
 ghost use Rattle.rows.specs.Questions.{long_enough, first_no};
+ghost use Rattle.rows.specs.Refusals.{Asks};
 ghost use Rattle.happens_before.specs.Clock.{alike, pairs, cell_in, with_counts, joined_row, joined_last, joined_pairs, joined_sends, joined_barrier, with_own, filled_row};
 ghost use Rattle.rows.specs.Rows.{row_in};
-ghost use Rattle.happens_before.specs.Filling.{processes_in, fill_questions, filled_of, filled_left};
-ghost use Rattle.happens_before.specs.Tables.{chain_of, chained, Chains, Tables};
+ghost use Rattle.happens_before.specs.Filling.{processes_in, fill_questions, filled_left};
+ghost use Rattle.happens_before.specs.Tables.{chain_of, chained, Tables};
 ghost use Rattle.rows.specs.Limits.{ROWS, PROCESSES, FIELDS};
 
-use rows::refusal;
+use rows::refusal::Refusal;
 
 // How many chains there are. The chain of a message or a barrier is its number's remainder by this number, so any number has one.
 const CHAINS: usize = 4096;
 
-// The counts were filled, or the number of the question that was answered No.
-#[derive(Clone, Copy)]
-pub enum Filled {
-    Done,
-    Refused(u32),
-}
-
 // Fills the counts of the first n rows, each for the processes below the limit, and clears what lies behind them. A refusal changes nothing:
 // 1 for a slice that is too short, 2 for a limit out of its range, 10 for a row whose process is not below the process limit.
-pub fn fill_counts(rows: &[u32], n: u32, process_limit: u32, counts: &mut [u16]) -> Filled
-    ensures answer { result ≡ filled_of (first_no (fill_questions n process_limit rows.now (length counts.old))) }
+pub fn fill_counts(
+    rows: &[u32],
+    n: u32,
+    process_limit: u32,
+    counts: &mut [u16],
+) -> Result<(), Refusal>
+    ensures answer { Asks (first_no (fill_questions n process_limit rows.now (length counts.old))) result }
     ensures left { counts.new ≡ filled_left (first_no (fill_questions n process_limit rows.now (length counts.old))) n process_limit rows.now counts.old }
 {
-    let no = ask_rows(rows, n, process_limit, counts.len());
-    if no != 0 {
-        return Filled::Refused(no);
+    ask_rows(rows, n, process_limit, counts.len())?;
+    counts.fill(0);
+    let mut pass = Pass::new(rows, process_limit as usize);
+    for _ in 0..n {
+        pass.fill_row(counts);
+        pass.note_row();
     }
-    rows::clear_counts(counts);
-    let total = n as usize;
-    let processes = process_limit as usize;
-    let mut lasts = [0u16; rows::PROCESSES as usize];
-    let mut heads = [0u16; CHAINS];
-    let mut earlier = [0u16; rows::ROWS as usize];
-    let mut j = 0;
-    while j < total {
-        fill_row(rows, j, processes, counts, &lasts, &heads, &earlier);
-        note_row(rows, j, &mut lasts, &mut heads, &mut earlier);
-        j += 1;
-    }
-    Filled::Done
+    Ok(())
 }
 
-// Asks the questions 1, 2 and 10 and answers the number of the first No, and 0 where there is none.
-fn ask_rows(rows: &[u32], n: u32, process_limit: u32, counts_len: usize) -> u32
-    ensures { result ≡ first_no (fill_questions n process_limit rows.now counts_len) }
+// Asks the questions 1, 2 and 10.
+#[tactic(auto, unfolding(rows::specs::Questions::first_no, crate::specs::Filling::fill_questions))]
+fn ask_rows(rows: &[u32], n: u32, process_limit: u32, counts_len: usize) -> Result<(), Refusal>
+    ensures { Asks (first_no (fill_questions n process_limit rows.now counts_len)) result }
 {
     if !slices_fit(n, process_limit, rows.len(), counts_len) {
-        return refusal::SHORT_SLICE;
+        return Err(Refusal::ShortSlice);
     }
     if rows::ROWS < n {
-        return refusal::LIMITS;
+        return Err(Refusal::Limits);
     }
     if !rows::is_process_limit(process_limit) {
-        return refusal::LIMITS;
+        return Err(Refusal::Limits);
     }
     if !processes_in(rows, n as usize, process_limit) {
-        return refusal::RANGE;
+        return Err(Refusal::Range);
     }
-    0
+    Ok(())
 }
 
 // Question 1: both slices are long enough for n rows.
@@ -77,60 +68,17 @@ pub fn slices_fit(n: u32, process_limit: u32, rows_len: usize, counts_len: usize
 }
 
 // Question 10: every process of the first n rows is below the limit.
+#[tactic(auto, unfolding(crate::specs::Filling::processes_in))]
 fn processes_in(rows: &[u32], n: usize, process_limit: u32) -> bool
     requires { n * FIELDS ≤ length rows.now }
     ensures { result ≡ processes_in n process_limit rows.now }
 {
-    let mut i = n;
-    while 0 < i {
-        i -= 1;
-        let at = i * rows::FIELDS;
-        if process_limit <= rows[at] {
+    for i in 0..n {
+        if process_limit <= rows[i * rows::FIELDS] {
             return false;
         }
     }
     true
-}
-
-// Fills the counts of row j, which are 0, from the counts of the rows before row j, of which the tables tell.
-fn fill_row(
-    rows: &[u32],
-    j: usize,
-    processes: usize,
-    counts: &mut [u16],
-    lasts: &[u16],
-    heads: &[u16],
-    earlier: &[u16],
-)
-    requires row_inside { (j * FIELDS + FIELDS ≤ length rows.now) × (processes ≤ PROCESSES) × (j * processes + processes ≤ length counts.old) × ((row_in rows.now j).process < processes) }
-    requires zero_row { (p : ℕ) → p < processes → cell_in processes counts.old j p ≡ 0 }
-    requires small_counts { (k : ℕ) → (p : ℕ) → k < j → p < processes → cell_in processes counts.old k p ≤ ROWS }
-    requires tables { Tables rows.now j lasts.now heads.now earlier.now }
-    ensures { counts.new ≡ with_counts processes counts.old j (filled_row processes rows.now counts.old j) }
-{
-    let at = j * rows::FIELDS;
-    let process = rows[at];
-    let last = lasts[process as usize] as usize;
-    join_last(counts, last, j, processes);
-    join_sends(rows, j, processes, counts, heads, earlier);
-    join_barrier(rows, last, j, processes, counts, heads, earlier);
-    add_own(counts, j, processes, process);
-}
-
-// Notes row j in the tables: as the last row of its process and, if it is a send or a barrier row, as the head of its number's chain.
-fn note_row(rows: &[u32], j: usize, lasts: &mut [u16], heads: &mut [u16], earlier: &mut [u16])
-    requires row_inside { (j * FIELDS + FIELDS ≤ length rows.now) × (j < ROWS) × ((row_in rows.now j).process < PROCESSES) }
-    requires tables { Tables rows.now j lasts.old heads.old earlier.old }
-    ensures { Tables rows.now (j + 1) lasts.new heads.new earlier.new }
-{
-    let at = j * rows::FIELDS;
-    let next = j as u16 + 1;
-    lasts[rows[at] as usize] = next;
-    if is_chained(rows[at + rows::KIND_AT]) {
-        let chain = chain_of(rows[at + rows::MESSAGE_AT]);
-        earlier[j] = heads[chain];
-        heads[chain] = next;
-    }
 }
 
 // Answers the chain of a number in the message field.
@@ -140,11 +88,178 @@ fn chain_of(message: u32) -> usize
     message as usize % CHAINS
 }
 
-// Rows of this kind stand in chains: sends and barrier rows.
+// Rows of this kind stand in chains: sends and barrier rows. A kind is compared as the number that the row has: making a `Kind` of it first is no
+// plainer.
 fn is_chained(kind: u32) -> bool
     ensures { result ≡ chained kind }
 {
     kind == rows::SEND || kind == rows::BARRIER
+}
+
+// A pass over the rows: the row that it has come to, and the tables of the rows before, by which they are found. A table names a row by its index
+// plus one, and 0 stands for none: 16 bits an entry keep the tables small.
+#[derive(Drop)]
+struct Pass<'a> {
+    rows: &'a [u32],
+    processes: usize,
+    row: usize,
+    // The last row of each process.
+    lasts: [u16; rows::PROCESSES as usize],
+    // The last row of each chain.
+    heads: [u16; CHAINS],
+    // For each row of a chain, the one before it in the chain.
+    earlier: [u16; rows::ROWS as usize],
+    ghost few: { processes ≤ PROCESSES },
+    ghost tables: { Tables rows.now row lasts heads earlier },
+}
+
+impl<'a> Pass<'a> {
+    // Before the first row.
+    fn new(rows: &'a [u32], processes: usize) -> Self
+        requires { processes ≤ PROCESSES }
+        ensures same_rows { result.rows.now ≡ rows.now }
+        ensures same_processes { result.processes ≡ processes }
+        ensures first { result.row ≡ 0 }
+    {
+        Pass {
+            rows,
+            processes,
+            row: 0,
+            lasts: [0; rows::PROCESSES as usize],
+            heads: [0; CHAINS],
+            earlier: [0; rows::ROWS as usize],
+        }
+    }
+
+    // Fills the counts of the row, which are 0, from the counts of the rows before, of which the tables tell. Numbers of a row are read where they lie:
+    // `rows::row_at` reads all six, and takes 1.8 times as long.
+    fn fill_row(&self, counts: &mut [u16])
+        requires row_inside { self.now.row * FIELDS + FIELDS ≤ length self.now.rows.now }
+        requires counts_inside { self.now.row * self.now.processes + self.now.processes ≤ length counts.old }
+        requires process_below { (row_in self.now.rows.now self.now.row).process < self.now.processes }
+        requires zero_row { (p : ℕ) → p < self.now.processes → cell_in self.now.processes counts.old self.now.row p ≡ 0 }
+        requires small_counts { (k : ℕ) → (p : ℕ) → k < self.now.row → p < self.now.processes → cell_in self.now.processes counts.old k p ≤ ROWS }
+        ensures { counts.new ≡ with_counts self.now.processes counts.old self.now.row (filled_row self.now.processes self.now.rows.now counts.old self.now.row) }
+    {
+        let rows = self.rows;
+        let process = rows[self.row * rows::FIELDS];
+        let last = self.lasts[process as usize] as usize;
+        self.join_last(counts, last);
+        self.join_sends(counts);
+        self.join_barrier(counts, last);
+        self.add_own(counts, process);
+    }
+
+    // Notes the row in the tables, as the last row of its process and, if it is a send or a barrier row, as the head of its number's chain, and goes
+    // on to the next.
+    fn note_row(&mut self)
+        requires row_inside { self.old.row * FIELDS + FIELDS ≤ length self.old.rows.now }
+        requires few { self.old.row < ROWS }
+        requires process_below { (row_in self.old.rows.now self.old.row).process < PROCESSES }
+        ensures same_rows { self.new.rows ≡ self.old.rows }
+        ensures same_processes { self.new.processes ≡ self.old.processes }
+        ensures next { self.new.row ≡ self.old.row + 1 }
+    {
+        let rows = self.rows;
+        let row = self.row;
+        let at = row * rows::FIELDS;
+        let next = row as u16 + 1;
+        self.row = row + 1;
+        self.lasts[rows[at] as usize] = next;
+        if is_chained(rows[at + rows::KIND_AT]) {
+            let chain = chain_of(rows[at + rows::MESSAGE_AT]);
+            self.earlier[row] = self.heads[chain];
+            self.heads[chain] = next;
+        }
+    }
+
+    // Joins the counts of every row before the row that belongs together with row t into the row's counts: the chain of row t's number leads from row
+    // to earlier row.
+    fn join_pairs(&self, counts: &mut [u16], t: usize)
+        requires turn { t ≤ self.now.row }
+        requires row_inside { self.now.row * FIELDS + FIELDS ≤ length self.now.rows.now }
+        requires counts_inside { self.now.row * self.now.processes + self.now.processes ≤ length counts.old }
+        ensures { counts.new ≡ with_counts self.now.processes counts.old self.now.row (joined_pairs self.now.processes self.now.rows.now counts.old self.now.row t) }
+    {
+        let rows = self.rows;
+        let chain = chain_of(rows[t * rows::FIELDS + rows::MESSAGE_AT]);
+        let mut next = self.heads[chain] as usize;
+        // The chain's links say where to go on, so there is nothing that a `for` could count.
+        while 0 < next {
+            let k = next - 1;
+            if belong(rows, k, t) {
+                self.join(counts, k);
+            }
+            next = self.earlier[k] as usize;
+        }
+    }
+
+    // Joins the counts of every send whose message arrives at the row into the row's counts.
+    fn join_sends(&self, counts: &mut [u16])
+        requires row_inside { self.now.row * FIELDS + FIELDS ≤ length self.now.rows.now }
+        requires counts_inside { self.now.row * self.now.processes + self.now.processes ≤ length counts.old }
+        ensures { counts.new ≡ with_counts self.now.processes counts.old self.now.row (joined_sends self.now.processes self.now.rows.now counts.old self.now.row) }
+    {
+        let rows = self.rows;
+        let at = self.row * rows::FIELDS;
+        if rows[at + rows::KIND_AT] == rows::ARRIVAL {
+            self.join_pairs(counts, self.row);
+        }
+    }
+
+    // Joins the counts of every row of the barrier that row `last` - 1 is of into the row's counts. Nothing changes where `last` is 0 or names a row
+    // that is of no barrier.
+    fn join_barrier(&self, counts: &mut [u16], last: usize)
+        requires before { last ≤ self.now.row }
+        requires row_inside { self.now.row * FIELDS + FIELDS ≤ length self.now.rows.now }
+        requires counts_inside { self.now.row * self.now.processes + self.now.processes ≤ length counts.old }
+        ensures { counts.new ≡ with_counts self.now.processes counts.old self.now.row (joined_barrier self.now.processes self.now.rows.now counts.old self.now.row last) }
+    {
+        if last == 0 {
+            return;
+        }
+        let rows = self.rows;
+        let at = (last - 1) * rows::FIELDS;
+        if rows[at + rows::KIND_AT] != rows::BARRIER {
+            return;
+        }
+        self.join_pairs(counts, last - 1);
+    }
+
+    // Joins the counts of row `last` - 1 into the row's counts. Nothing changes where `last` is 0.
+    fn join_last(&self, counts: &mut [u16], last: usize)
+        requires before { last ≤ self.now.row }
+        requires counts_inside { self.now.row * self.now.processes + self.now.processes ≤ length counts.old }
+        ensures { counts.new ≡ with_counts self.now.processes counts.old self.now.row (joined_last self.now.processes counts.old self.now.row last) }
+    {
+        if 0 < last {
+            self.join(counts, last - 1);
+        }
+    }
+
+    // Joins the counts of row k into the row's counts.
+    fn join(&self, counts: &mut [u16], k: usize)
+        requires before { k < self.now.row }
+        requires counts_inside { self.now.row * self.now.processes + self.now.processes ≤ length counts.old }
+        ensures { counts.new ≡ with_counts self.now.processes counts.old self.now.row (joined_row self.now.processes counts.old self.now.row k) }
+    {
+        let from = k * self.processes;
+        let to = self.row * self.processes;
+        // By index: a `zip` of two parts takes 1.15 times as long, and its proof loses the elements.
+        for p in 0..self.processes {
+            counts[to + p] = counts[to + p].max(counts[from + p]);
+        }
+    }
+
+    // Counts the row itself, which is of this process.
+    fn add_own(&self, counts: &mut [u16], process: u32)
+        requires process_below { process < self.now.processes }
+        requires counts_inside { self.now.row * self.now.processes + self.now.processes ≤ length counts.old }
+        requires small { cell_in self.now.processes counts.old self.now.row process ≤ ROWS }
+        ensures { counts.new ≡ with_counts self.now.processes counts.old self.now.row (with_own process (λ p. cell_in self.now.processes counts.old self.now.row p)) }
+    {
+        counts[self.row * self.processes + process as usize] += 1;
+    }
 }
 
 // Row k is of the first kind, row t of the second, and both have one number in the message field.
@@ -172,116 +287,4 @@ fn belong(rows: &[u32], k: usize, t: usize) -> bool
         return true;
     }
     are_alike(rows, k, t, rows::BARRIER, rows::BARRIER)
-}
-
-// The larger of two counts.
-fn larger(a: u16, b: u16) -> u16
-    ensures { result ≡ max a b }
-{
-    if a < b { b } else { a }
-}
-
-// Joins the counts of row k into those of row j.
-fn join(counts: &mut [u16], k: usize, j: usize, processes: usize)
-    requires { (k < j) × (processes ≤ PROCESSES) × (j * processes + processes ≤ length counts.old) }
-    ensures { counts.new ≡ with_counts processes counts.old j (joined_row processes counts.old j k) }
-{
-    let from = k * processes;
-    let to = j * processes;
-    let mut p = 0;
-    while p < processes {
-        counts[to + p] = larger(counts[to + p], counts[from + p]);
-        p += 1;
-    }
-}
-
-// Joins the counts of row `last` - 1 into those of row j. Nothing changes where `last` is 0.
-fn join_last(counts: &mut [u16], last: usize, j: usize, processes: usize)
-    requires { (last ≤ j) × (processes ≤ PROCESSES) × (j * processes + processes ≤ length counts.old) }
-    ensures { counts.new ≡ with_counts processes counts.old j (joined_last processes counts.old j last) }
-{
-    if 0 < last {
-        join(counts, last - 1, j, processes);
-    }
-}
-
-// Joins the counts of every row before row j that belongs together with row t into those of row j: the chain of row t's number leads from row to
-// earlier row.
-fn join_pairs(
-    rows: &[u32],
-    t: usize,
-    j: usize,
-    processes: usize,
-    counts: &mut [u16],
-    heads: &[u16],
-    earlier: &[u16],
-)
-    requires turn_inside { (t ≤ j) × (j * FIELDS + FIELDS ≤ length rows.now) × (processes ≤ PROCESSES) × (j * processes + processes ≤ length counts.old) }
-    requires chains { Chains rows.now j heads.now earlier.now }
-    ensures { counts.new ≡ with_counts processes counts.old j (joined_pairs processes rows.now counts.old j t) }
-{
-    let at = t * rows::FIELDS;
-    let chain = chain_of(rows[at + rows::MESSAGE_AT]);
-    let mut next = heads[chain] as usize;
-    while 0 < next {
-        let k = next - 1;
-        if belong(rows, k, t) {
-            join(counts, k, j, processes);
-        }
-        next = earlier[k] as usize;
-    }
-}
-
-// Joins the counts of every send whose message arrives at row j into those of row j.
-fn join_sends(
-    rows: &[u32],
-    j: usize,
-    processes: usize,
-    counts: &mut [u16],
-    heads: &[u16],
-    earlier: &[u16],
-)
-    requires row_inside { (j * FIELDS + FIELDS ≤ length rows.now) × (processes ≤ PROCESSES) × (j * processes + processes ≤ length counts.old) }
-    requires chains { Chains rows.now j heads.now earlier.now }
-    ensures { counts.new ≡ with_counts processes counts.old j (joined_sends processes rows.now counts.old j) }
-{
-    let at = j * rows::FIELDS;
-    if rows[at + rows::KIND_AT] != rows::ARRIVAL {
-        return;
-    }
-    join_pairs(rows, j, j, processes, counts, heads, earlier);
-}
-
-// Joins the counts of every row of the barrier that row `last` - 1 is of into those of row j. Nothing changes where `last` is 0 or names a row
-// that is of no barrier.
-fn join_barrier(
-    rows: &[u32],
-    last: usize,
-    j: usize,
-    processes: usize,
-    counts: &mut [u16],
-    heads: &[u16],
-    earlier: &[u16],
-)
-    requires barrier_inside { (last ≤ j) × (j * FIELDS + FIELDS ≤ length rows.now) × (processes ≤ PROCESSES) × (j * processes + processes ≤ length counts.old) }
-    requires chains { Chains rows.now j heads.now earlier.now }
-    ensures { counts.new ≡ with_counts processes counts.old j (joined_barrier processes rows.now counts.old j last) }
-{
-    if last == 0 {
-        return;
-    }
-    let at = (last - 1) * rows::FIELDS;
-    if rows[at + rows::KIND_AT] != rows::BARRIER {
-        return;
-    }
-    join_pairs(rows, last - 1, j, processes, counts, heads, earlier);
-}
-
-// Counts row j itself.
-fn add_own(counts: &mut [u16], j: usize, processes: usize, process: u32)
-    requires { (processes ≤ PROCESSES) × (j * processes + processes ≤ length counts.old) × (process < processes) × (cell_in processes counts.old j process ≤ ROWS) }
-    ensures { counts.new ≡ with_counts processes counts.old j (with_own process (λ p. cell_in processes counts.old j p)) }
-{
-    let at = j * processes + process as usize;
-    counts[at] += 1;
 }

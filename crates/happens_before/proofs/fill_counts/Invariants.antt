@@ -1,11 +1,13 @@
 -- `happens_before::fill_counts` meets its contract.
-use Rattle.std.proofs.Common.{◌-◌, ◌≡◌, length}
+use Rattle.std.proofs.Common.{◌≡◌, length}
 use Rattle.happens_before.proofs.Filling.{Passed}
 use Rattle.happens_before.proofs.fill_counts.Given as goal
 
--- The counts of the rows before row j are filled, the rest of the slice is 0, and the tables tell of those rows.
-abbrev pub invariant-loop-j : goal.invariant-loop-j
-invariant-loop-j l = (l.total ≡ l.n) × (l.processes ≡ l.process_limit) × Passed l.n l.process_limit (length l.initial.counts) l.rows l.counts l.lasts l.heads l.earlier l.j
-
-abbrev pub decreases-loop-j : goal.decreases-loop-j
-decreases-loop-j l = l.total - l.j
+-- The counts of the rows before the pass's row are filled, and the rest of the slice is 0.
+abbrev pub invariant-loop : goal.invariant-loop
+invariant-loop l = record {
+  at_row : l.pass.row ≡ l.counter;
+  same_rows : l.pass.rows.now ≡ l.rows;
+  same_processes : l.pass.processes ≡ l.process_limit;
+  passed : Passed l.n l.process_limit (length l.fn.counts) l.rows l.counts l.counter;
+}
