@@ -1,80 +1,86 @@
--- The table in the code has the entry of specs/Table.antt for every model and kind, by one computed test.
-use Rattle.std.proofs.Common.{ℕ, ◌+◌, ◌*◌, ◌/◌, ◌%◌, ◌≤◌, ◌<◌, arith, ◌≡◌, refl, sym, ap, ◌∙◌, Bool, true, false, cond, List, [], ◌∷◌, eq-eqb, ne_eqb, eqb-true}
+-- The table in the code says for every model and kind what specs/Table.antt says, by one computed test.
+use Rattle.std.proofs.Common.{ℕ, ◌*◌, ◌/◌, ◌%◌, ◌+◌, ◌≤◌, ◌<◌, arith, ◌≡◌, refl, sym, ap, ◌∙◌, ◌∷◌, ◌⊎◌, inl, inr, Bool, true, false, not, List, [], slice_index_or, eq-eqb, ne_eqb}
 use native.Mathlib.Decide.{ℕ_discrete}
 use mathlib.Core.Bool.{and-false, false≢true}
-use lib.ListN.{get_or}
-use lib.Dec.{eqb, leb}
 use Rattle.rows.specs.Limits.{MODELS}
-use Rattle.rows.specs.Kinds.{KINDS, READ, WRITE}
 use Rattle.rows.specs.Counting.{any_below}
 use Rattle.rows.proofs.Below.{each-passes}
+use Rattle.models.specs.declared.Marks.{Marks}
+use Rattle.rows.specs.Kinds.{READ, WRITE, KINDS}
 use Rattle.models.specs.Models.{POSIX}
-use Rattle.models.specs.Table.{publishes, refreshes, table_entry, ENTRY_NONE, ENTRY_PUBLISH, ENTRY_REFRESH, ENTRY_BOTH}
+use Rattle.models.specs.Table.{publishes, refreshes}
+
+-- ---- The table of the code
+
+-- The entries of the table, by whether a row publishes and whether it refreshes.
+abbrev pub marks : Bool → Bool → Marks
+marks publishes refreshes = record { publishes = publishes; refreshes = refreshes }
+
+abbrev pub N : Marks
+N = marks false false
+
+abbrev pub P : Marks
+P = marks true false
+
+abbrev pub R : Marks
+R = marks false true
+
+abbrev pub B : Marks
+B = marks true true
 
 -- The table as the code has it, models by kinds.
-abbrev pub table : List ℕ
+abbrev pub table : List (List Marks)
 table =
-    2 ∷ 1 ∷ 0 ∷ 0 ∷ 0 ∷ 0 ∷ 0 ∷ 0 ∷ 0 ∷ 0  -- POSIX
-    ∷ 2 ∷ 0 ∷ 1 ∷ 0 ∷ 0 ∷ 0 ∷ 0 ∷ 0 ∷ 0 ∷ 0  -- commit
-    ∷ 0 ∷ 0 ∷ 0 ∷ 2 ∷ 1 ∷ 0 ∷ 0 ∷ 0 ∷ 0 ∷ 0  -- session
-    ∷ 0 ∷ 0 ∷ 0 ∷ 2 ∷ 1 ∷ 3 ∷ 0 ∷ 0 ∷ 0 ∷ 0  -- MPI-IO
+    (R ∷ P ∷ N ∷ N ∷ N ∷ N ∷ N ∷ N ∷ N ∷ N ∷ [])  -- POSIX
+    ∷ (R ∷ N ∷ P ∷ N ∷ N ∷ N ∷ N ∷ N ∷ N ∷ N ∷ [])  -- commit
+    ∷ (N ∷ N ∷ N ∷ R ∷ P ∷ N ∷ N ∷ N ∷ N ∷ N ∷ [])  -- session
+    ∷ (N ∷ N ∷ N ∷ R ∷ P ∷ B ∷ N ∷ N ∷ N ∷ N ∷ [])  -- MPI-IO
     ∷ []
 
--- The entry at a place of the table is the one of the place's model and kind.
-right : ℕ → Bool
-right k = eqb (get_or table k 0) (table_entry (k / KINDS) (k % KINDS))
+-- What a table has for a model and a kind.
+abbrev pub entry : List (List Marks) → ℕ → ℕ → Marks
+entry table model kind = slice_index_or (slice_index_or table model []) kind record { publishes = false; refreshes = false }
 
--- Within the table, the code reads the entry of the model and the kind.
-pub table-right : (model kind : ℕ) → model < MODELS → kind < KINDS → get_or table (model * KINDS + kind) 0 ≡ table_entry model kind
-unfolding any_below right publishes refreshes
-table-right model kind m k =
-    let i = model * KINDS + kind in
-    let d : i / KINDS ≡ model = omega arith in
-    let r : i % KINDS ≡ kind = omega arith in
-    let l : i < MODELS * KINDS = omega arith in
-    eqb-true (get_or table i 0) (table_entry (i / KINDS) (i % KINDS)) (each-passes (MODELS * KINDS) right refl i l) ∙ (λ j. table_entry (d j) (r j))
+-- Two answers are the same.
+unfoldable pub same : Bool → Bool → Bool
+same true b = b
+same false b = not b
 
--- A number that is no model publishes nothing and refreshes nothing.
-pub no_model : (model kind : ℕ) → MODELS ≤ model → table_entry model kind ≡ ENTRY_NONE
-unfolding publishes refreshes
-no_model model kind h =
+same-is : (a b : Bool) → same a b ≡ true → a ≡ b
+unfolding same
+same-is true b e = sym e
+same-is false true e = e
+same-is false false e = refl
+
+-- At the place of each model and kind stands what a function of both answers, where one computed test passes.
+module _ (value : Marks → Bool) (answer : ℕ → ℕ → Bool) (table : List (List Marks)) where
+  unfoldable pub right : ℕ → Bool
+  right k = same (value (entry table (k / KINDS) (k % KINDS))) (answer (k / KINDS) (k % KINDS))
+
+  pub entry-right : any_below (MODELS * KINDS) (λ k. not (right k)) ≡ false → (model kind : ℕ) → model < MODELS → kind < KINDS →
+      value (entry table model kind) ≡ answer model kind
+  unfolding right
+  entry-right test model kind m k =
+      let i = model * KINDS + kind in
+      let d : i / KINDS ≡ model = omega arith in
+      let r : i % KINDS ≡ kind = omega arith in
+      let l : i < MODELS * KINDS = omega arith in
+      (λ j. value (entry table (sym d j) (sym r j))) ∙ same-is _ _ (each-passes (MODELS * KINDS) right test i l) ∙ (λ j. answer (d j) (r j))
+
+-- A number that is no model, or no kind, neither publishes nor refreshes.
+pub no_publish : (model kind : ℕ) → (MODELS ≤ model) ⊎ (KINDS ≤ kind) → publishes model kind ≡ false
+unfolding publishes
+no_publish model kind (inl h) =
     simp (ne_eqb model 0 (λ e. omega arith), ne_eqb model 1 (λ e. omega arith), ne_eqb model 2 (λ e. omega arith), ne_eqb model 3 (λ e. omega arith))
+no_publish model kind (inr h) =
+    simp (ne_eqb kind 1 (λ e. omega arith), ne_eqb kind 2 (λ e. omega arith), ne_eqb kind 4 (λ e. omega arith), ne_eqb kind 5 (λ e. omega arith), and-false)
 
--- A number that is no kind publishes nothing and refreshes nothing.
-pub no_kind : (model kind : ℕ) → KINDS ≤ kind → table_entry model kind ≡ ENTRY_NONE
-unfolding publishes refreshes
-no_kind model kind h =
-    simp
-    (ne_eqb kind 0 (λ e. omega arith), ne_eqb kind 1 (λ e. omega arith), ne_eqb kind 2 (λ e. omega arith), ne_eqb kind 3 (λ e. omega arith), ne_eqb kind 4 (λ e. omega arith), ne_eqb kind 5 (λ e. omega arith), and-false)
-
--- A row whose entry is ENTRY-PUBLISH publishes.
-pub publish_entry : (model kind entry : ℕ) → entry ≡ table_entry model kind → entry ≡ ENTRY_PUBLISH → true ≡ publishes model kind
-publish_entry model kind entry e q = go (publishes model kind) (refreshes model kind) (sym e ∙ q)
-  where
-    go : (a b : Bool) → cond a ENTRY_PUBLISH ENTRY_NONE + cond b ENTRY_REFRESH ENTRY_NONE ≡ ENTRY_PUBLISH → true ≡ a
-    go true b f = refl
-    go false true f = absurd (omega arith)
-    go false false f = absurd (omega arith)
-
--- A row with any other entry publishes exactly where the entry is ENTRY-BOTH.
-pub both_entry : (model kind entry : ℕ) → entry ≡ table_entry model kind → (entry ≡ ENTRY_PUBLISH → ⊥) → eqb entry ENTRY_BOTH ≡ publishes model kind
-both_entry model kind entry e n = ap (λ (x : ℕ). eqb x ENTRY_BOTH) e ∙ go (publishes model kind) (refreshes model kind) (λ q. n (e ∙ q))
-  where
-    go : (a b : Bool) → (cond a ENTRY_PUBLISH ENTRY_NONE + cond b ENTRY_REFRESH ENTRY_NONE ≡ ENTRY_PUBLISH → ⊥) → eqb (cond a ENTRY_PUBLISH ENTRY_NONE + cond b ENTRY_REFRESH ENTRY_NONE) ENTRY_BOTH ≡ a
-    go true true f = refl
-    go true false f = absurd (f refl)
-    go false true f = refl
-    go false false f = refl
-
--- A row refreshes where its entry is ENTRY-REFRESH or more.
-pub refresh_entry : (model kind entry : ℕ) → entry ≡ table_entry model kind → leb ENTRY_REFRESH entry ≡ refreshes model kind
-refresh_entry model kind entry e = ap (leb ENTRY_REFRESH) e ∙ go (publishes model kind) (refreshes model kind)
-  where
-    go : (a b : Bool) → leb ENTRY_REFRESH (cond a ENTRY_PUBLISH ENTRY_NONE + cond b ENTRY_REFRESH ENTRY_NONE) ≡ b
-    go true true = refl
-    go true false = refl
-    go false true = refl
-    go false false = refl
+pub no_refresh : (model kind : ℕ) → (MODELS ≤ model) ⊎ (KINDS ≤ kind) → refreshes model kind ≡ false
+unfolding refreshes
+no_refresh model kind (inl h) =
+    simp (ne_eqb model 0 (λ e. omega arith), ne_eqb model 1 (λ e. omega arith), ne_eqb model 2 (λ e. omega arith), ne_eqb model 3 (λ e. omega arith))
+no_refresh model kind (inr h) =
+    simp (ne_eqb kind 0 (λ e. omega arith), ne_eqb kind 3 (λ e. omega arith), ne_eqb kind 5 (λ e. omega arith), and-false)
 
 -- A model whose writes publish refreshes at its reads.
 pub own-refresh : (model : ℕ) → publishes model WRITE ≡ true → refreshes model READ ≡ true

@@ -1,5 +1,5 @@
 -- Which rows publish and which refresh, by model and kind.
-use Rattle.std.specs.Prelude.{ℕ, ◌+◌, Bool, cond, ◌&&◌, ◌||◌, eqb}
+use Rattle.std.specs.Prelude.{ℕ, Bool, ◌&&◌, ◌||◌, eqb}
 use Rattle.rows.specs.Kinds.{READ, WRITE, COMMIT, OPEN, CLOSE, SYNC}
 use Rattle.models.specs.Models.{POSIX, COMMIT_MODEL, SESSION, MPI_IO}
 
@@ -20,25 +20,3 @@ refreshes model kind =
     under POSIX READ model kind
     || (under COMMIT_MODEL READ model kind
     || (under SESSION OPEN model kind || (under MPI_IO OPEN model kind || under MPI_IO SYNC model kind)))
-
--- ---- The entries of the table
-
--- A row does neither.
-abbrev pub ENTRY_NONE : ℕ
-ENTRY_NONE = 0
-
--- A row publishes.
-abbrev pub ENTRY_PUBLISH : ℕ
-ENTRY_PUBLISH = 1
-
--- A row refreshes.
-abbrev pub ENTRY_REFRESH : ℕ
-ENTRY_REFRESH = 2
-
--- A row publishes and refreshes.
-abbrev pub ENTRY_BOTH : ℕ
-ENTRY_BOTH = 3
-
--- The table's entry for a row of this kind under this model: ENTRY-PUBLISH if the row publishes, plus ENTRY-REFRESH if it refreshes.
-abbrev pub table_entry : ℕ → ℕ → ℕ
-table_entry model kind = cond (publishes model kind) ENTRY_PUBLISH ENTRY_NONE + cond (refreshes model kind) ENTRY_REFRESH ENTRY_NONE

@@ -2,64 +2,103 @@
 #![tactic(auto)]
 
 ghost use Rattle.std.specs.Prelude.{◌≡◌};
-ghost use Rattle.models.specs.Table.{publishes, refreshes, table_entry};
+ghost use Rattle.models.specs.Models.{model_number};
+ghost use Rattle.models.specs.Table.{publishes, refreshes};
 
-// The entries of the table: a row of the kind does neither, publishes, refreshes, or does both.
-const NONE: u8 = 0;
+// What decides when a write becomes visible to another process.
+#[derive(Clone, Copy, Debug, PartialEq, Eq, Hash)]
+pub enum Model {
+    Posix,
+    Commit,
+    Session,
+    MpiIo,
+}
 
-const PUBLISH: u8 = 1;
+impl Model {
+    // Every model, by its number.
+    pub const ALL: [Model; MODELS] = [Model::Posix, Model::Commit, Model::Session, Model::MpiIo];
 
-const REFRESH: u8 = 2;
+    // The number that stands for the model in a call.
+    pub fn number(self) -> u32
+        ensures { result ≡ model_number self }
+    {
+        self as u32
+    }
+}
 
-const BOTH: u8 = 3;
+// What a row does besides reading or writing.
+#[derive(Clone, Copy, Debug, PartialEq, Eq, Hash)]
+struct Marks {
+    publishes: bool,
+    refreshes: bool,
+}
 
-// One column for each kind.
-const COLUMNS: usize = rows::KINDS as usize;
+const NEITHER: Marks = Marks {
+    publishes: false,
+    refreshes: false,
+};
 
-// One entry for each model and each kind.
-const ENTRIES: usize = rows::MODELS as usize * COLUMNS;
+const PUBLISH: Marks = Marks {
+    publishes: true,
+    refreshes: false,
+};
+
+const REFRESH: Marks = Marks {
+    publishes: false,
+    refreshes: true,
+};
+
+const BOTH: Marks = Marks {
+    publishes: true,
+    refreshes: true,
+};
+
+const MODELS: usize = rows::MODELS as usize;
+
+const KINDS: usize = rows::KINDS as usize;
 
 // Models by kinds: read, write, commit, open, close, sync, send, recv, wait, barrier.
-const TABLE: [u8; ENTRIES] = [
+const TABLE: [[Marks; KINDS]; MODELS] = [
     // POSIX
-    REFRESH, PUBLISH, NONE, NONE, NONE, NONE, NONE, NONE, NONE, NONE,
+    [
+        REFRESH, PUBLISH, NEITHER, NEITHER, NEITHER, NEITHER, NEITHER, NEITHER, NEITHER, NEITHER,
+    ],
     // commit
-    REFRESH, NONE, PUBLISH, NONE, NONE, NONE, NONE, NONE, NONE, NONE,
+    [
+        REFRESH, NEITHER, PUBLISH, NEITHER, NEITHER, NEITHER, NEITHER, NEITHER, NEITHER, NEITHER,
+    ],
     // session
-    NONE, NONE, NONE, REFRESH, PUBLISH, NONE, NONE, NONE, NONE, NONE,
+    [
+        NEITHER, NEITHER, NEITHER, REFRESH, PUBLISH, NEITHER, NEITHER, NEITHER, NEITHER, NEITHER,
+    ],
     // MPI-IO
-    NONE, NONE, NONE, REFRESH, PUBLISH, BOTH, NONE, NONE, NONE, NONE,
+    [
+        NEITHER, NEITHER, NEITHER, REFRESH, PUBLISH, BOTH, NEITHER, NEITHER, NEITHER, NEITHER,
+    ],
 ];
 
-// The table's entry for a row of this kind under this model; NONE for a number that is no model or no kind.
-fn table_entry(model: u32, kind: u32) -> u8
-    ensures { result ≡ table_entry model kind }
+// What a row of this kind does under this model; NEITHER for a number that is no model or no kind.
+fn marks_of(model: u32, kind: u32) -> Marks
+    ensures publishes { result.publishes ≡ publishes model kind }
+    ensures refreshes { result.refreshes ≡ refreshes model kind }
 {
-    if rows::MODELS <= model {
-        return NONE;
+    if model < rows::MODELS && kind < rows::KINDS {
+        TABLE[model as usize][kind as usize]
+    } else {
+        NEITHER
     }
-    if rows::KINDS <= kind {
-        return NONE;
-    }
-    let at = model as usize * COLUMNS + kind as usize;
-    TABLE[at]
 }
 
 // A row of this kind publishes under this model.
 pub fn is_publish(model: u32, kind: u32) -> bool
     ensures { result ≡ publishes model kind }
 {
-    let entry = table_entry(model, kind);
-    if entry == PUBLISH {
-        return true;
-    }
-    entry == BOTH
+    marks_of(model, kind).publishes
 }
 
 // A row of this kind refreshes under this model.
 pub fn is_refresh(model: u32, kind: u32) -> bool
     ensures { result ≡ refreshes model kind }
 {
-    let entry = table_entry(model, kind);
-    REFRESH <= entry
+    marks_of(model, kind).refreshes
 }
