@@ -1,5 +1,5 @@
 -- What the functions put and count, part by part.
-use Rattle.std.proofs.Common.{ℕ, zero, suc, ◌+◌, ◌≤◌, arith, ◌≡◌, sym, subst, ◌∙◌, Bool, true, false, List, [], ◌∷◌, length}
+use Rattle.std.proofs.Common.{ℕ, ◌+◌, ◌≤◌, arith, ◌≡◌, sym, subst, ◌∙◌, Bool, true, false, List, [], ◌∷◌, length}
 use lib.ListN.{get_or}
 use Rattle.csv_field.specs.FieldGrammar.{COMMA, CRLF}
 use Rattle.print.specs.Decimal.{decimal_of, width_of}
@@ -7,11 +7,10 @@ use Rattle.print.specs.Puts.{lay, put_in, put_end}
 use Rattle.print.proofs.Laying.{number-length, put-lay}
 use Rattle.print.proofs.Parts.{Laid, put-laid, laid-length, then}
 use Rattle.rows.specs.declared.row.Row.{Row}
-use Rattle.rows.specs.Kinds.{KINDS}
 use Rattle.trace_numbers.specs.declared.Used.{Used}
 use Rattle.trace_fields.specs.Rows.{kind_words, used_by}
 use Rattle.writer_line.specs.Lines.{number_field, record_of}
-use Rattle.writer_line.proofs.Contents.{word_none, comma, record-size, parts_using}
+use Rattle.writer_line.proofs.Contents.{comma, record-size, parts_using}
 
 -- ---- Lengths of fields
 
@@ -24,49 +23,31 @@ field-used n u e h = (rw u (e ∙ sym (number-length n)), h)
 pub field-unused : (n : ℕ) {used : Bool} → used ≡ false → (0 ≡ length (number_field used n)) × (0 ≤ 10)
 field-unused n u = (rw u, omega arith)
 
--- ---- Words
-
--- A number is none of the numbers below n: what the last arm of a match on these numbers knows.
-abbrev NoneBelow : ℕ → ℕ → Type 0
-NoneBelow zero k = Unit {0}
-NoneBelow (suc n) k = NoneBelow n k × (k ≡ n → ⊥)
-
--- Such a number is past them.
-pub past_all : (n k : ℕ) → NoneBelow n k → n ≤ k
-past_all zero k r = omega arith
-past_all (suc n) k r = let h = past_all n k r.0 in omega (arith, r.1)
-
-module _ (xs : List ℕ) (at : ℕ) {end : ℕ} {ys : List ℕ} where
-  -- The word of a kind is put with its comma.
-  pub word-put : (k : ℕ) {kind : ℕ} → kind ≡ k →
-      (end ≡ put_end xs at (COMMA ∷ get_or kind_words k [])) × (ys ≡ put_in xs at (COMMA ∷ get_or kind_words k [])) →
-      (end ≡ put_end xs at (COMMA ∷ get_or kind_words kind [])) × (ys ≡ put_in xs at (COMMA ∷ get_or kind_words kind []))
-  word-put k e p = rw e p
-
-  -- The comma alone is put for a number that is no kind's.
-  pub comma-put : (kind : ℕ) → KINDS ≤ kind → (end ≡ put_end xs at (COMMA ∷ [])) × (ys ≡ put_in xs at (COMMA ∷ [])) →
-      (end ≡ put_end xs at (COMMA ∷ get_or kind_words kind [])) × (ys ≡ put_in xs at (COMMA ∷ get_or kind_words kind []))
-  comma-put kind h p = rw (word_none kind h) p
-
 -- ---- Fields
 
-module _ (xs : List ℕ) (at n : ℕ) (used : Bool) (h : at + length (COMMA ∷ number_field used n) ≤ length xs) {mid : ℕ} {ys : List ℕ}
+module _ (xs : List ℕ) (at : ℕ) (content : List ℕ) (h : at + length (COMMA ∷ content) ≤ length xs) {mid : ℕ} {ys : List ℕ}
     (p : (mid ≡ put_end xs at (COMMA ∷ [])) × (ys ≡ put_in xs at (COMMA ∷ []))) where
   -- The comma of a field is laid.
   first : Laid xs at (COMMA ∷ []) mid ys
   first = put-laid xs at (COMMA ∷ []) p (omega arith)
 
+  -- A field is its comma and what it contains.
+  pub content-laid : {end : ℕ} {zs : List ℕ} → (end ≡ put_end ys mid content) × (zs ≡ put_in ys mid content) →
+      (end ≡ at + length (COMMA ∷ content)) × (zs ≡ lay xs at (COMMA ∷ content))
+  content-laid q =
+      let both = then first (put-laid ys mid content q (omega (arith, h, first.behind, laid-length first))) in
+      (both.behind, both.whole)
+
+module _ (xs : List ℕ) (at n : ℕ) (used : Bool) (h : at + length (COMMA ∷ number_field used n) ≤ length xs) {mid : ℕ} {ys : List ℕ}
+    (p : (mid ≡ put_end xs at (COMMA ∷ [])) × (ys ≡ put_in xs at (COMMA ∷ []))) where
   -- A field that is not used is its comma.
   pub comma-laid : used ≡ false → (mid ≡ at + length (COMMA ∷ number_field used n)) × (ys ≡ lay xs at (COMMA ∷ number_field used n))
-  comma-laid u = rw u (first.behind, first.whole)
+  comma-laid u = let l = put-laid xs at (COMMA ∷ []) p (omega arith) in rw u (l.behind, l.whole)
 
   -- A used field is its comma and its digits.
   pub field-laid : {end : ℕ} {zs : List ℕ} → used ≡ true → (end ≡ put_end ys mid (decimal_of n)) × (zs ≡ put_in ys mid (decimal_of n)) →
       (end ≡ at + length (COMMA ∷ number_field used n)) × (zs ≡ lay xs at (COMMA ∷ number_field used n))
-  field-laid u q =
-      let room = rw u at h in
-      let both = then first (put-laid ys mid (decimal_of n) q (omega (arith, first.behind, laid-length first, room))) in
-      rw u (both.behind, both.whole)
+  field-laid u q = rw u (content-laid xs at (decimal_of n) (rw u at h) p q)
 
 -- ---- A record
 
@@ -89,17 +70,18 @@ module _ (xs : List ℕ) (r : Row) {v : Used} (e : v ≡ used_by r.kind) (fit : 
   process-laid p = put-laid xs 0 process p (omega (arith, room))
 
   module _ {i : ℕ} {ys : List ℕ} (p : (i ≡ put_end xs 0 process) × (ys ≡ put_in xs 0 process)) where
-    -- The second field is laid behind it.
-    pub kind-laid : {j : ℕ} {zs : List ℕ} → (j ≡ put_end ys i kind) × (zs ≡ put_in ys i kind) → Laid ys i kind j zs
-    kind-laid q = put-laid ys i kind q (omega (arith, room, (process-laid p).behind, laid-length (process-laid p)))
+    -- There is room for the second field behind it.
+    pub kind-room : i + length kind ≤ length ys
+    kind-room = omega (arith, room, (process-laid p).behind, laid-length (process-laid p))
 
-    -- The two fields end where their lengths say, and the slice has its length.
-    pub two-laid : {j : ℕ} {zs : List ℕ} → (j ≡ put_end ys i kind) × (zs ≡ put_in ys i kind) →
-        (j ≡ length process + length kind) × (length zs ≡ length xs)
-    two-laid q = (
-      omega (arith, (process-laid p).behind, (kind-laid q).behind),
-      laid-length (kind-laid q) ∙ laid-length (process-laid p),
-    )
+    module _ {j : ℕ} {zs : List ℕ} (q : (j ≡ i + length kind) × (zs ≡ lay ys i kind)) where
+      -- The second field is laid behind it.
+      pub kind-laid : Laid ys i kind j zs
+      kind-laid = record { fit = kind-room; behind = q.0; whole = q.1 }
+
+      -- The two fields end where their lengths say, and the slice has its length.
+      pub two-laid : (j ≡ length process + length kind) × (length zs ≡ length xs)
+      two-laid = (omega (arith, (process-laid p).behind, kind-laid.behind), laid-length kind-laid ∙ laid-length (process-laid p))
 
 -- All parts, laid one behind the other, are the record laid.
 pub record_laid : (xs : List ℕ) (r : Row) {v : Used} → v ≡ used_by r.kind →

@@ -8,6 +8,7 @@ ghost use Rattle.trace_fields.specs.Rows.{kind_words};
 ghost use Rattle.writer_line.specs.Lines.{number_field, record_of};
 
 use rows::Row;
+use rows::kind::Kind;
 
 // The bytes of a record besides its fields: five commas, CR and LF.
 const MARKS: usize = 7;
@@ -21,7 +22,7 @@ pub fn record_length(row: Row) -> usize
 {
     let used = trace_fields::used_by(row.kind);
     let process = print::width_of(row.process);
-    let word = word_length(row.kind);
+    let word = word_of(row.kind).len();
     let file = field_length(row.file, used.file);
     let offset = field_length(row.offset, used.range);
     let length = field_length(row.length, used.range);
@@ -29,22 +30,14 @@ pub fn record_length(row: Row) -> usize
     MARKS + process + word + file + offset + length + message
 }
 
-// Answers how many bytes a kind's word has, and 0 for a number that is no kind's.
-fn word_length(kind: u32) -> usize
-    ensures { (result ≡ length (get_or kind_words «kind» [])) × (result ≤ 7) }
+// The word that stands for a kind's number in a trace, and no bytes for a number that is no kind's.
+fn word_of(kind: u32) -> &'static [u8]
+    ensures word { result.now ≡ get_or kind_words «kind» [] }
+    ensures few { length result.now ≤ 7 }
 {
-    match kind {
-        rows::READ => 4,
-        rows::WRITE => 5,
-        rows::COMMIT => 6,
-        rows::OPEN => 4,
-        rows::CLOSE => 5,
-        rows::SYNC => 4,
-        rows::SEND => 4,
-        rows::RECV => 4,
-        rows::WAIT => 4,
-        rows::BARRIER => 7,
-        _ => 0,
+    match Kind::try_from(kind) {
+        Ok(kind) => kind.word(),
+        Err(_) => b"",
     }
 }
 
@@ -96,22 +89,12 @@ fn put_parts(out: &mut [u8], row: Row) -> usize
 
 // Puts a comma and a kind's word.
 fn put_word(out: &mut [u8], at: usize, kind: u32) -> usize
-    ensures answer { result ≡ put_end out.old at (COMMA ∷ get_or kind_words «kind» []) }
-    ensures left { out.new ≡ put_in out.old at (COMMA ∷ get_or kind_words «kind» []) }
+    requires { at + length (COMMA ∷ get_or kind_words «kind» []) ≤ length out.old }
+    ensures answer { result ≡ at + length (COMMA ∷ get_or kind_words «kind» []) }
+    ensures left { out.new ≡ lay out.old at (COMMA ∷ get_or kind_words «kind» []) }
 {
-    match kind {
-        rows::READ => print::put(out, at, b",read"),
-        rows::WRITE => print::put(out, at, b",write"),
-        rows::COMMIT => print::put(out, at, b",commit"),
-        rows::OPEN => print::put(out, at, b",open"),
-        rows::CLOSE => print::put(out, at, b",close"),
-        rows::SYNC => print::put(out, at, b",sync"),
-        rows::SEND => print::put(out, at, b",send"),
-        rows::RECV => print::put(out, at, b",recv"),
-        rows::WAIT => print::put(out, at, b",wait"),
-        rows::BARRIER => print::put(out, at, b",barrier"),
-        _ => print::put(out, at, b","),
-    }
+    let word = print::put(out, at, b",");
+    print::put(out, word, word_of(kind))
 }
 
 // Puts a comma and a number's field, which is empty where it is not used.

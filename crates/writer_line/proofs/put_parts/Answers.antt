@@ -1,8 +1,13 @@
 -- `writer_line::put_parts` meets its contract.
 use Rattle.std.proofs.Common.{arith}
 use Rattle.print.proofs.Parts.{put-laid}
-use Rattle.writer_line.proofs.Putting.{room, process-laid, kind-laid, two-laid, record_laid}
+use Rattle.writer_line.proofs.Putting.{room, kind-room, process-laid, kind-laid, two-laid, record_laid}
 use Rattle.writer_line.proofs.put_parts.Goals as goal
+
+pub put_word-at-requires : goal.put_word-at-requires
+put_word-at-requires c =
+    let a = c.args in
+    kind-room a.out.now a.row c.used_by-used.ensures c.requires (c.put_number-at.ensures.answer, c.put_number-at.ensures.left)
 
 pub put_field-at-requires : goal.put_field-at-requires
 put_field-at-requires c =

@@ -1,9 +1,10 @@
 -- `writer_line::record_length` meets its contract.
+use Rattle.std.proofs.Common.{ap, length}
 use Rattle.writer_line.proofs.Contents.{record_added}
 use Rattle.writer_line.proofs.record_length.Goals as goal
 
 pub returns : goal.returns
 returns c =
     let a = c.args in
-    record_added a.row c.used_by-used.ensures c.width_of-process.ensures.0 c.word_length-word.ensures.0 c.field_length-file.ensures.0
+    record_added a.row c.used_by-used.ensures c.width_of-process.ensures.0 (ap length c.word_of-word.ensures.word) c.field_length-file.ensures.0
     c.field_length-offset.ensures.0 c.field_length-length.ensures.0 c.field_length-message.ensures.0
