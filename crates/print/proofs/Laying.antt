@@ -1,8 +1,7 @@
 -- Bytes laid into a slice, one part behind the other.
 use Rattle.std.proofs.Common.{ℕ, zero, suc, ◌+◌, ◌-◌, ◌/◌, ◌%◌, ◌≤◌, ◌<◌, arith, ◌≡◌, refl, sym, ap, ◌∙◌, List, [], ◌∷◌, ◌++◌, append_assoc, append-nil, length, take, drop, length-append, take-append-drop, length-set, length-take-le, take_at, drop_at, drop-set-lt, drop-cons, drop-drop, get_or-set_same, le-leb}
-use lib.ListN.{set, get_or}
-use lib.Seq.{paste-zero, paste-suc, take-length, length-paste, paste, take-set-le, append_snoc}
-use borrow.Author.Tests.{lt-leb}
+use lib.ListN.{set}
+use lib.Seq.{take-length, length-paste, paste, take-set-le, append_snoc}
 use Rattle.print.specs.Decimal.{digits_of, width_of, decimal_of}
 use Rattle.print.specs.Puts.{lay, put_in, put_end}
 
@@ -10,11 +9,6 @@ use Rattle.print.specs.Puts.{lay, put_in, put_end}
 pub put-lay : (xs : List ℕ) (at : ℕ) (w : List ℕ) → at + length w ≤ length xs → (at + length w ≡ put_end xs at w) × (lay xs at w ≡ put_in xs at w)
 unfolding put_end put_in
 put-lay xs at w h = rw (le-leb _ _ h) (refl, refl)
-
--- Where there is no room, nothing is laid.
-pub put-none : (xs : List ℕ) (at : ℕ) (w : List ℕ) → length xs < at + length w → (at ≡ put_end xs at w) × (xs ≡ put_in xs at w)
-unfolding put_end put_in
-put-none xs at w h = rw (lt-leb _ _ h) (refl, refl)
 
 -- Laying is the library's copy of all bytes.
 pub lay-paste : (xs : List ℕ) (at : ℕ) (w : List ℕ) → paste xs at w (length w) ≡ lay xs at w
@@ -62,35 +56,6 @@ digits_length (suc k) n = length-append (digits_of k _) (_ ∷ []) ∙ ap (λ (l
 
 -- ---- Bytes put one after the other
 
--- What a copy keeps: the first i bytes are in their places.
-pub record Copying (xs : List ℕ) (at : ℕ) (w ys : List ℕ) (i : ℕ) : Type 0 where
-  pub so_far : ys ≡ paste xs at w i
-  pub within : i ≤ length w
-  pub fit : at + length w ≤ length xs
-
-pub copy_start : (xs : List ℕ) (at : ℕ) (w : List ℕ) → at + length w ≤ length xs → Copying xs at w xs 0
-copy_start xs at w h = record { so_far = paste-zero xs at w; within = omega arith; fit = h }
-
-module _ {xs : List ℕ} {at : ℕ} {w ys : List ℕ} {i : ℕ} (g : Copying xs at w ys i) where
-  pub copy_length : length ys ≡ length xs
-  copy_length = ap length g.so_far ∙ length-paste xs at w i (omega (arith, g.within, g.fit)) g.within
-
-  pub copy_next : i < length w → Copying xs at w (set ys (at + i) (get_or w i 0)) (i + 1)
-  copy_next h =
-      let e : suc i ≡ i + 1 = omega arith in
-      record {
-        so_far =
-            ap (λ (l : List ℕ). set l (at + i) (get_or w i 0)) g.so_far ∙ paste-suc xs at w i 0 (omega (arith, g.fit)) h
-            ∙ ap (λ (k : ℕ). paste xs at w k) e;
-        within = omega arith;
-        fit = g.fit;
-      }
-
-  pub copy_done : length w ≤ i → (at + length w ≡ put_end xs at w) × (ys ≡ put_in xs at w)
-  copy_done h =
-      let e : i ≡ length w = omega (arith, g.within) in
-      ((put-lay xs at w g.fit).0, g.so_far ∙ ap (λ (k : ℕ). paste xs at w k) e ∙ lay-paste xs at w ∙ (put-lay xs at w g.fit).1)
-
 -- What spelling from the last digit on keeps: the digits that are left, laid on what is there, make the whole.
 pub record Spelling (xs : List ℕ) (at n width : ℕ) (ys : List ℕ) (i rest : ℕ) : Type 0 where
   pub so_far : lay ys at (digits_of i rest) ≡ lay xs at (digits_of width n)
@@ -132,11 +97,4 @@ pub number-length : (n : ℕ) → length (decimal_of n) ≡ width_of n
 unfolding decimal_of
 number-length n = digits_length (width_of n) n
 
--- A number's digits in their places are the number put.
-pub number_put : (xs : List ℕ) (at n : ℕ) {width : ℕ} {ys : List ℕ} → width ≡ width_of n → at + width ≤ length xs → ys ≡ lay xs at (digits_of width n) →
-    (at + width ≡ put_end xs at (decimal_of n)) × (ys ≡ put_in xs at (decimal_of n))
-unfolding decimal_of
-number_put xs at n {width} {ys} e h q =
-    let l : length (decimal_of n) ≡ width = number-length n ∙ sym e in
-    let p = put-lay xs at (decimal_of n) (omega (arith, l)) in
-    (ap (λ (k : ℕ). at + k) (sym l) ∙ p.0, q ∙ ap (λ (k : ℕ). lay xs at (digits_of k n)) e ∙ p.1)
+pub ruleset number_lengths = (number-length, digits_length)

@@ -1,3 +1,2 @@
 pub mod Laying
-pub mod Widths
 pub mod Parts

@@ -12,43 +12,38 @@ const BASE: u32 = 10;
 const DIGIT_0: u8 = 48;
 
 // Puts bytes and answers the index behind them.
+#[tactic(auto, unfolding(crate::specs::Puts::put_in, crate::specs::Puts::put_end))]
 pub fn put(out: &mut [u8], at: usize, bytes: &[u8]) -> usize
     ensures answer { result ≡ put_end out.old at bytes.now }
     ensures left { out.new ≡ put_in out.old at bytes.now }
 {
-    if out.len() < bytes.len() {
+    if out.len() < bytes.len() || out.len() - bytes.len() < at {
         return at;
     }
-    if out.len() - bytes.len() < at {
-        return at;
-    }
-    let mut i = 0;
-    while i < bytes.len() {
-        out[at + i] = bytes[i];
-        i += 1;
-    }
-    at + bytes.len()
+    let end = at + bytes.len();
+    out[at..end].copy_from_slice(bytes);
+    end
 }
 
 // Puts a number's decimal digits and answers the index behind them.
+#[tactic(auto, using(crate::proofs::Laying::number_lengths), unfolding(crate::specs::Puts::put_in, crate::specs::Puts::put_end, crate::specs::Decimal::decimal_of))]
 pub fn put_number(out: &mut [u8], at: usize, n: u32) -> usize
     ensures answer { result ≡ put_end out.old at (decimal_of n) }
     ensures left { out.new ≡ put_in out.old at (decimal_of n) }
 {
     let width = width_of(n);
-    if out.len() < width {
-        return at;
-    }
-    if out.len() - width < at {
+    if out.len() < width || out.len() - width < at {
         return at;
     }
     put_digits(out, at, n, width);
     at + width
 }
 
-// Answers how many digits a number has.
+// Answers how many digits a number has. By comparisons: they are plainer than a loop, and each answer is proved without a lemma.
+#[tactic(auto, unfolding(crate::specs::Decimal::width_within))]
 pub fn width_of(n: u32) -> usize
-    ensures { (result ≡ width_of n) × (result ≤ WIDTH) }
+    ensures width { result ≡ width_of n }
+    ensures most { result ≤ WIDTH }
 {
     if n < 10 {
         return 1;
@@ -80,15 +75,13 @@ pub fn width_of(n: u32) -> usize
     10
 }
 
-// Puts the last digits of a number.
+// Puts the last digits of a number. By hand: the bytes go into a lent slice, and std's formatting wants a writer.
 fn put_digits(out: &mut [u8], at: usize, n: u32, width: usize)
     requires { at + width ≤ length out.old }
     ensures { out.new ≡ lay out.old at (digits_of width n) }
 {
-    let mut i = width;
     let mut rest = n;
-    while 0 < i {
-        i -= 1;
+    for i in (0..width).rev() {
         out[at + i] = digit(rest % BASE);
         rest /= BASE;
     }

@@ -5,6 +5,3 @@ use Rattle.print.proofs.put_digits.Given as goal
 -- The digits from index i on lie in their places, and `rest` is the number without them.
 abbrev pub invariant-loop-i : goal.invariant-loop-i
 invariant-loop-i l = Spelling l.initial.out l.at l.n l.width l.out l.i l.rest
-
-abbrev pub decreases-loop-i : goal.decreases-loop-i
-decreases-loop-i l = l.i
