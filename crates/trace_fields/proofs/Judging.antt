@@ -1,17 +1,17 @@
 -- The questions 8 to 11, put to the fields of a record.
-use Rattle.std.proofs.Common.{ℕ, ◌+◌, ◌-◌, ◌≤◌, ◌<◌, arith, ◌≡◌, refl, sym, ap, ◌∙◌, Bool, true, false, cond, ◌&&◌, List, [], ◌∷◌, lt-ltb, le-ltb, le-leb}
-use mathlib.Core.Bool.{and-false, and-eq-true_iff, false≢true}
+use Rattle.std.proofs.Common.{ℕ, ◌+◌, ◌-◌, ◌≤◌, ◌<◌, arith, ◌≡◌, refl, sym, ap, ◌∙◌, Bool, true, false, cond, ◌&&◌, List, [], ◌∷◌, lt-ltb, le-leb}
+use mathlib.Core.Bool.{and-eq-true_iff, false≢true}
 use lib.Dec.{ltb}
 use borrow.Author.Tests.{lt-leb}
 use Rattle.csv_field.specs.declared.Span.{Span}
 use Rattle.rows.specs.Limits.{OFFSET_MAX}
-use Rattle.rows.specs.Kinds.{KINDS}
+use Rattle.rows.specs.Kinds.{KINDS, kind_number}
+use Rattle.rows.specs.declared.kind.Kind.{Kind}
+use Rattle.rows.specs.declared.kind.Kind.TheVariants.{Read, Write, Commit, Open, Close, Sync, Send, Recv, Wait, Barrier}
 use Rattle.rows.specs.Questions.{first_no}
 use Rattle.rows.specs.declared.row.Row.{Row}
 use Rattle.trace_numbers.specs.declared.Used.{Used}
-use Rattle.trace_numbers.specs.declared.ReadRow.{ReadRow}
-use Rattle.trace_numbers.specs.declared.ReadRow.TheVariants.{Kept, No}
-use Rattle.trace_numbers.specs.Numbers.{value, value_from, field, fields_of, value_if, ranged_as, row_using, read_numbers}
+use Rattle.trace_numbers.specs.Numbers.{ReadRow, Kept, No, value, value_from, field, fields_of, value_if, ranged_as, row_using, read_numbers}
 use Rattle.trace_numbers.proofs.Reading.{content_at, field_is}
 use Rattle.trace_fields.specs.Rows.{kind_of, used_by, row_of}
 use Rattle.trace_fields.specs.Questions.{field_questions, kind_known, as_used, filled_as_used, numbers_in_range, end_in_range}
@@ -21,34 +21,15 @@ use Rattle.trace_fields.specs.Reads.{fills_as, judged_by, judged_fields}
 
 module _ (text : List ℕ) (spans : List Span) (u : Used) where
   -- the question, by contents
-  fills : fills_as u (fields_of text spans)
+  pub fills : fills_as u (fields_of text spans)
       ≡ as_used true (content_at text spans 0)
       && (as_used u.file (content_at text spans 2)
       && (as_used u.range (content_at text spans 3) && (as_used u.range (content_at text spans 4) && as_used u.message (content_at text spans 5))))
   unfolding fills_as
   fills = simp field_is
 
-  -- the process is empty
-  pub fills-not_process : as_used true (content_at text spans 0) ≡ false → false ≡ fills_as u (fields_of text spans)
-  fills-not_process e = sym (fills ∙ rw e)
-
-  -- the file is not as used
-  pub fills-not_file : as_used u.file (content_at text spans 2) ≡ false → false ≡ fills_as u (fields_of text spans)
-  fills-not_file e = sym (fills ∙ simp (e, and-false))
-
-  -- the offset is not as used
-  pub fills-not_offset : as_used u.range (content_at text spans 3) ≡ false → false ≡ fills_as u (fields_of text spans)
-  fills-not_offset e = sym (fills ∙ simp (e, and-false))
-
-  -- the length is not as used
-  pub fills-not_length : as_used u.range (content_at text spans 4) ≡ false → false ≡ fills_as u (fields_of text spans)
-  fills-not_length e = sym (fills ∙ simp (e, and-false))
-
-  -- all fields before the message are as used, and the message decides
-  pub fills-message : as_used true (content_at text spans 0) ≡ true → as_used u.file (content_at text spans 2) ≡ true →
-      as_used u.range (content_at text spans 3) ≡ true → as_used u.range (content_at text spans 4) ≡ true →
-      as_used u.message (content_at text spans 5) ≡ fills_as u (fields_of text spans)
-  fills-message p f o l = sym (fills ∙ rw (p, f, o, l))
+-- question 9 by contents, for a search
+pub ruleset by_contents = fills
 
 -- ---- The questions in turn
 
@@ -63,12 +44,24 @@ judged-by : (limit : ℕ) (fields : List (List ℕ)) →
 unfolding judged_fields first_no field_questions
 judged-by limit fields = refl
 
+-- a kind's number is below the number of kinds
+below-kinds : (kind : Kind) → kind_number kind < KINDS
+below-kinds Read = omega arith
+below-kinds Write = omega arith
+below-kinds Commit = omega arith
+below-kinds Open = omega arith
+below-kinds Close = omega arith
+below-kinds Sync = omega arith
+below-kinds Send = omega arith
+below-kinds Recv = omega arith
+below-kinds Wait = omega arith
+below-kinds Barrier = omega arith
+
 -- 8 is answered No
-pub no_kind : (limit : ℕ) (text : List ℕ) (spans : List Span) {k : ℕ} → k ≡ kind_of (content_at text spans 1) → KINDS ≤ k →
-    No 8 ≡ judged_fields limit (fields_of text spans)
-no_kind limit text spans {k} e h =
+pub no_kind : (limit : ℕ) (text : List ℕ) (spans : List Span) → KINDS ≡ kind_of (content_at text spans 1) → No 8 ≡ judged_fields limit (fields_of text spans)
+no_kind limit text spans e =
     let fs = fields_of text spans in
-    let q : kind_known fs ≡ false = ap (λ (n : ℕ). ltb n KINDS) (ap kind_of (field_is text spans 1) ∙ sym e) ∙ le-ltb k KINDS h in
+    let q : kind_known fs ≡ false = ap (λ (n : ℕ). ltb n KINDS) (ap kind_of (field_is text spans 1) ∙ sym e) in
     sym (judged-by limit fs ∙ ap (λ (b : Bool). outcome b (filled_as_used fs) (numbers_in_range limit fs) (end_in_range (row_of fs)) fs) q)
 
 -- a record whose kind is known
@@ -76,10 +69,11 @@ pub record Known : Type 0 where
   pub limit : ℕ
   pub text : List ℕ
   pub spans : List Span
+  pub of : Kind
   pub kind : ℕ
   pub used : Used
-  pub kind-is : kind ≡ kind_of (content_at text spans 1)
-  pub known : kind < KINDS
+  pub number-is : kind ≡ kind_number of
+  pub kind-is : kind_number of ≡ kind_of (content_at text spans 1)
   pub used-is : used ≡ used_by kind
 
 -- the record's fields
@@ -93,7 +87,7 @@ answer k = judged_fields k.limit (fields_in k)
 module _ (k : Known) where
   -- the kind is the kind of the contents
   kind-in : kind_of (field (fields_in k) 1) ≡ k.kind
-  kind-in = ap kind_of (field_is k.text k.spans 1) ∙ sym k.kind-is
+  kind-in = ap kind_of (field_is k.text k.spans 1) ∙ sym (k.number-is ∙ k.kind-is)
 
   -- the used fields are those of the kind of the contents
   used-in : used_by (kind_of (field (fields_in k) 1)) ≡ k.used
@@ -101,7 +95,7 @@ module _ (k : Known) where
 
   -- 8 is answered Yes
   known_in : kind_known (fields_in k) ≡ true
-  known_in = ap (λ (n : ℕ). ltb n KINDS) kind-in ∙ lt-ltb k.kind KINDS k.known
+  known_in = ap (λ (n : ℕ). ltb n KINDS) kind-in ∙ lt-ltb k.kind KINDS (omega (arith, k.number-is, below-kinds k.of))
 
   -- 9 is answered as the used fields say
   filled_in : filled_as_used (fields_in k) ≡ fills_as k.used (fields_in k)
@@ -121,10 +115,6 @@ pub record Filled : Type 0 where
   pub filled : fills_as of.used (fields_in of) ≡ true
 
 -- ---- The numbers
-
--- a row is no refusal
-kept-no : {r : Row} {k : ℕ} → Kept r ≡ No k → ⊥
-kept-no e = let z : ◌≡◌ {A = ℕ} 0 1 = cc in omega arith
 
 -- where a used field is filled and any other empty, the number that reading takes is the value of the field
 value-used : (used : Bool) (content : List ℕ) → as_used used content ≡ true → value_if used content ≡ value content
@@ -176,29 +166,29 @@ module _ (f : Filled) where
       }
 
   -- 10 is answered No
-  pub no_number : {r : ReadRow} {k : ℕ} → r ≡ numbers_read → r ≡ No k → No k ≡ answer f.of
+  pub no_number : {k : ℕ} → No k ≡ numbers_read → No k ≡ answer f.of
   unfolding read_numbers
-  no_number {k} e g = go (ranged_as used f.of.limit fields) refl (sym e ∙ g)
+  no_number {k} e = go (ranged_as used f.of.limit fields) refl e
     where
-      go : (x : Bool) → ranged_as used f.of.limit fields ≡ x → cond x (Kept (row_using f.of.kind used fields)) (No 10) ≡ No k → No k ≡ answer f.of
-      go true q h = absurd (kept-no h)
-      go false q h = sym h ∙ sym (judged-filled q)
+      go : (x : Bool) → ranged_as used f.of.limit fields ≡ x → No k ≡ cond x (Kept (row_using f.of.kind used fields)) (No 10) → No k ≡ answer f.of
+      go true q h = cc h
+      go false q h = h ∙ sym (judged-filled q)
 
   -- 10 is answered Yes, and this is the row
-  numbered : {r : ReadRow} {row : Row} → r ≡ numbers_read → r ≡ Kept row → (ranged_as used f.of.limit fields ≡ true) × (row ≡ row_of fields)
+  numbered : {row : Row} → Kept row ≡ numbers_read → (ranged_as used f.of.limit fields ≡ true) × (row ≡ row_of fields)
   unfolding read_numbers
-  numbered {row} e g = go (ranged_as used f.of.limit fields) refl (sym e ∙ g)
+  numbered {row} e = go (ranged_as used f.of.limit fields) refl e
     where
-      go : (x : Bool) → ranged_as used f.of.limit fields ≡ x → cond x (Kept (row_using f.of.kind used fields)) (No 10) ≡ Kept row →
+      go : (x : Bool) → ranged_as used f.of.limit fields ≡ x → Kept row ≡ cond x (Kept (row_using f.of.kind used fields)) (No 10) →
           (ranged_as used f.of.limit fields ≡ true) × (row ≡ row_of fields)
-      go true q h = let z : row_using f.of.kind used fields ≡ row = cc in (q, sym z ∙ row_is)
-      go false q h = absurd (kept-no (sym h))
+      go true q h = let z : row ≡ row_using f.of.kind used fields = cc in (q, z ∙ row_is)
+      go false q h = let z : ◌≡◌ {A = ℕ} 0 1 = cc in absurd (omega arith)
 
-  module _ {r : ReadRow} {row : Row} (e : r ≡ numbers_read) (g : r ≡ Kept row) where
+  module _ {row : Row} (e : Kept row ≡ numbers_read) where
     -- 8 to 10 are answered Yes
     judged-numbered : answer f.of ≡ outcome true true true (end_in_range row) fields
     judged-numbered =
-        let n = numbered e g in
+        let n = numbered e in
         judged-filled n.0 ∙ ap (λ (x : Row). outcome true true true (end_in_range x) fields) (sym n.1)
 
     -- 11 is answered No
@@ -211,4 +201,4 @@ module _ (f : Filled) where
     pub kept : row.offset ≤ OFFSET_MAX → row.length ≤ OFFSET_MAX - row.offset → Kept row ≡ answer f.of
     kept i h =
         let q : end_in_range row ≡ true = le-leb (row.offset + row.length) OFFSET_MAX (omega arith) in
-        sym (judged-numbered ∙ ap (λ (b : Bool). outcome true true true b fields) q ∙ ap Kept (sym (numbered e g).1))
+        sym (judged-numbered ∙ ap (λ (b : Bool). outcome true true true b fields) q ∙ ap Kept (sym (numbered e).1))

@@ -1,40 +1,45 @@
 -- Kinds by their words, and the fields that a kind uses.
-use Rattle.std.proofs.Common.{ℕ, ◌+◌, ◌-◌, ◌≤◌, ◌<◌, arith, ◌≡◌, sym, ap, ◌∙◌, Bool, true, false, not, List, [], ◌∷◌, ◌++◌, length, take, drop, replicate, get_or-append-add}
-use lib.ListN.{get_or, get_or-replicate, length-replicate, get_or-append, get_or-eq_default}
-use Rattle.csv_content.specs.Content.{same_bytes, is_nil}
-use Rattle.rows.specs.Kinds.{COMMIT, SEND, KINDS}
+use Rattle.std.proofs.Common.{ℕ, suc, zero-add, ◌+◌, ◌-◌, ◌≤◌, ◌<◌, arith, ◌≡◌, sym, ap, add-one, drop-cons, cond, ◌∙◌, Bool, true, false, List, [], ◌∷◌, ◌++◌, length, take, drop, replicate, get_or-append-add}
+use lib.ListN.{get_or, get_or-map, get_or-replicate, length-replicate, get_or-append, get_or-eq_default}
+use Rattle.csv_content.specs.Content.{same_bytes}
+use Rattle.rows.specs.Kinds.{COMMIT, SEND, KINDS, kind_number, word}
+use Rattle.rows.specs.declared.kind.Kind.{Kind}
+use Rattle.rows.specs.declared.kind.Kind.TheVariants.{Read, Write, Commit, Open, Close, Sync, Send, Recv, Wait, Barrier}
+use Rattle.std.proofs.lemmas.List.FromFn.{get_or-range_with_len}
 use Rattle.trace_numbers.specs.declared.Used.{Used}
-use Rattle.trace_fields.specs.Rows.{kind_words, word_of, kind_of, used_by, used_table, range_used, file_used, message_used, none_used}
-use Rattle.trace_fields.specs.Questions.{as_used}
+use Rattle.rows.specs.Kinds.{kind_words}
+use Rattle.trace_fields.specs.Rows.{word_of, kind_of, used_by, used_table, range_used, file_used, message_used, none_used}
 
--- a content that is none of the first n words, and the words after those
-pub record Past (n : ℕ) (ws : List (List ℕ)) : Type 0 where
-  pub content : List ℕ
-  pub passed : kind_of content ≡ word_of ws content + n
+-- every kind, by its number
+abbrev pub kinds : List Kind
+kinds = Read ∷ Write ∷ Commit ∷ Open ∷ Close ∷ Sync ∷ Send ∷ Recv ∷ Wait ∷ Barrier ∷ []
 
--- before the first word
-abbrev pub start : List ℕ → Past 0 kind_words
-start content = record { content = content; passed = omega arith }
+-- a kind stands at the place that is its number
+number_at : (i : ℕ) → i < KINDS → kind_number (get_or kinds i Read) ≡ i
+number_at i h = sym (get_or-map kind_number kinds i Read) ∙ get_or-range_with_len 0 KINDS i 0 h ∙ zero-add i
 
-module _ {n : ℕ} {w : List ℕ} {ws : List (List ℕ)} (p : Past n (w ∷ ws)) {r : Bool} (e : r ≡ same_bytes p.content w) where
-  -- the next word is not the content
-  pub next-passed : r ≡ false → kind_of p.content ≡ word_of ws p.content + (n + 1)
+module _ (content : List ℕ) (i : ℕ) (h : i < KINDS) (left : kind_of content ≡ word_of (drop i kind_words) content + i) {r : Bool}
+    (e : r ≡ same_bytes content (word (get_or kinds i Read))) where
+  -- the words that are left, by whether the next one is the content
+  next : kind_of content ≡ cond r 0 (word_of (drop (suc i) kind_words) content + 1) + i
   unfolding word_of
-  next-passed f = omega (arith, rw (sym e ∙ f) at p.passed)
+  next =
+      let g : i < length kind_words = omega arith in
+      let w : same_bytes content (get_or kind_words i []) ≡ r = sym (e ∙ ap (λ (n : ℕ). same_bytes content (get_or kind_words n [])) (number_at i h)) in
+      left ∙ rw (drop-cons kind_words i [] g, w)
 
-  -- the content is none of the first n + 1 words
-  abbrev pub next : r ≡ false → Past (n + 1) ws
-  next f = record { content = p.content; passed = next-passed f }
+  -- the next word is not the content
+  pub next_word : r ≡ false → kind_of content ≡ word_of (drop (i + 1) kind_words) content + (i + 1)
+  next_word f = rw (add-one i) (omega (arith, rw f at next))
 
   -- the next word is the content, whose kind it numbers
-  pub here : r ≡ true → n ≡ kind_of p.content
-  unfolding word_of
-  here f = omega (arith, rw (sym e ∙ f) at p.passed)
+  pub word_here : r ≡ true → kind_number (get_or kinds i Read) ≡ kind_of content
+  word_here f = omega (arith, number_at i h, rw f at next)
 
 -- the content is none of the words
-pub none : {n : ℕ} (p : Past n []) → n ≡ kind_of p.content
+pub no_word : (content : List ℕ) (i : ℕ) → KINDS ≤ i → i ≤ KINDS → kind_of content ≡ word_of (drop i kind_words) content + i → KINDS ≡ kind_of content
 unfolding word_of
-none p = omega (arith, p.passed)
+no_word content i h g e = let n : i ≡ KINDS = omega arith in sym (rw n at e)
 
 -- a table has one value at n places side by side
 stretch : (front : List Used) (n : ℕ) (u : Used) (back : List Used) (k : ℕ) → length front ≤ k → k < length front + n →
@@ -68,11 +73,5 @@ module _ (k : ℕ) where
   unfolding used_by
   used-nothing l = sym (get_or-eq_default used_table none_used l)
 
-module _ {used r : Bool} (content : List ℕ) where
-  -- a used field has to be filled
-  pub filled-used : used ≡ true → r ≡ is_nil content → not r ≡ as_used used content
-  filled-used e f = rw e (ap not f)
-
-  -- a field that is not used has to be empty
-  pub empty_unused : used ≡ false → r ≡ is_nil content → r ≡ as_used used content
-  empty_unused e f = rw e f
+-- the fields that a number uses, by its range
+pub ruleset uses = (used-range, used-file, used-message, used-nothing)

@@ -1,9 +1,7 @@
 -- What the functions answer, put together from the questions of specs/Questions.antt.
 use Rattle.std.specs.Prelude.{ℕ, Bool, true, cond, ◌&&◌, List, eqb}
 use Rattle.trace_numbers.specs.declared.Used.{Used}
-use Rattle.trace_numbers.specs.declared.ReadRow.{ReadRow}
-use Rattle.trace_numbers.specs.declared.ReadRow.TheVariants.{Kept, No}
-use Rattle.trace_numbers.specs.Numbers.{field}
+use Rattle.trace_numbers.specs.Numbers.{field, ReadRow, Kept, No}
 use Rattle.trace_fields.specs.Rows.{row_of}
 use Rattle.trace_fields.specs.Questions.{field_questions, as_used}
 use Rattle.rows.specs.Questions.{first_no}

@@ -3,53 +3,31 @@
 
 ghost use Rattle.std.specs.Prelude.{◌≡◌};
 ghost use Rattle.csv_content.specs.Content.{content_of};
-ghost use Rattle.trace_fields.specs.Rows.{kind_of, used_by};
+ghost use Rattle.trace_fields.specs.Rows.{told_kind, kind_of, used_by};
 ghost use Rattle.trace_fields.specs.Questions.{as_used};
 ghost use Rattle.trace_fields.specs.Reads.{fills_as, judged_fields};
-ghost use Rattle.trace_numbers.specs.Numbers.{fields_of};
+ghost use Rattle.trace_numbers.specs.Numbers.{fields_of, told_row};
 
 use csv_field::Span;
-use rows::refusal;
-use trace_numbers::{ReadRow, Used};
+use rows::Row;
+use rows::kind::Kind;
+use rows::refusal::Refusal;
+use trace_numbers::Used;
 
-// The number of the kind whose word the field's content is, and KINDS where the content is no kind's word.
-fn kind_of(text: &[u8], span: Span) -> u32
-    ensures { result ≡ kind_of (content_of text.now span) }
+// The kind whose word the field's content is.
+fn kind_of(text: &[u8], span: Span) -> Option<Kind>
+    ensures { told_kind result ≡ kind_of (content_of text.now span) }
 {
-    if csv_content::is_word(text, span, b"read") {
-        return rows::READ;
+    for kind in Kind::ALL {
+        if csv_content::is_word(text, span, kind.word()) {
+            return Some(kind);
+        }
     }
-    if csv_content::is_word(text, span, b"write") {
-        return rows::WRITE;
-    }
-    if csv_content::is_word(text, span, b"commit") {
-        return rows::COMMIT;
-    }
-    if csv_content::is_word(text, span, b"open") {
-        return rows::OPEN;
-    }
-    if csv_content::is_word(text, span, b"close") {
-        return rows::CLOSE;
-    }
-    if csv_content::is_word(text, span, b"sync") {
-        return rows::SYNC;
-    }
-    if csv_content::is_word(text, span, b"send") {
-        return rows::SEND;
-    }
-    if csv_content::is_word(text, span, b"recv") {
-        return rows::RECV;
-    }
-    if csv_content::is_word(text, span, b"wait") {
-        return rows::WAIT;
-    }
-    if csv_content::is_word(text, span, b"barrier") {
-        return rows::BARRIER;
-    }
-    rows::KINDS
+    None
 }
 
 // The fields that a kind uses.
+#[tactic(auto, using(crate::proofs::Words::uses))]
 pub fn used_by(kind: u32) -> Used
     ensures { result ≡ used_by kind }
 {
@@ -89,46 +67,32 @@ fn as_used(text: &[u8], span: Span, used: bool) -> bool
 }
 
 // Question 9: whether the used fields are filled and the others empty.
+#[tactic(auto, using(crate::proofs::Judging::by_contents))]
 fn filled_as_used(text: &[u8], spans: [Span; 6], used: Used) -> bool
     ensures { result ≡ fills_as used (fields_of text.now spans) }
 {
-    let file = used.file;
-    let range = used.range;
-    let message = used.message;
-    if !as_used(text, spans[rows::PROCESS_AT], true) {
-        return false;
-    }
-    if !as_used(text, spans[rows::FILE_AT], file) {
-        return false;
-    }
-    if !as_used(text, spans[rows::OFFSET_AT], range) {
-        return false;
-    }
-    if !as_used(text, spans[rows::LENGTH_AT], range) {
-        return false;
-    }
-    as_used(text, spans[rows::MESSAGE_AT], message)
+    as_used(text, spans[rows::PROCESS_AT], true)
+        && as_used(text, spans[rows::FILE_AT], used.file)
+        && as_used(text, spans[rows::OFFSET_AT], used.range)
+        && as_used(text, spans[rows::LENGTH_AT], used.range)
+        && as_used(text, spans[rows::MESSAGE_AT], used.message)
 }
 
 // Puts the questions 8 to 11 to a record of six fields.
-pub fn judge_fields(text: &[u8], spans: [Span; 6], process_limit: u32) -> ReadRow
-    ensures { result ≡ judged_fields process_limit (fields_of text.now spans) }
+pub fn judge_fields(text: &[u8], spans: [Span; 6], process_limit: u32) -> Result<Row, Refusal>
+    ensures { told_row result ≡ judged_fields process_limit (fields_of text.now spans) }
 {
-    let kind = kind_of(text, spans[rows::KIND_AT]);
-    if rows::KINDS <= kind {
-        return ReadRow::No(refusal::KNOWN_KIND);
-    }
+    let Some(kind) = kind_of(text, spans[rows::KIND_AT]) else {
+        return Err(Refusal::KnownKind);
+    };
+    let kind = kind.number();
     let used = used_by(kind);
     if !filled_as_used(text, spans, used) {
-        return ReadRow::No(refusal::USED_FIELDS);
+        return Err(Refusal::UsedFields);
     }
-    match trace_numbers::read_numbers(text, spans, kind, used, process_limit) {
-        ReadRow::No(k) => ReadRow::No(k),
-        ReadRow::Kept(row) => {
-            if rows::OFFSET_MAX - row.offset < row.length {
-                return ReadRow::No(refusal::RANGE_END);
-            }
-            ReadRow::Kept(row)
-        }
+    let row = trace_numbers::read_numbers(text, spans, kind, used, process_limit)?;
+    if rows::OFFSET_MAX - row.offset < row.length {
+        return Err(Refusal::RangeEnd);
     }
+    Ok(row)
 }

@@ -1,36 +1,32 @@
 -- Numbers: the first byte, the digits one by one, and why two quotes side by side change no number.
-use Rattle.std.proofs.Common.{ℕ, ◌+◌, ◌*◌, ◌-◌, ◌≤◌, ◌<◌, arith, add-one, ◌≡◌, refl, sym, ap, ◌∙◌, ◌⊎◌, inl, inr, Bool, true, false, cond, not, ◌&&◌, List, [], ◌∷◌, length, drop, drop_of_length-le, drop-cons, lt-ltb, le-ltb, le-leb, eqb-true}
-use mathlib.Core.Bool.{or-true, or-false, and-false, false≢true}
+use Rattle.std.proofs.Common.{ℕ, ◌+◌, ◌*◌, ◌-◌, ◌≤◌, ◌<◌, arith, add-one, ◌≡◌, refl, sym, ap, ◌∙◌, ◌⊎◌, inl, inr, Bool, true, false, cond, not, ◌&&◌, ◌||◌, List, [], ◌∷◌, length, drop, drop_of_length-le, drop-cons, lt-ltb, le-ltb, eqb-true, Option, Some, None}
+use mathlib.Core.Bool.{and-false, false≢true}
 use lib.ListN.{get_or}
 use lib.Dec.{ltb, eqb}
 use borrow.Author.Tests.{lt-leb}
 use Rattle.csv_field.specs.FieldReading.{byte_between}
-use Rattle.csv_content.specs.Content.{raw_of, content_of, undouble}
+use Rattle.csv_content.specs.Content.{raw_of, content_of, undouble, is_nil}
 use Rattle.csv_field.specs.declared.Span.{Span}
-use Rattle.trace_numbers.specs.declared.Number.{Number}
-use Rattle.trace_numbers.specs.declared.Number.TheVariants.{Plain, Bad}
-use Rattle.trace_numbers.specs.Numbers.{number_where}
+use Rattle.trace_numbers.specs.Numbers.{Number, Plain, Bad}
+use Rattle.std.specs.Option.{ok_or}
+use Rattle.rows.specs.declared.refusal.Refusal.TheVariants.{Range}
+use Rattle.trace_numbers.specs.Numbers.{number_where, told_number, Ranged}
 use Rattle.trace_numbers.specs.Numbers.{all_digits, starts_plain, value_from, number_below}
 
 -- no byte starts no plain number
-pub plain-none : (s : List ℕ) → length s ≡ 0 → false ≡ starts_plain s
+pub plain-none : (s : List ℕ) → length s ≡ 0 → starts_plain s ≡ false
 unfolding starts_plain
 plain-none [] h = refl
 plain-none (b ∷ t) h = absurd (omega arith)
 
--- one byte starts a plain number
-pub plain-one : (s : List ℕ) → length s ≡ 1 → true ≡ starts_plain s
+-- a byte starts a plain number unless it is a zero and others follow
+pub plain_first : (s : List ℕ) → 0 < length s → starts_plain s ≡ not (eqb (get_or s 0 0) 0x30) || is_nil (drop 1 s)
 unfolding starts_plain
-plain-one [] h = absurd (omega arith)
-plain-one (b ∷ []) h = sym (or-true (not (eqb b 0x30)))
-plain-one (b ∷ (x ∷ t)) h = absurd (omega arith)
+plain_first [] h = absurd (omega arith)
+plain_first (b ∷ t) h = refl
 
--- the first of several bytes starts a plain number unless it is a zero
-pub plain_more : (s : List ℕ) → (length s ≡ 0 → ⊥) → (length s ≡ 1 → ⊥) → not (eqb (get_or s 0 0) 0x30) ≡ starts_plain s
-unfolding starts_plain
-plain_more [] h g = absurd (h refl)
-plain_more (b ∷ []) h g = absurd (g refl)
-plain_more (b ∷ (x ∷ t)) h g = sym (or-false (not (eqb b 0x30)))
+-- how bytes start a plain number
+pub ruleset plain_starts = (plain-none, plain_first)
 
 -- the start of a plain number has a byte
 pub plain-some : (s : List ℕ) → starts_plain s ≡ true → 0 < length s
@@ -64,21 +60,16 @@ unfolding number_from
 past_bound below v t h = simp (le-ltb (value_from v t) below (omega (arith, value-least v t)), and-false)
 
 module _ (below v : ℕ) (s : List ℕ) (i : ℕ) where
-  -- a byte below the digits makes no number
-  pub digit_low : i < length s → get_or s i 0 < 0x30 → number_from below v (drop i s) ≡ Bad
+  -- a byte that is no digit makes no number
+  pub digit_other : i < length s → byte_between 0x30 0x39 (get_or s i 0) ≡ false → number_from below v (drop i s) ≡ Bad
   unfolding number_from all_digits
-  digit_low h l = rw (drop-cons s i 0 h, lt-leb 0x30 (get_or s i 0) l)
-
-  -- a byte above the digits makes no number
-  pub digit_high : i < length s → 0x39 < get_or s i 0 → number_from below v (drop i s) ≡ Bad
-  unfolding number_from all_digits
-  digit_high h l = rw (drop-cons s i 0 h) (simp (lt-leb (get_or s i 0) 0x39 l, and-false))
+  digit_other h e = rw (drop-cons s i 0 h, e)
 
   -- a digit goes into the value
-  pub digit_on : i < length s → 0x30 ≤ get_or s i 0 → get_or s i 0 ≤ 0x39 →
+  pub digit_on : i < length s → byte_between 0x30 0x39 (get_or s i 0) ≡ true →
       number_from below v (drop i s) ≡ number_from below (v * 10 + (get_or s i 0 - 0x30)) (drop (i + 1) s)
   unfolding number_from all_digits value_from
-  digit_on h l g = rw (add-one, drop-cons s i 0 h, le-leb 0x30 (get_or s i 0) l, le-leb (get_or s i 0) 0x39 g)
+  digit_on h e = rw (add-one, drop-cons s i 0 h, e)
 
   -- where no byte is left, the value is the number
   pub digits_end : length s ≤ i → v < below → number_from below v (drop i s) ≡ Plain v
@@ -86,9 +77,9 @@ module _ (below v : ℕ) (s : List ℕ) (i : ℕ) where
   digits_end h l = rw (drop_of_length-le s h, lt-ltb v below l)
 
 -- a digit that takes the value to the bound or past it makes no number
-pub digit_past : (below v : ℕ) (s : List ℕ) (i : ℕ) → i < length s → 0x30 ≤ get_or s i 0 → get_or s i 0 ≤ 0x39 →
+pub digit_past : (below v : ℕ) (s : List ℕ) (i : ℕ) → i < length s → byte_between 0x30 0x39 (get_or s i 0) ≡ true →
     below ≤ v * 10 + (get_or s i 0 - 0x30) → number_from below v (drop i s) ≡ Bad
-digit_past below v s i h l g p = digit_on below v s i h l g ∙ past_bound below (v * 10 + (get_or s i 0 - 0x30)) (drop (i + 1) s) p
+digit_past below v s i h e p = digit_on below v s i h e ∙ past_bound below (v * 10 + (get_or s i 0 - 0x30)) (drop (i + 1) s) p
 
 -- Bytes without a quote are their own content. Of bytes with a quote, neither the bytes nor the content are digits alone.
 undoubled : (t : List ℕ) → (undouble false t ≡ t) ⊎ ((all_digits (undouble false t) ≡ false) × (all_digits t ≡ false))
@@ -123,12 +114,12 @@ number-content below text span r e = ap (number_below below) e ∙ either span.d
     either true (inl u) = ap (number_below below) (sym u)
     either true (inr u) = number-other below t u.1 ∙ sym (number-other below (undouble false t) u.0)
 
-module _ (below : ℕ) {used : Bool} where
-  -- the number of a field that is not used
-  pub number-unused : (content : List ℕ) → used ≡ false → Plain 0 ≡ number_where used below content
-  number-unused content e = rw e refl
+-- the question of one number has the answer that reading the number has
+pub ranged : (answer : Option ℕ) {number : Number} → told_number answer ≡ number → Ranged number (ok_or answer Range)
+ranged (Some n) e = e
+ranged None e = (e, refl)
 
-  -- the number of a used field
-  pub number-used : (text : List ℕ) (span : Span) (r : List ℕ) → r ≡ raw_of text span → used ≡ true →
-      number_below below r ≡ number_where used below (content_of text span)
-  number-used text span r e f = rw f (number-content below text span r e)
+-- the number of a used field
+pub number-used : (below : ℕ) {used : Bool} (text : List ℕ) (span : Span) (r : List ℕ) → r ≡ raw_of text span → used ≡ true →
+    number_below below r ≡ number_where used below (content_of text span)
+number-used below text span r e f = rw f (number-content below text span r e)

@@ -1,15 +1,14 @@
 -- Plain numbers, the fields of a record by place, and what reading the numbers of a record answers.
-use Rattle.std.specs.Prelude.{ℕ, ◌+◌, ◌*◌, ◌-◌, Bool, true, false, cond, not, ◌&&◌, ◌||◌, List, [], ◌∷◌, map, get_or, ltb, eqb}
+use Rattle.std.specs.Prelude.{ℕ, ◌+◌, ◌*◌, ◌-◌, Bool, true, false, cond, not, ◌&&◌, ◌||◌, List, [], ◌∷◌, map, get_or, ltb, eqb, ◌≡◌, Option, Some, None, Result, Ok, Err, MatchResult}
 use Rattle.csv_field.specs.FieldReading.{byte_between}
 use Rattle.csv_field.specs.declared.Span.{Span}
 use Rattle.csv_content.specs.Content.{is_nil, content_of}
 use Rattle.rows.specs.Limits.{FILES, MESSAGES, OFFSET_MAX}
 use Rattle.rows.specs.declared.row.Row.{Row}
-use Rattle.trace_numbers.specs.declared.Number.{Number}
-use Rattle.trace_numbers.specs.declared.Number.TheVariants.{Plain, Bad}
+use Rattle.rows.specs.declared.refusal.Refusal.{Refusal}
+use Rattle.rows.specs.declared.refusal.Refusal.TheVariants.{Range}
+use Rattle.rows.specs.Refusals.{number_of}
 use Rattle.trace_numbers.specs.declared.Used.{Used}
-use Rattle.trace_numbers.specs.declared.ReadRow.{ReadRow}
-use Rattle.trace_numbers.specs.declared.ReadRow.TheVariants.{Kept, No}
 
 -- ---- Numbers
 
@@ -40,6 +39,16 @@ value content = value_from 0 content
 abbrev pub is_number : ℕ → List ℕ → Bool
 is_number below content = is_plain content && ltb (value content) below
 
+-- a number below its bound, or bytes that are no such number
+pub data Number : Type 0 where
+  Plain : ℕ → Number
+  Bad : Number
+
+-- the number that an answer gives
+abbrev pub told_number : Option ℕ → Number
+told_number (Some n) = Plain n
+told_number None = Bad
+
 -- the number that a content is, and Bad where it is none
 unfoldable pub number_below : ℕ → List ℕ → Number
 number_below below content = cond (is_number below content) (Plain (value content)) Bad
@@ -67,6 +76,10 @@ number_if false below content = true
 abbrev pub number_where : Bool → ℕ → List ℕ → Number
 number_where used below content = cond used (number_below below content) (Plain 0)
 
+-- what the question of one number answers: the number, or the No to question 10
+abbrev pub Ranged : Number → Result ℕ Refusal → Type 0
+Ranged number answer = MatchResult answer (λ n. Plain n ≡ number) (λ refusal. (Bad ≡ number) × (refusal ≡ Range))
+
 -- question 10 for given used fields
 unfoldable pub ranged_as : Used → ℕ → List (List ℕ) → Bool
 ranged_as u processLimit fields =
@@ -91,6 +104,16 @@ row_using kind u fields =
       length = value_if u.range (field fields 4);
       message = value_if u.message (field fields 5);
     }
+
+-- a record's row, or the number of the question that was answered No
+pub data ReadRow : Type 0 where
+  Kept : Row → ReadRow
+  No : ℕ → ReadRow
+
+-- the row or the number that an answer gives
+abbrev pub told_row : Result Row Refusal → ReadRow
+told_row (Ok row) = Kept row
+told_row (Err refusal) = No (number_of refusal)
 
 -- the row, or the No to question 10
 unfoldable pub read_numbers : ℕ → Used → ℕ → List (List ℕ) → ReadRow
