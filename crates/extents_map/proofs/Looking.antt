@@ -151,17 +151,17 @@ module _ {xs : List ℕ} {from x i : ℕ} (p : Passing xs from x i) (below : x <
       look-inside = rw read law-runs.in_order.0.inside
 
       -- a byte before the run is not written, nor are those up to it
-      pub look-before : x < r.start → Looked xs from x (look_of 0 r.start i)
-      look-before h =
-          let s = see-gap f x below r rs law-runs.in_order means h in
-          record { passing = p; first = subst (Open x) (sym first_run) (omega arith); cell = sym s.0; next = sym s.1 }
+      pub look-before : {n : ℕ} → n ≡ r.start → x < n → Looked xs from x (look_of 0 n i)
+      look-before e h =
+          let s = see-gap f x below r rs law-runs.in_order means (omega arith) in
+          record { passing = p; first = subst (Open x) (sym first_run) (omega arith); cell = sym s.0; next = e ∙ sym s.1 }
 
       -- one of its bytes has its cell, up to its end
-      pub look_in : r.start ≤ x → x < r.start + l → {c : ℕ} → c ≡ r.cell → Looked xs from x (look_of c (r.start + l) i)
-      look_in h k e =
+      pub look_in : r.start ≤ x → x < r.start + l → {c n : ℕ} → c ≡ r.cell → n ≡ r.start + l → Looked xs from x (look_of c n i)
+      look_in h k e d =
           let u : x < r.start + r.length = omega arith in
           let s = see-run f x below r rs law-runs.in_order means h u in
-          record { passing = p; first = subst (Open x) (sym first_run) u; cell = e ∙ sym s.0; next = rw read (sym s.1) }
+          record { passing = p; first = subst (Open x) (sym first_run) u; cell = e ∙ sym s.0; next = d ∙ rw read (sym s.1) }
 
       -- a run that ends at the byte or before is passed
       pub look-on : r.start + l ≤ x → Passing xs from x (i + 1)

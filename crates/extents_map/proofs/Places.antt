@@ -13,13 +13,13 @@ use Rattle.extents_map.proofs.Looking.{numbered-drop}
 
 -- what stands at the place of run i
 pub record Here (xs : List ℕ) (i : ℕ) : Type 0 where
-  pub start : get_or xs (i * 4) 0 ≡ (run_no (runs xs) i).start
-  pub end : get_or xs (i * 4) 0 + get_or xs (i * 4 + 1) 0 ≡ end_of (run_no (runs xs) i)
-  pub cell : get_or xs (i * 4 + 2) 0 * 2 + get_or xs (i * 4 + 3) 0 ≡ (run_no (runs xs) i).cell
-  pub room : i * 4 + 4 ≤ length xs
+  pub start : get_or xs (4 * i) 0 ≡ (run_no (runs xs) i).start
+  pub end : get_or xs (4 * i) 0 + get_or xs (4 * i + 1) 0 ≡ end_of (run_no (runs xs) i)
+  pub cell : get_or xs (4 * i + 2) 0 * 2 + get_or xs (4 * i + 3) 0 ≡ (run_no (runs xs) i).cell
+  pub room : 4 * i + 4 ≤ length xs
   pub inside : end_of (run_no (runs xs) i) ≤ OFFSET_MAX
   pub low : (run_no (runs xs) i).cell ≤ 8193
-  pub filled : 1 ≤ get_or xs (i * 4 + 1) 0
+  pub filled : 1 ≤ get_or xs (4 * i + 1) 0
 
 -- At the place of run i stands run i.
 pub here : (xs : List ℕ) (i : ℕ) → lawful xs ≡ true → i < length (runs xs) → Here xs i
@@ -27,10 +27,9 @@ here xs i e h =
     let m = lawful-map xs e in
     let rs = runs xs in
     let r = run_no rs i in
-    let q : 4 * i ≡ i * 4 = omega arith in
     let n = (next-at rs m.lawful-runs.in_order i h).0 in
     let k = rw (drop-cons rs i (run_of 0 0 0) h) at (numbered-drop rs m.lawful-runs.numbered i) in
-    let a = rw q at (run_at_lem xs e (take i rs) (drop (suc i) rs) r i (split_at rs i (run_of 0 0 0) h) (length-take-le i rs (omega arith))) in
+    let a = run_at_lem xs e (take i rs) (drop (suc i) rs) r i (split_at rs i (run_of 0 0 0) h) (length-take-le i rs (omega arith)) in
     record {
       start = a.0;
       end = λ j. a.0 j + a.1 j;
@@ -61,4 +60,6 @@ module _ (xs : List ℕ) (e : lawful xs ≡ true) (i : ℕ) where
 
   -- No run stands where the length is 0.
   pub count_none : get_or xs (i * 4 + 1) 0 ≡ 0 → length (runs xs) ≤ i
-  count_none z = let none : i < length (runs xs) → ⊥ = λ h. omega (arith, (here xs i e h).filled) in omega arith
+  count_none z =
+      let q : 4 * i ≡ i * 4 = omega arith in
+      let none : i < length (runs xs) → ⊥ = λ h. omega (arith, rw q at (here xs i e h).filled) in omega arith

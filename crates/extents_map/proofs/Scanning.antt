@@ -6,7 +6,7 @@ use lib.ListN.{get_or}
 use lib.Dec.{eqb}
 use lib.Bits.{or_zero_r, or_add_and, and_le_l}
 use borrow.Author.Tests.{not-false}
-use Rattle.extents_meaning.specs.Maps.{all_zero}
+use Rattle.extents_meaning.specs.Maps.{all_zero, follows}
 use Rattle.extents_meaning.proofs.Trips.{May, may_out, follows_at}
 
 -- ---- Zeros
@@ -36,3 +36,8 @@ module _ (xs : List ℕ) (bits i : ℕ) where
 pub may_range : (xs : List ℕ) (i end cell : ℕ) {r : Bool} → r ≡ follows_at end cell i xs → not r ≡ false →
     May end cell (get_or xs (4 * i) 0) (get_or xs (4 * i + 1) 0) (get_or xs (4 * i + 2) 0) (get_or xs (4 * i + 3) 0)
 may_range xs i end cell {r} t e = may_out end cell _ _ _ _ (sym t ∙ not-false r e)
+
+-- The test of a run that was read is that of the numbers at its place.
+pub follows_read : (xs : List ℕ) (i end cell : ℕ) {s l n k : ℕ} {r : Bool} → r ≡ follows end cell s l n k → s ≡ get_or xs (4 * i) 0 →
+    l ≡ get_or xs (4 * i + 1) 0 → n ≡ get_or xs (4 * i + 2) 0 → k ≡ get_or xs (4 * i + 3) 0 → follows_at end cell i xs ≡ r
+follows_read xs i end cell t a b d e = sym (t ∙ rw (a, b, d, e))

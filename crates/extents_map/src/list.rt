@@ -4,8 +4,10 @@ ghost use Rattle.extents_meaning.specs.Runs.{pieces_of};
 ghost use Rattle.extents_meaning.specs.Maps.{bytes_of, lawful, listed_in};
 ghost use Rattle.extents_map.specs.Pieces.{Room, Turned};
 
+use crate::scan;
+
 // How many pieces are put, and the one in hand, whose bytes from `start` on have the value; none is in hand where the value is 0.
-#[derive(Clone, Copy)]
+#[derive(Clone, Copy, Debug, PartialEq, Eq, Hash)]
 struct Piece {
     count: usize,
     start: u32,
@@ -20,17 +22,17 @@ pub fn list(map: &[u32], from: u32, to: u32, out: &mut [u32]) -> usize
     ensures out_after { out.new ≡ listed_in (pieces_of (bytes_of map.now) from (to - from)) out.old }
 {
     let mut x = from;
-    let mut i = crate::scan::seek(map, from);
+    let mut i = scan::seek(map, from);
     let mut hand = Piece {
         count: 0,
         start: from,
         value: 0,
     };
     while x < to {
-        let s = crate::scan::see(map, i, x);
+        let s = scan::see(map, i, x);
         hand = turn(out, hand, x, s.cell / 2 + 1);
         i = s.at;
-        x = crate::scan::least(s.next, to);
+        x = s.next.min(to);
     }
     let last = turn(out, hand, x, 0);
     last.count

@@ -6,7 +6,7 @@ ghost use Rattle.extents_meaning.specs.Maps.{runs, lawful};
 ghost use Rattle.extents_map.specs.Beside.{end_of, run_no, run_before};
 
 // The part of a run that stays beside a range: its start, its length, which may be 0, and its cell; and where the range then ends on this side.
-#[derive(Clone, Copy)]
+#[derive(Clone, Copy, Debug, PartialEq, Eq, Hash)]
 pub struct Side {
     pub start: u32,
     pub length: u32,
@@ -14,22 +14,57 @@ pub struct Side {
     pub bound: u32,
 }
 
+// The four numbers of a run.
+#[derive(Clone, Copy, Debug, PartialEq, Eq, Hash)]
+pub(crate) struct Run {
+    pub start: u32,
+    pub length: u32,
+    pub number: u32,
+    pub mark: u32,
+}
+
+impl Run {
+    // The byte behind the run.
+    pub(crate) fn end(self) -> u32
+        requires { self.start + self.length ≤ OFFSET_MAX }
+        ensures { result ≡ self.start + self.length }
+    {
+        self.start + self.length
+    }
+
+    // The run's cell.
+    pub(crate) fn cell(self) -> u32
+        requires { cell_of self.number self.mark ≤ OFFSET_MAX }
+        ensures { result ≡ cell_of self.number self.mark }
+    {
+        self.number * 2 + self.mark
+    }
+}
+
+// The run at place i of a slice.
+pub(crate) fn run_at(map: &[u32], i: usize) -> Run
+    requires { 4 * i + 4 ≤ length map.now }
+    ensures start { result.start ≡ get_or map.now (4 * i) 0 }
+    ensures length { result.length ≡ get_or map.now (4 * i + 1) 0 }
+    ensures number { result.number ≡ get_or map.now (4 * i + 2) 0 }
+    ensures mark { result.mark ≡ get_or map.now (4 * i + 3) 0 }
+{
+    let at = 4 * i;
+    Run {
+        start: map[at],
+        length: map[at + 1],
+        number: map[at + 2],
+        mark: map[at + 3],
+    }
+}
+
 // How many runs a map has.
 pub fn runs_in(map: &[u32]) -> usize
     requires { lawful map.now ≡ true }
     ensures { result ≡ length (runs map.now) }
 {
-    let mut lo = 0;
-    let mut hi = map.len() / 4;
-    while lo < hi {
-        let mid = middle(lo, hi);
-        if length_of(map, mid * 4) == 0 {
-            hi = mid;
-        } else {
-            lo = mid + 1;
-        }
-    }
-    lo
+    let (quads, _) = map.as_chunks::<4>();
+    quads.partition_point(|run| run[1] != 0)
 }
 
 // Where run i starts.
@@ -37,7 +72,7 @@ pub fn start_at(map: &[u32], i: usize) -> u32
     requires { (lawful map.now ≡ true) × (i < length (runs map.now)) }
     ensures { result ≡ (run_no (runs map.now) i).start }
 {
-    map[i * 4]
+    run_at(map, i).start
 }
 
 // Where run i ends.
@@ -45,7 +80,7 @@ pub fn end_at(map: &[u32], i: usize) -> u32
     requires { (lawful map.now ≡ true) × (i < length (runs map.now)) }
     ensures { result ≡ end_of (run_no (runs map.now) i) }
 {
-    end_of(map, i * 4)
+    run_at(map, i).end()
 }
 
 // The cell of run i.
@@ -53,7 +88,7 @@ pub fn cell_at(map: &[u32], i: usize) -> u32
     requires { (lawful map.now ≡ true) × (i < length (runs map.now)) }
     ensures { result ≡ (run_no (runs map.now) i).cell }
 {
-    cell_of(map, i * 4)
+    run_at(map, i).cell()
 }
 
 // The first run that ends behind byte x.
@@ -63,47 +98,6 @@ pub fn first_past(map: &[u32], all: usize, x: u32) -> usize
     ensures passed { end_of (run_before (runs map.now) result) ≤ x }
     ensures not_passed { result < all → x < end_of (run_no (runs map.now) result) }
 {
-    let mut lo = 0;
-    let mut hi = all;
-    while lo < hi {
-        let mid = middle(lo, hi);
-        if x < end_at(map, mid) {
-            hi = mid;
-        } else {
-            lo = mid + 1;
-        }
-    }
-    lo
-}
-
-// A number halfway between two others, not below the lower one and below the upper one.
-fn middle(lo: usize, hi: usize) -> usize
-    requires { lo < hi }
-    ensures { (lo ≤ result) × (result < hi) }
-{
-    lo + (hi - lo) / 2
-}
-
-// The length of the run at a place of a slice.
-pub(crate) fn length_of(map: &[u32], at: usize) -> u32
-    requires { at + 4 ≤ length map.now }
-    ensures { result ≡ get_or map.now (at + 1) 0 }
-{
-    map[at + 1]
-}
-
-// The byte behind the run at a place of a slice.
-pub(crate) fn end_of(map: &[u32], at: usize) -> u32
-    requires { (at + 4 ≤ length map.now) × (get_or map.now at 0 + get_or map.now (at + 1) 0 ≤ OFFSET_MAX) }
-    ensures { result ≡ get_or map.now at 0 + get_or map.now (at + 1) 0 }
-{
-    map[at] + map[at + 1]
-}
-
-// The cell of the run at a place of a slice.
-pub(crate) fn cell_of(map: &[u32], at: usize) -> u32
-    requires { (at + 4 ≤ length map.now) × (cell_of (get_or map.now (at + 2) 0) (get_or map.now (at + 3) 0) ≤ OFFSET_MAX) }
-    ensures { result ≡ cell_of (get_or map.now (at + 2) 0) (get_or map.now (at + 3) 0) }
-{
-    map[at + 2] * 2 + map[at + 3]
+    let (quads, _) = map.as_chunks::<4>();
+    quads[..all].partition_point(|run| u64::from(run[0]) + u64::from(run[1]) <= u64::from(x))
 }

@@ -1,13 +1,16 @@
 // Reading maps: whether a map is lawful, which cell a byte has, and how many runs a mix of two maps has.
-ghost use Rattle.std.specs.Prelude.{◌+◌, ◌*◌, ◌-◌, ◌≤◌, ◌<◌, min, max, ◌≡◌, true, cond, not, ◌&&◌, length, get_or, drop, eqb};
+ghost use Rattle.std.specs.Prelude.{◌+◌, ◌*◌, ◌-◌, ◌≤◌, ◌<◌, ◌≡◌, true, cond, not, ◌&&◌, length, eqb};
 ghost use Rattle.extents_meaning.specs.Cells.{number_in, mark_in, in_range};
 ghost use Rattle.extents_meaning.specs.Runs.{runs_from};
 ghost use Rattle.extents_meaning.specs.Maps.{runs, bytes_of, all_zero, follows, lawful, no_marks, lawful_published};
 ghost use Rattle.extents_map.specs.Mixes.{mixed as Mixes·mixed, mix_in};
 ghost use Rattle.extents_map.specs.Cursors.{Part, Passing, Looked, edge_of, BothLooked};
 
+use crate::locate;
+use crate::locate::Run;
+
 // The cell of a byte, the next byte that has another, and the run to go on from: the first that does not end at the byte or before.
-#[derive(Clone, Copy)]
+#[derive(Clone, Copy, Debug, PartialEq, Eq, Hash)]
 pub struct Look {
     pub cell: u32,
     pub next: u32,
@@ -22,71 +25,43 @@ pub fn is_lawful(map: &[u32]) -> bool
         return false;
     }
     let space = map.len() / 4;
-    let mut i = 0;
     let mut end = 0;
     let mut cell = 0;
-    while i < space {
-        let at = 4 * i;
-        if crate::locate::length_of(map, at) == 0 {
-            return is_zero(map, at);
+    for i in 0..space {
+        let run = locate::run_at(map, i);
+        if run.length == 0 {
+            return is_zero(&map[4 * i..]);
         }
-        if !may_stand(map, at, end, cell) {
+        if !may_follow(end, cell, run) {
             return false;
         }
-        end = crate::locate::end_of(map, at);
-        cell = crate::locate::cell_of(map, at);
-        i += 1;
+        end = run.end();
+        cell = run.cell();
     }
     true
 }
 
-// Are all numbers from a place on 0? The loop gathers their bits.
-fn is_zero(map: &[u32], from: usize) -> bool
-    ensures { result ≡ all_zero (drop from map.now) }
+// Are all numbers 0? The loop gathers their bits.
+fn is_zero(numbers: &[u32]) -> bool
+    ensures { result ≡ all_zero numbers.now }
 {
     let mut bits = 0;
-    let mut i = from;
-    while i < map.len() {
-        bits |= map[i];
-        i += 1;
+    for number in numbers {
+        bits |= *number;
     }
     bits == 0
 }
 
-// May the run at a place of a slice follow one that ends at `end` with the cell `cell`?
-fn may_stand(map: &[u32], at: usize, end: u32, cell: u32) -> bool
-    requires { at + 4 ≤ length map.now }
-    ensures { result ≡ follows end cell (get_or map.now at 0) (get_or map.now (at + 1) 0) (get_or map.now (at + 2) 0) (get_or map.now (at + 3) 0) }
-{
-    may_follow(end, cell, map[at], map[at + 1], map[at + 2], map[at + 3])
-}
-
 // May a run follow one that ends at `end` with the cell `cell`?
-fn may_follow(end: u32, cell: u32, start: u32, length: u32, number: u32, mark: u32) -> bool
-    ensures { result ≡ follows end cell start length number mark }
+fn may_follow(end: u32, cell: u32, run: Run) -> bool
+    ensures { result ≡ follows end cell run.start run.length run.number run.mark }
 {
-    if start < end {
-        return false;
-    }
-    if rows::OFFSET_MAX - start < length {
-        return false;
-    }
-    if number < 1 {
-        return false;
-    }
-    if rows::ROWS < number {
-        return false;
-    }
-    if 1 < mark {
-        return false;
-    }
-    if start != end {
-        return true;
-    }
-    if number * 2 + mark == cell {
-        return false;
-    }
-    true
+    end <= run.start
+        && run.length <= rows::OFFSET_MAX - run.start
+        && 1 <= run.number
+        && run.number <= rows::ROWS
+        && run.mark <= 1
+        && (run.start != end || run.cell() != cell)
 }
 
 // Is the map lawful, with every mark 0?
@@ -103,17 +78,14 @@ pub fn is_published(map: &[u32]) -> bool
 fn has_no_marks(map: &[u32]) -> bool
     ensures { result ≡ no_marks (runs map.now) }
 {
-    let space = map.len() / 4;
-    let mut i = 0;
-    while i < space {
-        let at = 4 * i;
-        if crate::locate::length_of(map, at) == 0 {
+    for i in 0..map.len() / 4 {
+        let run = locate::run_at(map, i);
+        if run.length == 0 {
             return true;
         }
-        if map[at + 3] % 2 == 1 {
+        if run.mark % 2 == 1 {
             return false;
         }
-        i += 1;
     }
     true
 }
@@ -124,38 +96,34 @@ pub fn see(map: &[u32], from: usize, x: u32) -> Look
     ensures { Looked map.now from x result }
 {
     let space = map.len() / 4;
-    let mut i = from;
-    while i < space {
-        let at = 4 * i;
-        let length = crate::locate::length_of(map, at);
-        if length == 0 {
+    for i in from..space {
+        let run = locate::run_at(map, i);
+        if run.length == 0 {
             return Look {
                 cell: 0,
                 next: rows::OFFSET_MAX,
                 at: i,
             };
         }
-        let start = map[at];
-        if x < start {
+        if x < run.start {
             return Look {
                 cell: 0,
-                next: start,
+                next: run.start,
                 at: i,
             };
         }
-        if x - start < length {
+        if x - run.start < run.length {
             return Look {
-                cell: crate::locate::cell_of(map, at),
-                next: start + length,
+                cell: run.cell(),
+                next: run.end(),
                 at: i,
             };
         }
-        i += 1;
     }
     Look {
         cell: 0,
         next: rows::OFFSET_MAX,
-        at: i,
+        at: space,
     }
 }
 
@@ -164,8 +132,8 @@ pub fn seek(map: &[u32], x: u32) -> usize
     requires { lawful map.now ≡ true }
     ensures { Passing map.now 0 x result }
 {
-    let all = crate::locate::runs_in(map);
-    crate::locate::first_past(map, all, x)
+    let all = locate::runs_in(map);
+    locate::first_past(map, all, x)
 }
 
 // The row number of a cell.
@@ -183,7 +151,7 @@ pub fn mark_in(cell: u32) -> u32
 }
 
 // What a mix makes of the cells of two maps, a view and the published map.
-#[derive(Clone, Copy)]
+#[derive(Clone, Copy, Debug, PartialEq, Eq, Hash)]
 pub enum Mode {
     Publish,
     MarkPublished,
@@ -193,7 +161,7 @@ pub enum Mode {
 }
 
 // A mix of two maps and a range that has a cell of its own.
-#[derive(Clone, Copy)]
+#[derive(Clone, Copy, Debug, PartialEq, Eq, Hash)]
 pub struct Mix {
     pub mode: Mode,
     pub start: u32,
@@ -202,7 +170,7 @@ pub struct Mix {
 }
 
 // What two maps and a range have at a byte, the next byte at which one of them changes, and the runs to go on from.
-#[derive(Clone, Copy)]
+#[derive(Clone, Copy, Debug, PartialEq, Eq, Hash)]
 pub struct Both {
     pub cell: u32,
     pub other: u32,
@@ -225,7 +193,7 @@ pub fn see_both(map: &[u32], i: usize, other: &[u32], j: usize, mix: Mix, x: u32
         cell: v.cell,
         other: w.cell,
         inside: is_inside(start, end, x),
-        next: least(least(v.next, w.next), edge(start, end, x)),
+        next: v.next.min(w.next).min(edge(start, end, x)),
         i: v.at,
         j: w.at,
     }
@@ -249,7 +217,7 @@ pub fn count(map: &[u32], below: &[u32], mix: Mix, from: u32, to: u32) -> usize
         last = here;
         i = s.i;
         j = s.j;
-        x = least(s.next, to);
+        x = s.next.min(to);
     }
     n
 }
@@ -295,13 +263,7 @@ pub fn mixed(mix: Mix, inside: bool, v: u32, w: u32) -> u32
 fn begins(here: u32, last: u32) -> usize
     ensures { result ≡ cond (not (eqb here 0) && not (eqb here last)) 1 0 }
 {
-    if here == 0 {
-        return 0;
-    }
-    if here == last {
-        return 0;
-    }
-    1
+    usize::from(here != 0 && here != last)
 }
 
 // Does byte x lie in a range?
@@ -309,10 +271,7 @@ fn is_inside(start: u32, end: u32, x: u32) -> bool
     requires { start ≤ end }
     ensures { result ≡ in_range start (end - start) x }
 {
-    if x < start {
-        return false;
-    }
-    x < end
+    start <= x && x < end
 }
 
 // The next byte behind x at which a range starts or ends, the end of all bytes where there is none.
@@ -326,18 +285,4 @@ fn edge(start: u32, end: u32, x: u32) -> u32
         return end;
     }
     rows::OFFSET_MAX
-}
-
-// The smaller of two numbers.
-pub fn least(a: u32, b: u32) -> u32
-    ensures { result ≡ min a b }
-{
-    if a < b { a } else { b }
-}
-
-// The larger of two numbers.
-pub fn most(a: u32, b: u32) -> u32
-    ensures { result ≡ max a b }
-{
-    if a < b { b } else { a }
 }

@@ -14,10 +14,10 @@ pub turn-hand-requires : goal.turn-hand-requires
 turn-hand-requires c = look_room c.loop-x.invariant c.loop-x-test.true (omega arith) c.see-s.ensures
 
 pub loop-x-smaller : goal.loop-x-smaller
-loop-x-smaller c = omega (arith, c.least-x.ensures, look_further c.loop-x.invariant c.loop-x-test.true (omega arith) c.see-s.ensures)
+loop-x-smaller c = omega (arith, c.min-x.ensures, look_further c.loop-x.invariant c.loop-x-test.true (omega arith) c.see-s.ensures)
 
 pub loop-x-preserved : goal.loop-x-preserved
-loop-x-preserved c = look_next c.loop-x.invariant c.loop-x-test.true (omega arith) c.see-s.ensures c.turn-hand.ensures c.turn-hand.auto.out c.least-x.ensures
+loop-x-preserved c = look_next c.loop-x.invariant c.loop-x-test.true (omega arith) c.see-s.ensures c.turn-hand.ensures c.turn-hand.auto.out c.min-x.ensures
 
 pub turn-last-requires : goal.turn-last-requires
 turn-last-requires c = list_room c.loop-x.invariant.0 (λ h. absurd (omega (arith, c.loop-x-test.false)))

@@ -1,18 +1,18 @@
 -- `extents_map::locate::runs_in` meets its contract.
-use Rattle.std.proofs.Common.{arith, sym, ◌∙◌}
-use Rattle.extents_meaning.proofs.Trips.{lawful-map}
-use Rattle.extents_map.proofs.Places.{count-some, count_none}
+use Rattle.std.proofs.Common.{rules, tests, arith, ◌≡◌, true, false, List, ℕ, length, ap, subst, sym}
+use Rattle.std.specs.List.Sorted.{IsPartitionPoint, IsPartitionedBy}
+use Rattle.std.proofs.lemmas.List.Sorted.{IsPartitionPoint-from_clause}
+use Rattle.extents_map.proofs.Quads.{has_length, lengths_parted, runs-end}
 use Rattle.extents_map.proofs.locate.runs_in.Goals as goal
 
-pub loop-lo-init : goal.loop-lo-init
-loop-lo-init c = let m = lawful-map c.args.map.now c.requires in (omega arith, omega (arith, m.fit), omega arith)
-
-pub loop-lo-preserved-then-length_of-eq0 : goal.loop-lo-preserved-then-length_of-eq0
-loop-lo-preserved-then-length_of-eq0 c =
-    let none = count_none c.args.map.now c.requires _ (sym c.length_of.ensures ∙ c.if-length_of-eq0.true) in
-    (c.loop-lo.invariant.0, none, omega (arith, c.middle-mid.ensures.1))
-
-pub loop-lo-preserved : goal.loop-lo-preserved
-loop-lo-preserved c =
-    let more = count-some c.args.map.now c.requires _ (λ z. c.if-length_of-eq0.false (c.length_of.ensures ∙ z)) in
-    (omega arith, c.loop-lo.invariant.1, c.loop-lo.invariant.2)
+pub returns : goal.returns
+returns c =
+    let xs = c.args.map.now in
+    let r = c.partition_point.result in
+    let Point : List (List ℕ) → Type 0 = λ runs. IsPartitionPoint (λ run. has_length run ≡ true) (λ run. has_length run ≡ false) runs r in
+    let Parted : List (List ℕ) → Type 0 = IsPartitionedBy has_length in
+    let point =
+    IsPartitionPoint-from_clause has_length _ _ c.partition_point.ensures.partitioned
+    (subst Parted (sym c.as_chunks.ensures.front) (lengths_parted xs c.requires)) (λ a r q k. search (rules, tests)) in
+    runs-end xs c.requires r (omega (arith, c.partition_point.ensures.bound, ap (λ (l : List (List ℕ)). length l) c.as_chunks.ensures.front))
+    (subst Point c.as_chunks.ensures.front point)

@@ -6,6 +6,3 @@ use Rattle.extents_map.proofs.scan.is_lawful.Given as goal
 -- The map is lawful if the runs from run i on are lawful behind a run that ends at `end` with the cell `cell`.
 abbrev pub invariant-loop-i : goal.invariant-loop-i
 invariant-loop-i l = lawful l.map ≡ lawful_from (l.space - l.i) l.end l.cell (drop (4 * l.i) l.map)
-
-abbrev pub decreases-loop-i : goal.decreases-loop-i
-decreases-loop-i l = l.space - l.i
