@@ -30,7 +30,6 @@ use machine::Made;
 use machine_state::Machine;
 use rows::Row;
 use std::io::{self, Write};
-use streams::Read;
 use trace::Call;
 
 // The most bytes of a text.
@@ -503,8 +502,6 @@ fn run_lines<W: Write>(out: &mut W, input: &[u8], maps: &mut [u32]) -> io::Resul
 fn main(rt: HostRuntime) -> io::Result<()> {
     let mut maps = [0u32; 48];
     let mut input = [0u8; INPUT_ROOM];
-    match streams::read_all(&mut rt.stdin(), &mut input) {
-        Read::Failed(error) => Err(error),
-        Read::Whole(n) => run_lines(&mut rt.stdout(), &input[..n], &mut maps),
-    }
+    let n = streams::read_all(&mut rt.stdin(), &mut input)?;
+    run_lines(&mut rt.stdout(), &input[..n], &mut maps)
 }

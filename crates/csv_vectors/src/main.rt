@@ -17,7 +17,6 @@ ghost use Rattle.std.specs.Prelude.{◌≤◌, ◌<◌, length};
 use csv_field::Span;
 use csv_records::Status;
 use std::io::{self, Write};
-use streams::Read;
 
 // The limit of a case that meets no limit.
 const NO_LIMIT: usize = 1000;
@@ -319,8 +318,6 @@ fn run_lines<W: Write>(out: &mut W, input: &[u8]) -> io::Result<()> {
 
 fn main(rt: HostRuntime) -> io::Result<()> {
     let mut input = [0u8; INPUT_ROOM];
-    match streams::read_all(&mut rt.stdin(), &mut input) {
-        Read::Failed(error) => Err(error),
-        Read::Whole(n) => run_lines(&mut rt.stdout(), &input[..n]),
-    }
+    let n = streams::read_all(&mut rt.stdin(), &mut input)?;
+    run_lines(&mut rt.stdout(), &input[..n])
 }

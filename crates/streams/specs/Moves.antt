@@ -7,8 +7,6 @@ use Rattle.std.specs.declared.io.Error.{Error}
 use Rattle.std.specs.declared.io.ErrorKind.TheVariants.{Interrupted}
 use Rattle.streams.specs.declared.Moved.{Moved}
 use Rattle.streams.specs.declared.Moved.TheVariants.{Took, End, Again, Failed}
-use Rattle.streams.specs.declared.Read.{Read}
-use Rattle.streams.specs.declared.Read.TheVariants.{Whole, Failed as ReadFailed}
 
 -- C's number of an interrupted call.
 abbrev pub EINTR : ℕ
@@ -26,9 +24,9 @@ outcome_of (pos zero) room error = End
 outcome_of (pos (suc got)) room error = Took (min (suc got) room)
 
 -- The number of bytes read lies within the buffer.
-abbrev pub Within : Read → List ℕ → Type 0
-Within (Whole n) buf = (n ≤ length buf) × (n ≡ length (take n buf))
-Within (ReadFailed error) buf = Unit {0}
+abbrev pub Within : Result ℕ Error → List ℕ → Type 0
+Within (Ok n) buf = (n ≤ length buf) × (n ≡ length (take n buf))
+Within (Err error) buf = Unit {0}
 
 -- An error's number is errno's where the error is the system's. Another error has EINTR's where it says that the call was interrupted, and
 -- otherwise 0, which is no error's.
@@ -44,6 +42,6 @@ AreNumbersOf (Err error) got number = (got ≡ negsuc 0) × IsNumberOf error num
 
 -- Where a reader's bytes are known: reading took the first of them, as they stand at the start of the buffer, and the buffer is full unless
 -- no byte is left.
-abbrev pub ReadsWhole : Option (List ℕ) → Option (List ℕ) → Read → List ℕ → Type 0
-ReadsWhole old new (Whole n) buf = Consumes old new (take n buf) × (n < length buf → IsAtEnd new)
-ReadsWhole old new (ReadFailed error) buf = Unit {0}
+abbrev pub ReadsWhole : Option (List ℕ) → Option (List ℕ) → Result ℕ Error → List ℕ → Type 0
+ReadsWhole old new (Ok n) buf = Consumes old new (take n buf) × (n < length buf → IsAtEnd new)
+ReadsWhole old new (Err error) buf = Unit {0}

@@ -1,7 +1,7 @@
 // Standard input and output for programs: reading to the end and writing all, with a failed call told from the end of the input.
 #![tactic(auto)]
 
-ghost use Rattle.std.specs.Prelude.{◌≡◌, ◌<◌, ◌^◌, min, length, IfOk, OnOk, IsOk, IfErr};
+ghost use Rattle.std.specs.Prelude.{◌≡◌, ◌<◌, ◌^◌, length, IfOk, OnOk, IsOk, IfErr};
 ghost use Rattle.std.specs.Io.KnownBytes.{Appends};
 ghost use Rattle.std.specs.IoError.{error_kind};
 ghost use Rattle.streams.specs.Moves.{outcome_of, IsNumberOf, AreNumbersOf, Within, ReadsWhole};
@@ -17,19 +17,12 @@ const EINTR: i32 = 4;
 
 // What a call of C's read or write came to: the call moved so many bytes, the input has ended, a signal interrupted the call before it moved
 // a byte, or the call failed.
-#[derive(Clone, Copy)]
+#[derive(Clone, Copy, Debug, PartialEq, Eq, Hash)]
 pub enum Moved {
     Took(usize),
     End,
     Again,
     Failed,
-}
-
-// What reading to the end came to: so many bytes at the start of the buffer, or a read that failed, with its error.
-#[derive(Clone, Copy)]
-pub enum Read {
-    Whole(usize),
-    Failed(io::Error),
 }
 
 // Decides what a call on a buffer with `room` bytes came to, from its answer and from errno.
@@ -46,14 +39,7 @@ pub fn outcome(got: isize, room: usize, error: i32) -> Moved
     if got == 0 {
         return Moved::End;
     }
-    Moved::Took(least(got as usize, room))
-}
-
-// Answers the smaller of two sizes.
-fn least(a: usize, b: usize) -> usize
-    ensures { result ≡ min a b }
-{
-    if a < b { a } else { b }
+    Moved::Took((got as usize).min(room))
 }
 
 // The number of an error, as errno has it. An error that is not the system's has EINTR's where it says that the call was interrupted, and
@@ -95,13 +81,15 @@ fn reason(answer: io::Result<usize>) -> io::Error
     }
 }
 
-// Reads until the buffer is full or the input ends. A read that fails is never taken for the end; an interrupted one is made again.
-pub fn read_all<R: io::Read>(reader: &mut R, buf: &mut [u8]) -> Read
+// Reads until the buffer is full or the input ends, and answers how many bytes these are. A read that fails is never taken for the end; an
+// interrupted one is made again.
+pub fn read_all<R: io::Read>(reader: &mut R, buf: &mut [u8]) -> io::Result<usize>
     ensures within { Within result buf.new }
     ensures whole { ReadsWhole (R.remaining reader.old) (R.remaining reader.new) result buf.new }
 {
     let mut done = 0;
     let mut tries = TRIES;
+    // A loop by hand: a turn goes on by as many bytes as the call moved.
     while done < buf.len() {
         let room = buf.len() - done;
         let answer = reader.read(&mut buf[done..]);
@@ -111,20 +99,20 @@ pub fn read_all<R: io::Read>(reader: &mut R, buf: &mut [u8]) -> Read
                 done += n;
             }
             Moved::End => {
-                return Read::Whole(done);
+                return Ok(done);
             }
             Moved::Again => {
                 if tries == 0 {
-                    return Read::Failed(reason(answer));
+                    return Err(reason(answer));
                 }
                 tries -= 1;
             }
             Moved::Failed => {
-                return Read::Failed(reason(answer));
+                return Err(reason(answer));
             }
         }
     }
-    Read::Whole(done)
+    Ok(done)
 }
 
 // Writes all bytes, or answers an error at the first write that fails or takes nothing. An interrupted write is made again. No bytes are
@@ -135,6 +123,7 @@ pub fn write_all<W: io::Write>(writer: &mut W, bytes: &[u8]) -> io::Result<()>
 {
     let mut done = 0;
     let mut tries = TRIES;
+    // A loop by hand: a turn goes on by as many bytes as the call moved.
     while done < bytes.len() {
         let room = bytes.len() - done;
         let answer = writer.write(&bytes[done..]);

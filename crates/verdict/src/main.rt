@@ -3,7 +3,6 @@
 #![tactic(auto)]
 
 use std::io;
-use streams::Read;
 
 // Room for every report.
 const REPORT: usize = 256;
@@ -33,15 +32,15 @@ fn say(rt: &(impl Eprint + Alloc), stream: &str, error: io::Error) -> io::Result
 fn main(rt: HostRuntime) {
     let mut input = [0u8; checker::INPUT];
     match streams::read_all(&mut rt.stdin(), &mut input) {
-        Read::Failed(error) => {
-            let _ = say(&rt, "standard input", error);
-        }
-        Read::Whole(n) => {
+        Ok(n) => {
             let mut lines = [0u8; REPORT];
             let m = checker::report_input(&input, n, &mut lines);
             if let Err(error) = streams::write_all(&mut rt.stdout(), &lines[..m]) {
                 let _ = say(&rt, "standard output", error);
             }
+        }
+        Err(error) => {
+            let _ = say(&rt, "standard input", error);
         }
     }
 }
