@@ -28,14 +28,25 @@ fn libraries() -> Vec<String> {
     names.filter(|name| root().join("crates").join(name).join("src/lib.rt").exists()).collect()
 }
 
-/// The source files that others can reach, with their paths: the root, and below it the modules declared `pub`.
-fn public_files(krate: &str) -> Vec<(String, String)> {
+/// The functions that others can reach: those of the root, of the modules below it that are declared `pub`, and what the root names by `pub use` of
+/// its other modules, under the root's path.
+fn public_functions(krate: &str) -> Vec<Function> {
     let folder = root().join("crates").join(krate).join("src");
     let text = read(&folder.join("lib.rt"));
-    let modules: Vec<&str> = text.lines().filter_map(|l| l.strip_prefix("pub mod ")?.strip_suffix(';')).collect();
-    let mut files = vec![(krate.to_string(), text.clone())];
-    files.extend(modules.iter().map(|m| (format!("{krate}::{m}"), read(&folder.join(format!("{m}.rt"))))));
-    files
+    let module = |m: &str| read(&folder.join(format!("{m}.rt")));
+    let mut found = functions(krate, &text);
+    for m in text.lines().filter_map(|l| l.strip_prefix("pub mod ")?.strip_suffix(';')) {
+        found.extend(functions(&format!("{krate}::{m}"), &module(m)));
+    }
+    for (m, names) in text.lines().filter_map(|l| l.strip_prefix("pub use ")?.strip_suffix(';')?.split_once("::")) {
+        if !folder.join(format!("{m}.rt")).exists() {
+            continue;
+        }
+        let names: Vec<&str> = names.trim_matches(['{', '}']).split(", ").collect();
+        let of_root = |f: &Function| names.contains(&f.name[krate.len() + 2..].split("::").next().expect("a name"));
+        found.extend(functions(krate, &module(m)).into_iter().filter(of_root));
+    }
+    found
 }
 
 struct Function {
@@ -80,13 +91,26 @@ fn closed(text: &str, open: usize) -> usize {
     panic!("a brace is not closed: {}", &text[open..])
 }
 
+/// Whether a declaration without a body ends in a text: a semicolon stands there outside of all brackets.
+fn ends_without_body(text: &str) -> bool {
+    let mut depth = 0;
+    text.chars().any(|c| {
+        match c {
+            '(' | '[' => depth += 1,
+            ')' | ']' => depth -= 1,
+            _ => {}
+        }
+        c == ';' && depth == 0
+    })
+}
+
 /// The signature and the clauses of the function that a text starts with. A clause is a word, perhaps a name, and braces around what it says, on one
 /// line or several; the first braces without such a word are those of the body.
 fn parts(text: &str) -> (String, Vec<String>) {
     let (mut signature, mut clauses, mut rest) = (None, Vec::new(), text);
     loop {
         let open = rest.find('{').expect("a function has a body");
-        let clause = clause_in(&rest[..open]);
+        let clause = clause_in(&rest[..open]).filter(|at| !ends_without_body(&rest[..*at]));
         signature.get_or_insert_with(|| squeezed(&rest[..clause.unwrap_or(open)]));
         let Some(at) = clause else {
             return (signature.expect("it was put"), clauses);
@@ -97,18 +121,26 @@ fn parts(text: &str) -> (String, Vec<String>) {
     }
 }
 
-/// The functions of a file that are `pub`, in the file's order, each with the comment above it.
+/// The name of a type or trait in the head of its `impl` or `trait`, without parameters and bounds.
+fn without_parameters(head: &str) -> &str {
+    let head = if head.starts_with('<') { head.split_once("> ").map_or(head, |(_, rest)| rest) } else { head };
+    head.trim().split(['<', ':']).next().expect("a name")
+}
+
+/// The functions of a file that are `pub`, and those of its public traits, in the file's order, each with the comment above it.
 fn functions(path: &str, text: &str) -> Vec<Function> {
     let (mut found, mut about, mut owner) = (Vec::new(), Vec::new(), String::new());
-    let (mut at, mut attribute) = (0, 0);
+    let (mut at, mut attribute, mut in_trait) = (0, 0, false);
     for whole in text.split_inclusive('\n') {
         let (start, line) = (at, whole.trim_end());
         at += whole.len();
         let word = line.trim_start();
-        if let Some(name) = line.strip_prefix("impl ").and_then(|l| l.strip_suffix(" {")) {
-            owner = format!("{name}::");
+        if let Some(name) = line.strip_suffix(" {").and_then(|l| l.strip_prefix("impl").or_else(|| l.strip_prefix("pub trait "))) {
+            owner = format!("{}::", without_parameters(name));
+            in_trait = line.starts_with("pub trait ");
         } else if line == "}" {
             owner.clear();
+            in_trait = false;
         }
         // An attribute, such as `#[tactic(..)]`, may stand on several lines between the comment and the function.
         if attribute > 0 || word.starts_with("#[") {
@@ -120,7 +152,8 @@ fn functions(path: &str, text: &str) -> Vec<Function> {
             about.push(comment);
             continue;
         }
-        let rest = word.strip_prefix("pub extern \"C\" fn ").or_else(|| word.strip_prefix("pub fn "));
+        let of_trait = word.strip_prefix("fn ").filter(|_| in_trait);
+        let rest = word.strip_prefix("pub extern \"C\" fn ").or_else(|| word.strip_prefix("pub fn ")).or(of_trait);
         if let Some(rest) = rest {
             let name = rest.split(['(', '<']).next().expect("a name");
             let (signature, clauses) = parts(&text[start..]);
@@ -134,7 +167,7 @@ fn functions(path: &str, text: &str) -> Vec<Function> {
 fn listed() -> String {
     let mut out = ABOUT.to_string();
     for krate in libraries() {
-        let found: Vec<Function> = public_files(&krate).iter().flat_map(|(path, text)| functions(path, text)).collect();
+        let found = public_functions(&krate);
         if found.is_empty() {
             continue;
         }
@@ -173,7 +206,7 @@ const MAY_ASK: [&str; 8] =
 fn every_public_function_promises_something() {
     let mut seen = 0;
     for krate in libraries() {
-        for f in public_files(&krate).iter().flat_map(|(path, text)| functions(path, text)) {
+        for f in public_functions(&krate) {
             assert!(!f.about.is_empty(), "{} has no comment", f.name);
             assert!(f.clauses.iter().any(|c| c.starts_with("ensures")), "{} promises nothing", f.name);
             let may_ask = MAY_ASK.iter().any(|m| f.name.strip_prefix(m).is_some_and(|rest| rest.starts_with("::")));
