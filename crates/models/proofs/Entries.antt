@@ -1,6 +1,8 @@
 -- The table in the code says for every model and kind what specs/Table.antt says, by one computed test.
-use Rattle.std.proofs.Common.{ℕ, ◌*◌, ◌/◌, ◌%◌, ◌+◌, ◌≤◌, ◌<◌, arith, ◌≡◌, refl, sym, ap, ◌∙◌, ◌∷◌, ◌⊎◌, inl, inr, Bool, true, false, not, List, [], slice_index_or, eq-eqb, ne_eqb}
+use Rattle.std.proofs.Common.{ℕ, ◌*◌, ◌/◌, ◌%◌, ◌+◌, ◌≤◌, ◌<◌, arith, ◌≡◌, refl, sym, ap, ◌∙◌, ◌∷◌, Bool, true, false, ◌&&◌, List, [], slice_index_or, eq-eqb, ne_eqb}
 use native.Mathlib.Decide.{ℕ_discrete}
+use Rattle.std.proofs.Math.Bool.{beq}
+use Rattle.rows.proofs.Bools.{and_out}
 use mathlib.Core.Bool.{and-false, false≢true}
 use Rattle.rows.specs.Limits.{MODELS}
 use Rattle.rows.specs.Counting.{any_below}
@@ -8,7 +10,7 @@ use Rattle.rows.proofs.Below.{each-passes}
 use Rattle.models.specs.declared.Marks.{Marks}
 use Rattle.rows.specs.Kinds.{READ, WRITE, KINDS}
 use Rattle.models.specs.Models.{POSIX}
-use Rattle.models.specs.Table.{publishes, refreshes}
+use Rattle.models.specs.Table.{publishes, refreshes, table_entry}
 
 -- ---- The table of the code
 
@@ -37,50 +39,52 @@ table =
     ∷ (N ∷ N ∷ N ∷ R ∷ P ∷ B ∷ N ∷ N ∷ N ∷ N ∷ [])  -- MPI-IO
     ∷ []
 
--- What a table has for a model and a kind.
-abbrev pub entry : List (List Marks) → ℕ → ℕ → Marks
-entry table model kind = slice_index_or (slice_index_or table model []) kind record { publishes = false; refreshes = false }
+-- What the table has for a model and a kind.
+abbrev pub entry : ℕ → ℕ → Marks
+entry model kind = slice_index_or (slice_index_or table model []) kind N
 
--- Two answers are the same.
-unfoldable pub same : Bool → Bool → Bool
-same true b = b
-same false b = not b
+-- Two entries say the same.
+same : Marks → Marks → Bool
+same x y = beq x.publishes y.publishes && beq x.refreshes y.refreshes
 
-same-is : (a b : Bool) → same a b ≡ true → a ≡ b
+beq-is : (a b : Bool) → beq a b ≡ true → a ≡ b
+beq-is true true e = refl
+beq-is true false e = absurd (false≢true e)
+beq-is false true e = absurd (false≢true e)
+beq-is false false e = refl
+
+same-is : (x y : Marks) → same x y ≡ true → x ≡ y
 unfolding same
-same-is true b e = sym e
-same-is false true e = e
-same-is false false e = refl
+same-is x y e =
+    let both = and_out (beq x.publishes y.publishes) (beq x.refreshes y.refreshes) e in
+    λ i. marks (beq-is _ _ both.0 i) (beq-is _ _ both.1 i)
 
--- At the place of each model and kind stands what a function of both answers, where one computed test passes.
-module _ (value : Marks → Bool) (answer : ℕ → ℕ → Bool) (table : List (List Marks)) where
-  unfoldable pub right : ℕ → Bool
-  right k = same (value (entry table (k / KINDS) (k % KINDS))) (answer (k / KINDS) (k % KINDS))
+-- The entry at a place of the table is the one of the place's model and kind.
+right : ℕ → Bool
+right k = same (entry (k / KINDS) (k % KINDS)) (table_entry (k / KINDS) (k % KINDS))
 
-  pub entry-right : any_below (MODELS * KINDS) (λ k. not (right k)) ≡ false → (model kind : ℕ) → model < MODELS → kind < KINDS →
-      value (entry table model kind) ≡ answer model kind
-  unfolding right
-  entry-right test model kind m k =
-      let i = model * KINDS + kind in
-      let d : i / KINDS ≡ model = omega arith in
-      let r : i % KINDS ≡ kind = omega arith in
-      let l : i < MODELS * KINDS = omega arith in
-      (λ j. value (entry table (sym d j) (sym r j))) ∙ same-is _ _ (each-passes (MODELS * KINDS) right test i l) ∙ (λ j. answer (d j) (r j))
+-- Within the table, the code reads the entry of the model and the kind.
+pub table-right : (model kind : ℕ) → model < MODELS → kind < KINDS → entry model kind ≡ table_entry model kind
+unfolding any_below right same publishes refreshes
+table-right model kind m k =
+    let i = model * KINDS + kind in
+    let d : i / KINDS ≡ model = omega arith in
+    let r : i % KINDS ≡ kind = omega arith in
+    let l : i < MODELS * KINDS = omega arith in
+    (λ j. entry (sym d j) (sym r j)) ∙ same-is _ _ (each-passes (MODELS * KINDS) right refl i l) ∙ (λ j. table_entry (d j) (r j))
 
--- A number that is no model, or no kind, neither publishes nor refreshes.
-pub no_publish : (model kind : ℕ) → (MODELS ≤ model) ⊎ (KINDS ≤ kind) → publishes model kind ≡ false
-unfolding publishes
-no_publish model kind (inl h) =
+-- A number that is no model publishes nothing and refreshes nothing.
+pub no_model : (model kind : ℕ) → MODELS ≤ model → table_entry model kind ≡ N
+unfolding publishes refreshes
+no_model model kind h =
     simp (ne_eqb model 0 (λ e. omega arith), ne_eqb model 1 (λ e. omega arith), ne_eqb model 2 (λ e. omega arith), ne_eqb model 3 (λ e. omega arith))
-no_publish model kind (inr h) =
-    simp (ne_eqb kind 1 (λ e. omega arith), ne_eqb kind 2 (λ e. omega arith), ne_eqb kind 4 (λ e. omega arith), ne_eqb kind 5 (λ e. omega arith), and-false)
 
-pub no_refresh : (model kind : ℕ) → (MODELS ≤ model) ⊎ (KINDS ≤ kind) → refreshes model kind ≡ false
-unfolding refreshes
-no_refresh model kind (inl h) =
-    simp (ne_eqb model 0 (λ e. omega arith), ne_eqb model 1 (λ e. omega arith), ne_eqb model 2 (λ e. omega arith), ne_eqb model 3 (λ e. omega arith))
-no_refresh model kind (inr h) =
-    simp (ne_eqb kind 0 (λ e. omega arith), ne_eqb kind 3 (λ e. omega arith), ne_eqb kind 5 (λ e. omega arith), and-false)
+-- A number that is no kind publishes nothing and refreshes nothing.
+pub no_kind : (model kind : ℕ) → KINDS ≤ kind → table_entry model kind ≡ N
+unfolding publishes refreshes
+no_kind model kind h =
+    simp
+    (ne_eqb kind 0 (λ e. omega arith), ne_eqb kind 1 (λ e. omega arith), ne_eqb kind 2 (λ e. omega arith), ne_eqb kind 3 (λ e. omega arith), ne_eqb kind 4 (λ e. omega arith), ne_eqb kind 5 (λ e. omega arith), and-false)
 
 -- A model whose writes publish refreshes at its reads.
 pub own-refresh : (model : ℕ) → publishes model WRITE ≡ true → refreshes model READ ≡ true

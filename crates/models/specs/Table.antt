@@ -1,6 +1,7 @@
 -- Which rows publish and which refresh, by model and kind.
 use Rattle.std.specs.Prelude.{ℕ, Bool, ◌&&◌, ◌||◌, eqb}
 use Rattle.rows.specs.Kinds.{READ, WRITE, COMMIT, OPEN, CLOSE, SYNC}
+use Rattle.models.specs.declared.Marks.{Marks}
 use Rattle.models.specs.Models.{POSIX, COMMIT_MODEL, SESSION, MPI_IO}
 
 -- The model is m and the kind is k.
@@ -20,3 +21,7 @@ refreshes model kind =
     under POSIX READ model kind
     || (under COMMIT_MODEL READ model kind
     || (under SESSION OPEN model kind || (under MPI_IO OPEN model kind || under MPI_IO SYNC model kind)))
+
+-- The table's entry for a row of this kind under this model: whether the row publishes, and whether it refreshes.
+abbrev pub table_entry : ℕ → ℕ → Marks
+table_entry model kind = record { publishes = publishes model kind; refreshes = refreshes model kind }

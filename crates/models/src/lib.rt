@@ -3,7 +3,7 @@
 
 ghost use Rattle.std.specs.Prelude.{◌≡◌};
 ghost use Rattle.models.specs.Models.{model_number};
-ghost use Rattle.models.specs.Table.{publishes, refreshes};
+ghost use Rattle.models.specs.Table.{publishes, refreshes, table_entry};
 
 // What decides when a write becomes visible to another process.
 #[derive(Clone, Copy, Debug, PartialEq, Eq, Hash)]
@@ -77,10 +77,9 @@ const TABLE: [[Marks; KINDS]; MODELS] = [
     ],
 ];
 
-// What a row of this kind does under this model; NEITHER for a number that is no model or no kind.
-fn marks_of(model: u32, kind: u32) -> Marks
-    ensures publishes { result.publishes ≡ publishes model kind }
-    ensures refreshes { result.refreshes ≡ refreshes model kind }
+// The table's entry for a row of this kind under this model; NEITHER for a number that is no model or no kind.
+fn table_entry(model: u32, kind: u32) -> Marks
+    ensures { result ≡ table_entry model kind }
 {
     if model < rows::MODELS && kind < rows::KINDS {
         TABLE[model as usize][kind as usize]
@@ -93,12 +92,12 @@ fn marks_of(model: u32, kind: u32) -> Marks
 pub fn is_publish(model: u32, kind: u32) -> bool
     ensures { result ≡ publishes model kind }
 {
-    marks_of(model, kind).publishes
+    table_entry(model, kind).publishes
 }
 
 // A row of this kind refreshes under this model.
 pub fn is_refresh(model: u32, kind: u32) -> bool
     ensures { result ≡ refreshes model kind }
 {
-    marks_of(model, kind).refreshes
+    table_entry(model, kind).refreshes
 }

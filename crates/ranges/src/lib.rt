@@ -19,6 +19,7 @@ pub fn overlap(a: u32, a_length: u32, b: u32, b_length: u32) -> u64
     YES - at_least(start, end)
 }
 
+// By arithmetic and not by `max`: the overlap is told by arithmetic alone (document 02, Two), and a comparison may become a branch.
 fn larger(a: u64, b: u64) -> u64
     requires { (a < TOP) × (b < TOP) }
     ensures { result ≡ max a b }
@@ -26,6 +27,7 @@ fn larger(a: u64, b: u64) -> u64
     b + above(a, b)
 }
 
+// By arithmetic and not by `min`, for the same reason as `larger`.
 fn smaller(a: u64, b: u64) -> u64
     requires { (a < TOP) × (b < TOP) }
     ensures { result ≡ min a b }
