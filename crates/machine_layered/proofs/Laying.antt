@@ -1,19 +1,20 @@
 -- What a row answers and leaves, from what the entries of the map of pieces answer and leave.
-use Rattle.std.proofs.Common.{ℕ, suc, ◌+◌, ◌*◌, ◌-◌, ◌/◌, ◌≤◌, ◌<◌, add-one, mul-le-mul_left, mul-le-mul_right, arith, ◌≡◌, refl, sym, ap, ◌∙◌, Bool, true, false, cond, ◌&&◌, List, [], ◌∷◌, ◌++◌, length, take, drop, lt-ltb, le-ltb, le-leb, leb-true, ne_eqb, eqb-true}
+use Rattle.std.proofs.Common.{ℕ, suc, ◌+◌, ◌*◌, ◌-◌, ◌/◌, ◌≤◌, ◌<◌, add-one, arith, ◌≡◌, refl, sym, ap, ◌∙◌, Bool, true, false, cond, ◌&&◌, List, [], ◌∷◌, length, take, drop, lt-ltb, le-ltb, le-leb, leb-true, ne_eqb, eqb-true}
 use mathlib.Core.Bool.{and-false, and_comm}
 use lib.Dec.{leb, ltb, eqb}
 use borrow.Author.Tests.{lt-leb, eqb-false}
 use borrow.Rule.Slice.PartMut.{put_mid}
-use Rattle.rows.specs.Limits.{MODELS, PROCESSES, FILES, ROWS, OFFSET_MAX}
+use Rattle.rows.specs.Limits.{MODELS, FILES, ROWS, OFFSET_MAX}
 use Rattle.rows.specs.Kinds.{READ, WRITE}
 use Rattle.models.specs.Table.{publishes, refreshes}
 use Rattle.rows.specs.declared.row.Row.{Row}
+use Rattle.rows.specs.Refusals.{number_of}
+use Rattle.rows.specs.declared.refusal.Refusal.{Refusal}
 use Rattle.rows.specs.Questions.{Question, first_no, is_process_limit}
 use Rattle.extents_meaning.specs.Cells.{Bytes, cell_of, overwrite, published, as_published, refreshed}
 use Rattle.extents_meaning.specs.Runs.{Run, runs_of, pieces_of}
 use Rattle.extents_meaning.specs.Maps.{map_for, threes, bytes_of, lawful, lawful_published, map_at, with_map, listed_in}
 use Rattle.rows.proofs.Bools.{and_out}
-use Rattle.rows.proofs.Limits.{limit-told}
 use Rattle.extents_meaning.proofs.Sides.{with_same}
 use Rattle.machine_meaning.specs.Layers.{Layers, after_row, pieces_read}
 use Rattle.machine_meaning.specs.States.{Header, maps_length, lawful_state, layers_in, layers_to, layers_fit, plain_fits}
@@ -22,27 +23,16 @@ use Rattle.machine_meaning.specs.Steps.{done, listed, row_asked, room_asked, ans
 use Rattle.machine_meaning.proofs.Slices.{Alike, alike-fit, alike-to}
 use Rattle.machine_meaning.proofs.Lawful.{here-fit, to_same}
 use Rattle.rows.proofs.Asking.{AllYes, all_yes, first-no, yes-behind}
-use Rattle.extents.specs.declared.Answer as extents
-use Rattle.extents.specs.declared.Answer.TheVariants.{Done, Refused}
+use Rattle.extents.specs.Answers.{Answer, Done, Refused}
 use Rattle.extents_meaning.specs.Pairs.{two_maps, view_of, below_of}
 use Rattle.extents.specs.Entries.{both_maps, or_refused, or_kept, listed_count, write_refusal, written_map, list_refusal, publish_refusal, published_maps, refresh_refusal, refreshed_maps, sync_refusal, synced_maps, write_through_refusal, written_through_maps, read_refusal}
 use Rattle.extents.proofs.Lent.{home, two-told, lent_map, map_lent, map_space}
 use Rattle.machine_state.specs.Answers.{answer_of, Steps, Ready}
 use Rattle.machine_state.proofs.Maps.{first-map, state_two, state_view, state_in, anew, fit-both, to_both, to_view_alone, shared', view', row-both}
 use Rattle.machine_state.proofs.Questions.{room-named, asked-yes, asked-process, asked-range}
-use Rattle.machine_state.proofs.Answering.{same_kept, carried, refused}
+use Rattle.machine_state.proofs.Answering.{numbered, same_kept, carried, refused}
 
 -- ---- Is the state lawful?
-
--- The map of process p lies in the slice.
-pub next-in : (size n len p : ℕ) → (n + 1) * size ≤ len → p < n → (p + 1) * size + size ≤ len
-next-in size n len p h l = let m : p + 1 + 1 ≤ n + 1 = omega arith in omega (arith, mul-le-mul_right size m)
-
--- The space of all maps is a number of 64 bits.
-pub limit-fits : (space n : ℕ) → space < 4294967296 → is_process_limit n ≡ true → space * (n + 1) < 18446744073709551616
-limit-fits space n h e =
-    let m : n + 1 ≤ PROCESSES + 1 = omega (arith, (limit-told n e).1) in
-    omega (arith, mul-le-mul_left space m)
 
 -- The answer for the lent part of the slice is the answer for the map.
 pub lent-lawful : (size p : ℕ) (xs : List ℕ) (b : Bool) → let at = (p + 1) * size in
@@ -109,19 +99,14 @@ module _ (h : Header) (xs : List ℕ) where
 -- ---- A row that is asked of a lawful state
 
 module _ (h : Header) (xs : List ℕ) (r : Row) (number : ℕ) (out : List ℕ) where
-  -- A step refuses an unlawful state by question 13.
-  pub unlawful-step : lawful_state h xs ≡ false → Steps (step_of h xs r number out) (Refused 13) xs out
-  unfolding step_of first_no
-  unlawful-step e =
-      let s = after_row h.model r number (layers_in h xs) in
-      let pieces = pieces_read r (s.view r.process) in
-      refused _ 13 xs out (λ i. cond (e i) (first_no (row_asked h r number ++ room_asked (layers_fit h s) pieces (length out))) 13) (λ z. omega arith)
-
   -- A step of a lawful state refuses by the first No of the row.
-  pub asked-step : lawful_state h xs ≡ true → {k : ℕ} → k ≡ first_no (row_asked h r number) → (k ≡ 0 → ⊥) →
-      Steps (step_of h xs r number out) (Refused k) xs out
+  pub asked-step : lawful_state h xs ≡ true → (refusal : Refusal) → number_of refusal ≡ first_no (row_asked h r number) →
+      Steps (step_of h xs r number out) (Refused (number_of refusal)) xs out
   unfolding step_of first_no
-  asked-step law {k} e n =
+  asked-step law refusal e =
+      let k = number_of refusal in
+      let low : 1 ≤ k = numbered refusal in
+      let n : k ≡ 0 → ⊥ = λ z. omega arith in
       let s = after_row h.model r number (layers_in h xs) in
       let pieces = pieces_read r (s.view r.process) in
       let first = first-no (row_asked h r number) (room_asked (layers_fit h s) pieces (length out)) (λ z. n (e ∙ z)) ∙ sym e in
@@ -242,7 +227,7 @@ module _ {h : Header} {xs : List ℕ} {r : Row} {number : ℕ} (k : Ready h xs r
 
     -- An entry that asks the same questions answers and leaves what the step does.
     module _ (out : List ℕ) {n : ℕ} (asks : n ≡ first_no (room_asked fits pieces (length out))) where
-      by-entry : {answer : extents.Answer} {maps' out' ys : List ℕ} →
+      by-entry : {answer : Answer} {maps' out' ys : List ℕ} →
           answer ≡ or_refused n (answer_of (answered r pieces (layers_to h state xs) out).answer) →
           maps' ≡ or_kept n ys xs → out' ≡ or_kept n (listed_in pieces out) out → (fits ≡ true → ys ≡ layers_to h state xs) →
           Steps (step_of h xs r number out) answer maps' out'
@@ -252,7 +237,7 @@ module _ {h : Header} {xs : List ℕ} {r : Row} {number : ℕ} (k : Ready h xs r
 
     -- A row that is no read lists nothing.
     module _ (quiet : eqb r.kind READ ≡ false) where
-      by-quiet : {n : ℕ} {answer : extents.Answer} {maps' ys : List ℕ} → n ≡ cond fits 0 16 → answer ≡ or_refused n Done →
+      by-quiet : {n : ℕ} {answer : Answer} {maps' ys : List ℕ} → n ≡ cond fits 0 16 → answer ≡ or_refused n Done →
           maps' ≡ or_kept n ys xs → (fits ≡ true → ys ≡ layers_to h state xs) → (out : List ℕ) → Steps (step_of h xs r number out) answer maps' out
       unfolding first_no threes
       by-quiet {n} e a m t out =
@@ -263,7 +248,7 @@ module _ {h : Header} {xs : List ℕ} {r : Row} {number : ℕ} (k : Ready h xs r
 
       -- A row that an entry for two maps serves.
       by_two : (refusal : ℕ → ℕ) (left : ℕ → List ℕ) → refusal (suc r.process) ≡ cond (plain_fits h v && plain_fits h w) 0 16 →
-          left (suc r.process) ≡ both_maps h.space (suc r.process) 0 xs v w → {answer : extents.Answer} {maps' : List ℕ} →
+          left (suc r.process) ≡ both_maps h.space (suc r.process) 0 xs v w → {answer : Answer} {maps' : List ℕ} →
           answer ≡ or_refused (refusal (r.process + 1)) Done → maps' ≡ or_kept (refusal (r.process + 1)) (left (r.process + 1)) xs →
           (out : List ℕ) → Steps (step_of h xs r number out) answer maps' out
       by_two refusal left e l a m =
@@ -273,7 +258,7 @@ module _ {h : Header} {xs : List ℕ} {r : Row} {number : ℕ} (k : Ready h xs r
           (λ f. l ∙ sym (both_to f))
 
     -- A read lists the pieces of its range.
-    by_read : eqb r.kind READ ≡ true → (out : List ℕ) → {n : ℕ} {answer : extents.Answer} {maps' out' ys : List ℕ} →
+    by_read : eqb r.kind READ ≡ true → (out : List ℕ) → {n : ℕ} {answer : Answer} {maps' out' ys : List ℕ} →
         let ps = pieces_of v r.offset r.length in n ≡ cond fits (cond (leb (3 * length ps) (length out)) 0 17) 16 →
         answer ≡ or_refused n (listed_count ps) → maps' ≡ or_kept n ys xs → out' ≡ or_kept n (listed_in ps out) out →
         (fits ≡ true → ys ≡ layers_to h state xs) → Steps (step_of h xs r number out) answer maps' out'
@@ -297,7 +282,7 @@ module _ {h : Header} {xs : List ℕ} {r : Row} {number : ℕ} (k : Ready h xs r
     no_write : eqb r.kind WRITE ≡ false
     no_write = ne_eqb r.kind WRITE (λ e. omega arith)
 
-    module _ {answer : extents.Answer} {maps' : List ℕ} where
+    module _ {answer : Answer} {maps' : List ℕ} where
       -- A row that publishes and refreshes does what `sync` does.
       pub share-both : publishes h.model r.kind ≡ true → refreshes h.model r.kind ≡ true →
           answer ≡ or_refused (sync_refusal h.space (r.process + 1) 0 xs) Done →
@@ -361,7 +346,7 @@ module _ {h : Header} {xs : List ℕ} {r : Row} {number : ℕ} (k : Ready h xs r
   abbrev new : Bytes
   new = overwrite r.offset r.length (cell_of number 1) (own k)
 
-  module _ {answer : extents.Answer} {maps' : List ℕ} where
+  module _ {answer : Answer} {maps' : List ℕ} where
     -- A write that publishes does what `write_through` does.
     pub write-write-through : publishes h.model 1 ≡ true →
         answer ≡ or_refused (write_through_refusal h.space (r.process + 1) 0 xs r.offset r.length number) Done →
@@ -398,7 +383,7 @@ module _ {h : Header} {xs : List ℕ} {r : Row} {number : ℕ} (k : Ready h xs r
   write_home false = with_same h.space (suc r.process) xs write_in
 
   -- A write that does not publish does what `write` does to the view.
-  pub write_own : publishes h.model 1 ≡ false → {answer : extents.Answer} {last : List ℕ} →
+  pub write_own : publishes h.model 1 ≡ false → {answer : Answer} {last : List ℕ} →
       let m = lent_map h.space (r.process + 1) xs in
       let at = (r.process + 1) * (4 * h.space) in
       answer ≡ or_refused (write_refusal m r.offset r.length number true) Done →
@@ -440,7 +425,7 @@ module _ {h : Header} {xs : List ℕ} {r : Row} {number : ℕ} (k : Ready h xs r
   unfolding publishes
   read_stays = rw kind (simp and-false)
 
-  module _ (out : List ℕ) {answer : extents.Answer} where
+  module _ (out : List ℕ) {answer : Answer} where
     -- A read that refreshes does what `read` of the map of pieces does.
     module _ {maps' out' : List ℕ} where
       -- The answer slice and the maps are those that `read` of the map of pieces leaves.

@@ -15,13 +15,14 @@ use Rattle.machine_meaning.specs.States.{Header, lawful_plain, plain_in, plain_t
 use Rattle.machine_meaning.specs.Steps.{StepAnswer, done, listed, plain_making_questions, row_asked, room_asked, plain_step_of}
 use Rattle.machine_meaning.proofs.Lawful.{here-fit, here-again}
 use Rattle.rows.proofs.Asking.{AllYes, first-no, yes-behind}
-use Rattle.extents.specs.declared.Answer as extents
-use Rattle.extents.specs.declared.Answer.TheVariants.{Done, Refused}
+use Rattle.rows.specs.Refusals.{number_of}
+use Rattle.rows.specs.declared.refusal.Refusal.{Refusal}
+use Rattle.extents.specs.Answers.{Answer, Done, Refused}
 use Rattle.extents.specs.Entries.{or_refused, or_kept, listed_count, write_refusal, written_map, list_refusal}
 use Rattle.machine_state.specs.Answers.{answer_of, Steps}
 use Rattle.machine_state.proofs.Maps.{first-map, plain-making}
 use Rattle.machine_state.proofs.Questions.{asked-yes, asked-number, asked-range}
-use Rattle.machine_state.proofs.Answering.{same_kept, kept_append, carried, refused}
+use Rattle.machine_state.proofs.Answering.{numbered, same_kept, kept_append, carried, refused}
 
 -- ---- Lawful plain files
 
@@ -95,9 +96,13 @@ module _ (h : Header) (xs : List ℕ) (law : lawful_plain h xs ≡ true) where
 
   module _ (r : Row) (number : ℕ) (out : List ℕ) where
     -- A step of a lawful plain file refuses by the first No of the row.
-    pub plain-asked : (k : ℕ) → k ≡ first_no (row_asked h r number) → (k ≡ 0 → ⊥) → Steps (plain_step_of h xs r number out) (Refused k) xs out
+    pub plain-asked : (refusal : Refusal) → number_of refusal ≡ first_no (row_asked h r number) →
+        Steps (plain_step_of h xs r number out) (Refused (number_of refusal)) xs out
     unfolding plain_step_of first_no
-    plain-asked k e n =
+    plain-asked refusal e =
+        let k = number_of refusal in
+        let low : 1 ≤ k = numbered refusal in
+        let n : k ≡ 0 → ⊥ = λ z. omega arith in
         let first = first-no (row_asked h r number) (room_asked (plain_fits h (after_plain r number (plain_in h xs)))
         (pieces_read r (after_plain r number (plain_in h xs))) (length out)) (λ z. n (e ∙ z)) ∙ sym e in
         refused _ k xs out (λ i. cond (law i) (first i) 13) n
@@ -148,7 +153,7 @@ module _ (h : Header) (xs : List ℕ) (law : lawful_plain h xs ≡ true) where
             ))
 
         -- A read does what `list_range` does.
-        pub plain-read : {a : extents.Answer} {zs : List ℕ} → a ≡ or_refused (list_refusal map r.offset r.length (length out))
+        pub plain-read : {a : Answer} {zs : List ℕ} → a ≡ or_refused (list_refusal map r.offset r.length (length out))
             (listed_count (pieces_of (bytes_of map) r.offset r.length)) → zs ≡ or_kept (list_refusal map r.offset r.length (length out))
             (listed_in (pieces_of (bytes_of map) r.offset r.length) out) out → Steps (plain_step_of h xs r number out) a xs zs
         unfolding plain_step_of
@@ -214,7 +219,7 @@ module _ (h : Header) (xs : List ℕ) (law : lawful_plain h xs ≡ true) where
             ))
 
         -- A write does what `write` of the map of pieces does.
-        pub plain-write : {a : extents.Answer} {zs : List ℕ} → a ≡ or_refused (write_refusal map r.offset r.length number false) Done →
+        pub plain-write : {a : Answer} {zs : List ℕ} → a ≡ or_refused (write_refusal map r.offset r.length number false) Done →
             zs ≡ or_kept (write_refusal map r.offset r.length number false) (written_map map r.offset r.length number false) map →
             Steps (plain_step_of h xs r number out) a (zs ++ drop (4 * h.space) xs) out
         unfolding plain_step_of plain_to written_map
@@ -237,12 +242,3 @@ module _ (h : Header) (xs : List ℕ) (law : lawful_plain h xs ≡ true) where
           λ i. cond (ne_eqb r.kind WRITE nw i) (overwrite r.offset r.length (cell_of number 0) (plain_in h xs)) (plain_in h xs) in
           carried _ 0 xs out (room ∙ no-seventeen no ∙ (λ i. cond ((ap (plain_fits h) same ∙ same-fits) i) 0 16)) (ap answer_of (no_answer no))
           (same_kept 0 (ap (λ (f : Bytes). plain_to h f xs) same ∙ same_map)) (no-list no 0) (λ _. refl)
-
--- A step refuses an unlawful plain file by question 13.
-pub plain-unlawful : (h : Header) (xs : List ℕ) (r : Row) (number : ℕ) (out : List ℕ) → lawful_plain h xs ≡ false →
-    Steps (plain_step_of h xs r number out) (Refused 13) xs out
-unfolding plain_step_of first_no
-plain-unlawful h xs r number out e =
-    let f = after_plain r number (plain_in h xs) in
-    refused _ 13 xs out (λ i. cond (e i) (first_no (row_asked h r number ++ room_asked (plain_fits h f) (pieces_read r f) (length out))) 13)
-    (λ z. omega arith)

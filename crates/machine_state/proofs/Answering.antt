@@ -1,13 +1,39 @@
 -- The code answers and leaves what a step does, whether it is refused or not.
-use Rattle.std.proofs.Common.{ℕ, ◌≡◌, refl, sym, ◌∙◌, Bool, true, false, cond, List, ◌++◌, eqb-true, ne_eqb}
+use Rattle.std.proofs.Common.{ℕ, ◌≤◌, arith, ◌≡◌, refl, sym, ◌∙◌, Bool, true, false, cond, List, ◌++◌, eqb-true, ne_eqb}
 use lib.Dec.{eqb}
-use Rattle.rows.specs.declared.row.Row.{Row}
-use Rattle.machine_meaning.specs.Layers.{of_file}
 use Rattle.machine_meaning.specs.Steps.{refusing, Step, decided}
-use Rattle.extents.specs.declared.Answer as extents
-use Rattle.extents.specs.declared.Answer.TheVariants.{Done, Refused}
+use Rattle.rows.specs.Refusals.{number_of}
+use Rattle.rows.specs.declared.refusal.Refusal.{Refusal}
+use Rattle.rows.specs.declared.refusal.Refusal.TheVariants.{ShortSlice, Limits, HeaderWord, Malformed, Header, RowLimit, SixFields, KnownKind, UsedFields, Range, RangeEnd, MessageOrder, State, RowNumber, OfFile, MapSpace, AnswerSpace, TextSpace, SharedProcess, Stuck, WaitOrder, BarrierOrder, ListSpace}
+use Rattle.extents.specs.Answers.{Answer, Refused}
 use Rattle.extents.specs.Entries.{or_refused, or_kept}
-use Rattle.machine_state.specs.Answers.{answer_of, Steps, put_to}
+use Rattle.machine_state.specs.Answers.{answer_of, Steps}
+
+-- No refusal has number 0.
+pub numbered : (e : Refusal) → 1 ≤ number_of e
+numbered ShortSlice = omega arith
+numbered Limits = omega arith
+numbered HeaderWord = omega arith
+numbered Malformed = omega arith
+numbered Header = omega arith
+numbered RowLimit = omega arith
+numbered SixFields = omega arith
+numbered KnownKind = omega arith
+numbered UsedFields = omega arith
+numbered Range = omega arith
+numbered RangeEnd = omega arith
+numbered MessageOrder = omega arith
+numbered State = omega arith
+numbered RowNumber = omega arith
+numbered OfFile = omega arith
+numbered MapSpace = omega arith
+numbered AnswerSpace = omega arith
+numbered TextSpace = omega arith
+numbered SharedProcess = omega arith
+numbered Stuck = omega arith
+numbered WaitOrder = omega arith
+numbered BarrierOrder = omega arith
+numbered ListSpace = omega arith
 
 -- A list that does not change is kept either way.
 pub same_kept : (n : ℕ) {ys xs : List ℕ} → ys ≡ xs → xs ≡ or_kept n ys xs
@@ -27,7 +53,7 @@ kept_append n ys xs rest = go (eqb n 0)
 
 module _ {k : ℕ} (s : Step) (n : ℕ) (maps out : List ℕ) (e : k ≡ n) where
   -- An entry of the map of pieces answers and leaves what the step does, if both refuse alike.
-  pub carried : {answer : extents.Answer} {maps' out' ys : List ℕ} → answer ≡ or_refused n (answer_of s.answer) → maps' ≡ or_kept n ys maps →
+  pub carried : {answer : Answer} {maps' out' ys : List ℕ} → answer ≡ or_refused n (answer_of s.answer) → maps' ≡ or_kept n ys maps →
       out' ≡ or_kept n s.out out → (n ≡ 0 → ys ≡ s.maps) → Steps (decided k s maps out) answer maps' out'
   carried {answer} {maps'} {out'} {ys} a m o t = rw e (go (eqb n 0) (λ q. t (eqb-true n 0 q)) a m o)
     where
@@ -39,17 +65,3 @@ module _ {k : ℕ} (s : Step) (n : ℕ) (maps out : List ℕ) (e : k ≡ n) wher
   -- A step that is refused changes nothing.
   pub refused : (n ≡ 0 → ⊥) → Steps (decided k s maps out) (Refused n) maps out
   refused z = rw (e, ne_eqb n 0 z) (record { answered = refl; maps_after = refl; out_after = refl })
-
--- ---- A row put to the file that it names
-
-module _ (step : List ℕ → Row → ℕ → List ℕ → Step) (file : ℕ) (xs : List ℕ) (r : Row) (number : ℕ) (out : List ℕ) where
-  -- A row of another file changes nothing.
-  pub put_other : of_file file r ≡ false → Steps (put_to step file xs r number out) Done xs out
-  unfolding put_to
-  put_other e = rw e (record { answered = refl; maps_after = refl; out_after = refl })
-
-  -- A row of the file does what the step does.
-  pub put-own : of_file file r ≡ true → {a : extents.Answer} {ys zs : List ℕ} → Steps (step xs r number out) a ys zs →
-      Steps (put_to step file xs r number out) a ys zs
-  unfolding put_to
-  put-own e k = rw e k

@@ -12,20 +12,9 @@ use Rattle.machine_meaning.specs.Steps.{StepAnswer, refusing, done, listed, Step
 use Rattle.machine_meaning.proofs.Points.{picked}
 use Rattle.rows.proofs.Asking.{From, AllYes, all_yes, yes-parts, from_append}
 use Rattle.machine_state.specs.Answers.{put_to}
+use Rattle.machine_state.specs.Files.{Keeps, Preserves}
 use Rattle.machine_state.specs.Replays.{refusal_in, count_in}
 use Rattle.machine_state.proofs.Questions.{room-named}
-
--- One step leaves lawful maps lawful, lists no more pieces than the answer slice has room for, and keeps the answer slice's length. A refusal
--- changes nothing.
-pub record Keeps (law : List ℕ → Bool) (xs out : List ℕ) (t : Step) : Type 0 where
-  pub lawful : law xs ≡ true → law t.maps ≡ true
-  pub room : 3 * count_in t.answer ≤ length out
-  pub size : length t.out ≡ length out
-  pub stays : (refusal_in t.answer ≡ 0 → ⊥) → (t.maps ≡ xs) × (t.out ≡ out)
-
--- Every step of a file keeps all of `Keeps`. The loops of both replays stand on this record alone.
-pub record Preserves (law : List ℕ → Bool) (step : List ℕ → Row → ℕ → List ℕ → Step) : Type 0 where
-  pub each : (xs : List ℕ) (r : Row) (number : ℕ) (out : List ℕ) → Keeps law xs out (step xs r number out)
 
 module _ (law : List ℕ → Bool) (xs : List ℕ) (r : Row) (pieces : List Run) (ys out : List ℕ) where
   -- A step that is not refused keeps all, if its maps are lawful and its pieces fit.

@@ -1,7 +1,6 @@
 pub mod Maps
 pub mod Questions
 pub mod Answering
-pub mod Making
 pub mod LawfulBytes
 pub mod Keeping
 pub mod Replaying

@@ -1,16 +1,21 @@
 -- The loop of a replay over any step that preserves its law: the invariant, and the laws of its start, its turn and its ends.
-use Rattle.std.proofs.Common.{ℕ, zero, suc, ◌+◌, ◌*◌, ◌-◌, ◌≤◌, ◌<◌, arith, ◌≡◌, refl, sym, ap, subst, ◌∙◌, Bool, true, false, cond, not, ◌&&◌, List, ◌++◌, append-nil, length, take, drop, length-set, length-append, length-drop, drop_of_length-le, take-append-drop, length-take-le, take_all, leb-true, eq-eqb, ne_eqb}
+use Rattle.std.proofs.Common.{ℕ, zero, suc, ◌+◌, ◌*◌, ◌-◌, ◌≤◌, ◌<◌, max, arith, ◌≡◌, refl, sym, ap, subst, ◌∙◌, Bool, true, false, cond, ◌&&◌, List, ◌++◌, append-nil, length, take, drop, length-set, length-append, length-drop, drop_of_length-le, take-append-drop, length-take-le, take_all, leb-true, eq-eqb, ne_eqb, Option, Some, None, Ok, Err}
+use Rattle.std.specs.Option.{unwrap_or}
 use lib.ListN.{set}
 use lib.Dec.{leb, eqb}
-use borrow.Author.Tests.{not-true, not-false}
 use Rattle.rows.specs.declared.row.Row.{Row}
 use Rattle.rows.specs.Questions.{first_no}
 use Rattle.rows.specs.Rows.{row_in}
 use Rattle.rows.proofs.Bools.{and_out}
 use Rattle.machine_meaning.specs.Steps.{StepAnswer, refusing, done, listed, Step}
-use Rattle.extents.specs.declared.Answer as extents
-use Rattle.machine_state.specs.Answers.{answer_of, refusal_of, count_of, Steps, put_to}
-use Rattle.machine_state.proofs.Keeping.{Keeps, Preserves, put-preserves}
+use Rattle.rows.specs.Refusals.{number_of}
+use Rattle.rows.specs.declared.refusal.Refusal.{Refusal}
+use Rattle.rows.specs.declared.refusal.Refusal.TheVariants.{ShortSlice, State}
+use Rattle.extents.specs.Answers.{Answer}
+use Rattle.machine_state.specs.Answers.{answer_of, refusal_of, count_of, told_step, Steps, put_to}
+use Rattle.machine_state.specs.Files.{Keeps, Preserves}
+use Rattle.machine_state.proofs.Answering.{numbered}
+use Rattle.machine_state.proofs.Keeping.{put-preserves}
 use Rattle.machine_state.specs.Replays.{Replay, refusal_in, count_in, tried, row_passed, stopped, onward, after, replay_questions, started, replay_by, Replays}
 
 -- The refusal in the code's answer is that of the step.
@@ -24,6 +29,16 @@ count-told : (a : StepAnswer) → count_of (answer_of a) ≡ count_in a
 count-told (refusing number) = refl
 count-told done = refl
 count-told (listed count) = refl
+
+-- An answer that is no refusal has none.
+none-refused : (o : Option ℕ) → refusal_of (told_step (Ok o)) ≡ 0
+none-refused None = refl
+none-refused (Some count) = refl
+
+-- A read has its count of pieces, and any other row has none.
+count-listed : (o : Option ℕ) → unwrap_or o 0 ≡ count_of (told_step (Ok o))
+count-listed None = refl
+count-listed (Some count) = refl
 
 -- ---- One row
 
@@ -67,31 +82,29 @@ module _ (step : List ℕ → Row → ℕ → List ℕ → Step) (law₀ : Bool)
       (started (cond (fit i) (cond (l i) 0 13) 1) first maps₀ counts₀ out₀)
 
   -- A first No other than 0 is the answer, and nothing changes.
-  none-gone : (refusal : ℕ) → first_no (replay_questions law₀ n (length rows) (length counts₀)) ≡ refusal → (refusal ≡ 0 → ⊥) →
-      Replays (replay_by step law₀ file rows first n maps₀ counts₀ out₀) (record { rows = first; pieces = 0; refusal = refusal }) maps₀ counts₀ out₀
+  none-gone : (refusal : Refusal) → first_no (replay_questions law₀ n (length rows) (length counts₀)) ≡ number_of refusal →
+      (number_of refusal ≡ 0 → ⊥) →
+      Replays (replay_by step law₀ file rows first n maps₀ counts₀ out₀) (record { rows = first; pieces = 0; refusal = Some refusal }) maps₀ counts₀ out₀
   unfolding replay_by
   none-gone refusal e some =
-      rw (e, ne_eqb refusal 0 some)
+      rw (e, ne_eqb (number_of refusal) 0 some)
       (record { refused = refl; gone = refl; listed = refl; maps_after = refl; counts_after = refl; out_after = refl })
 
   -- The slices fit, as the code asks.
   abbrev Fit : Bool
   Fit = leb (6 * n) (length rows) && leb n (length counts₀)
 
-  -- 1: the code finds that the slices are too short.
-  pub short : {fit : Bool} → fit ≡ Fit → not fit ≡ true →
-      Replays (replay_by step law₀ file rows first n maps₀ counts₀ out₀) (record { rows = first; pieces = 0; refusal = 1 }) maps₀ counts₀ out₀
+  -- 1: the slices are too short.
+  pub short : Fit ≡ false →
+      Replays (replay_by step law₀ file rows first n maps₀ counts₀ out₀) (record { rows = first; pieces = 0; refusal = Some ShortSlice }) maps₀ counts₀ out₀
   unfolding replay_questions first_no
-  short {fit} f left = let e : Fit ≡ false = sym f ∙ not-true fit left in none-gone 1 (λ i. cond (e i) (cond law₀ 0 13) 1) (λ z. omega arith)
+  short e = none-gone ShortSlice (λ i. cond (e i) (cond law₀ 0 13) 1) (λ z. omega arith)
 
-  -- 13: the code finds that the slices fit and that the state is not lawful.
-  pub unlawful : {fit : Bool} → fit ≡ Fit → not fit ≡ false → {law : Bool} → law ≡ law₀ → not law ≡ true →
-      Replays (replay_by step law₀ file rows first n maps₀ counts₀ out₀) (record { rows = first; pieces = 0; refusal = 13 }) maps₀ counts₀ out₀
+  -- 13: the slices fit, and the state is not lawful.
+  pub unlawful : Fit ≡ true → law₀ ≡ false →
+      Replays (replay_by step law₀ file rows first n maps₀ counts₀ out₀) (record { rows = first; pieces = 0; refusal = Some State }) maps₀ counts₀ out₀
   unfolding replay_questions first_no
-  unlawful {fit} f passes {law} l fails =
-      let e : Fit ≡ true = sym f ∙ not-false fit passes in
-      let q : law₀ ≡ false = sym l ∙ not-true law fails in
-      none-gone 13 (λ i. cond (e i) (cond (q i) 0 13) 1) (λ z. omega arith)
+  unlawful e q = none-gone State (λ i. cond (e i) (cond (q i) 0 13) 1) (λ z. omega arith)
 
 -- ---- Turns
 
@@ -100,7 +113,7 @@ abbrev so_far : List ℕ → List ℕ → List ℕ → ℕ → ℕ → Replay
 so_far maps counts out k pieces = record { refusal = 0; rows = k; pieces = pieces; maps = maps; counts = counts; out = out }
 
 -- The rest of the replay from row k on gives what the whole replay gives, the maps are lawful, and the slices keep their lengths.
-pub record Replaying {law : List ℕ → Bool} {step : List ℕ → Row → ℕ → List ℕ → Step} (keeps : Preserves law step) (file : ℕ) (rows : List ℕ)
+pub record Replaying (law : List ℕ → Bool) (step : List ℕ → Row → ℕ → List ℕ → Step) (file : ℕ) (rows : List ℕ)
     (first n : ℕ) (maps₀ counts₀ out₀ maps counts out : List ℕ) (k pieces : ℕ) : Type 0 where
   pub whole : replay_by step (law maps₀) file rows first n maps₀ counts₀ out₀ ≡ after step file rows (n - k) (so_far maps counts out k pieces)
   pub lawful : law maps ≡ true
@@ -110,15 +123,14 @@ pub record Replaying {law : List ℕ → Bool} {step : List ℕ → Row → ℕ 
   pub maps-size : length maps ≡ length maps₀
   pub counts-size : length counts ≡ length counts₀
   pub out-size : length out ≡ length out₀
+  pub at-most : k ≤ max first n
 
-module _ {law : List ℕ → Bool} {step : List ℕ → Row → ℕ → List ℕ → Step} {keeps : Preserves law step} {file : ℕ} {rows : List ℕ}
+module _ {law : List ℕ → Bool} {step : List ℕ → Row → ℕ → List ℕ → Step} {file : ℕ} {rows : List ℕ}
     {first n : ℕ} {maps₀ counts₀ out₀ : List ℕ} where
-  -- The invariant holds before the first row, where the code finds that the slices fit and that the state is lawful.
-  pub start : {fit : Bool} → fit ≡ leb (6 * n) (length rows) && leb n (length counts₀) → not fit ≡ false →
-      {is : Bool} → is ≡ law maps₀ → not is ≡ false → Replaying keeps file rows first n maps₀ counts₀ out₀ maps₀ counts₀ out₀ first 0
-  start {fit} f passes {is} g holds =
-      let e : leb (6 * n) (length rows) && leb n (length counts₀) ≡ true = sym f ∙ not-false fit passes in
-      let l : law maps₀ ≡ true = sym g ∙ not-false is holds in
+  -- The invariant holds before the first row, where the slices fit and the state is lawful.
+  pub start : leb (6 * n) (length rows) && leb n (length counts₀) ≡ true → law maps₀ ≡ true →
+      Replaying law step file rows first n maps₀ counts₀ out₀ maps₀ counts₀ out₀ first 0
+  start e l =
       let b = and_out (leb (6 * n) (length rows)) (leb n (length counts₀)) e in
       record {
         whole = replay_is step (law maps₀) file rows first n maps₀ counts₀ out₀ e l;
@@ -129,10 +141,11 @@ module _ {law : List ℕ → Bool} {step : List ℕ → Row → ℕ → List ℕ
         maps-size = refl;
         counts-size = refl;
         out-size = refl;
+        at-most = omega arith;
       }
 
-  module _ {maps counts out : List ℕ} {k pieces : ℕ} (g : Replaying keeps file rows first n maps₀ counts₀ out₀ maps counts out k pieces) (less : k < n)
-      {row : Row} (here : row ≡ row_in rows k) {at : ℕ} {a : extents.Answer} {ys zs : List ℕ}
+  module _ (keeps : Preserves law step) {maps counts out : List ℕ} {k pieces : ℕ} (g : Replaying law step file rows first n maps₀ counts₀ out₀ maps counts out k pieces) (less : k < n)
+      {row : Row} (here : row ≡ row_in rows k) {at : ℕ} {a : Answer} {ys zs : List ℕ}
       (put : Steps (put_to step file maps row (k + 1) (take (length out - at) (drop at out))) a ys zs) (e : at ≡ pieces * 3) where
     -- The replay before the row.
     abbrev s : Replay
@@ -202,11 +215,12 @@ module _ {law : List ℕ → Bool} {step : List ℕ → Row → ℕ → List ℕ
     count-is = ap count_of told.answered ∙ count-told t.answer
 
     -- A turn keeps the invariant.
-    pub turn : refusal_of a ≡ 0 → {c : ℕ} → c ≡ count_of a → length ys ≡ length maps →
-        Replaying keeps file rows first n maps₀ counts₀ out₀ ys (set counts k c) (take at out ++ (zs ++ drop (length out - at) (drop at out)))
+    pub turn : (o : Option ℕ) → a ≡ told_step (Ok o) → {c : ℕ} → c ≡ unwrap_or o 0 → length ys ≡ length maps →
+        Replaying law step file rows first n maps₀ counts₀ out₀ ys (set counts k c) (take at out ++ (zs ++ drop (length out - at) (drop at out)))
         (k + 1) (pieces + c)
-    turn none {c} q same =
-        let is = q ∙ count-is in
+    turn o ok {c} q same =
+        let none = ap refusal_of ok ∙ none-refused o in
+        let is = q ∙ count-listed o ∙ sym (ap count_of ok) ∙ count-is in
         let k1 : suc k ≡ k + 1 = omega arith in
         let room = kept.room in
         let m = length-drop (3 * pieces) out in
@@ -225,27 +239,17 @@ module _ {law : List ℕ → Bool} {step : List ℕ → Row → ℕ → List ℕ
           maps-size = same ∙ g.maps-size;
           counts-size = length-set counts k c ∙ g.counts-size;
           out-size = size ∙ g.out-size;
+          at-most = omega arith;
         }
 
-    -- The answer slice has its first length after a turn.
-    pub turn-size : length (take at out ++ (zs ++ drop (length out - at) (drop at out))) ≡ length out₀
-    turn-size = ap (λ (l : List ℕ). length l) home ∙ home-size ∙ g.out-size
-
-    -- The pieces after a turn fit the answer slice.
-    pub turn-room : {c : ℕ} → c ≡ count_of a → 3 * (pieces + c) ≤ length out
-    turn-room {c} q =
-        let is = q ∙ count-is in
-        let room = kept.room in
-        let m = length-drop (3 * pieces) out in
-        let l = g.listed in
-        omega (arith, is, room, m, l)
-
     -- The end at a refusal, which leaves all as it was.
-    pub refused-turn : {q : ℕ} → q ≡ refusal_of a → (q ≡ 0 → ⊥) →
-        Replays (replay_by step (law maps₀) file rows first n maps₀ counts₀ out₀) (record { rows = k; pieces = pieces; refusal = q }) ys counts
+    pub refused-turn : (q : Refusal) → a ≡ told_step (Err q) →
+        Replays (replay_by step (law maps₀) file rows first n maps₀ counts₀ out₀) (record { rows = k; pieces = pieces; refusal = Some q }) ys counts
         (take at out ++ (zs ++ drop (length out - at) (drop at out)))
-    refused-turn told-so some =
-        let no : refusal_in t.answer ≡ 0 → ⊥ = λ z. some (told-so ∙ refusal_is ∙ z) in
+    refused-turn q is =
+        let told-so : number_of q ≡ refusal_of a = sym (ap refusal_of is) in
+        let low : 1 ≤ number_of q = numbered q in
+        let no : refusal_in t.answer ≡ 0 → ⊥ = λ z. omega (arith, told-so ∙ refusal_is ∙ z) in
         let still = kept.stays no in
         let ends = g.whole ∙ ap (λ (m : ℕ). after step file rows m s) next ∙ stop-next step file rows (n - (k + 1)) s refl no in
         rw ends
@@ -259,11 +263,14 @@ module _ {law : List ℕ → Bool} {step : List ℕ → Row → ℕ → List ℕ
         })
 
   -- The end behind the last row.
-  pub finish : {maps counts out : List ℕ} {k pieces : ℕ} → Replaying keeps file rows first n maps₀ counts₀ out₀ maps counts out k pieces → n ≤ k →
-      Replays (replay_by step (law maps₀) file rows first n maps₀ counts₀ out₀) (record { rows = k; pieces = pieces; refusal = 0 }) maps counts out
+  pub finish : {maps counts out : List ℕ} {k pieces : ℕ} → Replaying law step file rows first n maps₀ counts₀ out₀ maps counts out k pieces → first ≤ k → n ≤ k →
+      {r : ℕ} → r ≡ max first n →
+      Replays (replay_by step (law maps₀) file rows first n maps₀ counts₀ out₀) (record { rows = r; pieces = pieces; refusal = None }) maps counts out
   unfolding after
-  finish {maps} {counts} {out} {k} {pieces} g past =
+  finish {maps} {counts} {out} {k} {pieces} g begun past {r} q =
       let none : n - k ≡ 0 = omega arith in
+      let most = g.at-most in
+      let here : r ≡ k = omega arith in
       let ends = g.whole ∙ ap (λ (m : ℕ). after step file rows m (so_far maps counts out k pieces)) none in
       rw ends
-      (record { refused = refl; gone = refl; listed = refl; maps_after = refl; counts_after = refl; out_after = refl })
+      (record { refused = refl; gone = here; listed = refl; maps_after = refl; counts_after = refl; out_after = refl })

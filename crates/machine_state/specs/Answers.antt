@@ -1,10 +1,11 @@
 -- What the code answers, by the numbers of the definitions.
-use Rattle.std.specs.Prelude.{ℕ, ◌+◌, ◌≡◌, true, cond, ◌&&◌, List, [], ◌∷◌, ◌++◌, leb, ltb, eqb}
+use Rattle.std.specs.Prelude.{ℕ, ◌+◌, ◌≡◌, true, cond, ◌&&◌, List, [], ◌∷◌, ◌++◌, leb, ltb, eqb, Option, Some, None, Result, Ok, Err}
 use Rattle.rows.specs.Limits.{ROWS, OFFSET_MAX}
 use Rattle.rows.specs.Questions.{Question, first_no}
-use Rattle.extents.specs.declared.Answer as extents
-use Rattle.extents.specs.declared.Answer.TheVariants.{Done, Listed, Refused}
+use Rattle.rows.specs.Refusals.{number_of}
+use Rattle.rows.specs.declared.refusal.Refusal.{Refusal}
 use Rattle.rows.specs.declared.row.Row.{Row}
+use Rattle.extents.specs.Answers.{Answer, Done, Listed, Refused}
 use Rattle.machine_meaning.specs.Layers.{of_file}
 use Rattle.machine_meaning.specs.States.{Header, lawful_state}
 use Rattle.machine_meaning.specs.Steps.{StepAnswer, refusing, done, listed, Step, row_asked}
@@ -29,14 +30,20 @@ range_asked h r number = file_asked h r number ++ (record { number = 11; yes = l
 
 -- ---- Answers
 
--- The answer of a step as the code gives it.
-abbrev pub answer_of : StepAnswer → extents.Answer
+-- The answer of a step by what the code says of it: nothing to list, a count of pieces, or a refusal's number.
+abbrev pub answer_of : StepAnswer → Answer
 answer_of (refusing number) = Refused number
 answer_of done = Done
 answer_of (listed count) = Listed count
 
+-- What the code says of a step.
+abbrev pub told_step : Result (Option ℕ) Refusal → Answer
+told_step (Ok None) = Done
+told_step (Ok (Some count)) = Listed count
+told_step (Err refusal) = Refused (number_of refusal)
+
 -- The code answers and leaves what the step does.
-pub record Steps (s : Step) (answer : extents.Answer) (maps' out' : List ℕ) : Type 0 where
+pub record Steps (s : Step) (answer : Answer) (maps' out' : List ℕ) : Type 0 where
   pub answered : answer ≡ answer_of s.answer
   pub maps_after : maps' ≡ s.maps
   pub out_after : out' ≡ s.out
@@ -47,13 +54,13 @@ pub record Ready (h : Header) (maps : List ℕ) (r : Row) (number : ℕ) : Type 
   pub asked : first_no (row_asked h r number) ≡ 0
 
 -- The number of a refusal, and 0 for any other answer.
-abbrev pub refusal_of : extents.Answer → ℕ
+abbrev pub refusal_of : Answer → ℕ
 refusal_of Done = 0
 refusal_of (Listed count) = 0
 refusal_of (Refused number) = number
 
 -- The count of pieces of a read, and 0 for any other answer.
-abbrev pub count_of : extents.Answer → ℕ
+abbrev pub count_of : Answer → ℕ
 count_of Done = 0
 count_of (Listed count) = count
 count_of (Refused number) = 0

@@ -1,3 +1,3 @@
 pub mod Answers
-pub mod Makes
+pub mod Files
 pub mod Replays

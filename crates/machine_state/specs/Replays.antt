@@ -1,12 +1,14 @@
 -- A replay steps through the rows of a trace from a place on. Each row of the file is one step, under its number in the trace.
-use Rattle.std.specs.Prelude.{ℕ, zero, suc, ◌+◌, ◌*◌, ◌-◌, ◌≡◌, Bool, cond, ◌&&◌, List, [], ◌∷◌, ◌++◌, length, take, drop, set, leb, eqb}
+use Rattle.std.specs.Prelude.{ℕ, zero, suc, ◌+◌, ◌*◌, ◌-◌, ◌≡◌, Bool, cond, ◌&&◌, List, [], ◌∷◌, ◌++◌, length, take, drop, set, leb, eqb, Option, Some, None}
 use Rattle.rows.specs.declared.row.Row.{Row}
 use Rattle.rows.specs.Questions.{Question, first_no}
+use Rattle.rows.specs.Refusals.{number_of}
 use Rattle.rows.specs.Rows.{row_in}
+use Rattle.rows.specs.declared.refusal.Refusal.{Refusal}
 use Rattle.machine_meaning.specs.States.{Header, lawful_state, lawful_plain}
 use Rattle.machine_meaning.specs.Steps.{StepAnswer, refusing, done, listed, Step, step_of, plain_step_of}
 use Rattle.machine_state.specs.Answers.{put_to}
-use Rattle.machine_state.specs.declared.Replayed.{Replayed}
+use Rattle.machine_state.specs.declared.files.Replayed.{Replayed}
 
 -- How far a replay is: 0, or the refusal of the next row; the rows gone through; the pieces of its reads; and the slices it leaves.
 pub record Replay : Type 0 where
@@ -84,9 +86,14 @@ replay_of h rows first n maps counts out = replay_by (step_of h) (lawful_state h
 abbrev pub plain_replay_of : Header → List ℕ → ℕ → ℕ → List ℕ → List ℕ → List ℕ → Replay
 plain_replay_of h rows first n maps counts out = replay_by (plain_step_of h) (lawful_plain h maps) h.file rows first n maps counts out
 
+-- What the code says of the end of a replay: 0, or the number of the refusal that ended it.
+abbrev pub told_end : Option Refusal → ℕ
+told_end None = 0
+told_end (Some refusal) = number_of refusal
+
 -- The code answers and leaves what the replay does.
 pub record Replays (s : Replay) (r : Replayed) (maps' counts' out' : List ℕ) : Type 0 where
-  pub refused : r.refusal ≡ s.refusal
+  pub refused : told_end r.refusal ≡ s.refusal
   pub gone : r.rows ≡ s.rows
   pub listed : r.pieces ≡ s.pieces
   pub maps_after : maps' ≡ s.maps

@@ -1,19 +1,23 @@
-// What the layered file and the plain file share: the header, the questions, answers by their numbers, and what making and a replay answer.
+// What the layered file and the plain file share: the header, the questions of a row, and the trait of a file, with making, stepping and
+// replaying any of them.
 #![tactic(auto)]
 
-ghost use Rattle.std.specs.Prelude.{◌+◌, ◌*◌, ◌≤◌, ◌≡◌, ◌&&◌, ◌++◌, length, drop, replicate, leb};
+pub mod files;
+
+ghost use Rattle.std.specs.Prelude.{◌+◌, ◌*◌, ◌≡◌, ◌&&◌, leb};
 ghost use Rattle.rows.specs.Questions.{first_no};
-ghost use Rattle.rows.specs.Rows.{row_in};
+ghost use Rattle.rows.specs.Refusals.{Asks};
 ghost use Rattle.machine_meaning.specs.Layers.{of_file};
 ghost use Rattle.machine_meaning.specs.Steps.{row_asked};
-ghost use Rattle.machine_state.specs.Answers.{header_of, file_asked, range_asked, refusal_of, count_of};
+ghost use Rattle.machine_state.specs.Answers.{header_of, file_asked, range_asked};
 
-use extents::Answer;
-use rows::{Row, refusal};
+pub use files::{File, Replayed, make, replay, step};
+use rows::Row;
+use rows::refusal::Refusal;
 
 // What a machine serves: a model, processes below a limit, one file, and maps with space for so many runs each. A plain file ignores
 // its model.
-#[derive(Clone, Copy)]
+#[derive(Clone, Copy, Debug, PartialEq, Eq, Hash)]
 pub struct Machine {
     pub model: u32,
     pub process_limit: u32,
@@ -36,70 +40,68 @@ impl Machine {
         ensures { header_of result ≡ record { model = model; processes = process_limit; file = file; space = map_space } }
     {
         Machine {
-            model: model,
-            process_limit: process_limit,
-            file: file,
-            map_space: map_space,
+            model,
+            process_limit,
+            file,
+            map_space,
         }
     }
 }
 
-// The first No of the questions 15, 14, 10 and 11, and 0 where there is none. The kind decides which fields are used.
-pub fn ask_row(machine: Machine, row: Row, number: u32) -> u32
-    ensures { result ≡ first_no (row_asked (header_of machine) row number) }
+// The questions 15, 14, 10 and 11 of a row. The kind decides which fields are used.
+#[tactic(auto, unfolding(machine_meaning::specs::Steps::row_asked, rows::specs::Questions::first_no))]
+pub fn ask_row(machine: Machine, row: Row, number: u32) -> Result<(), Refusal>
+    ensures { Asks (first_no (row_asked (header_of machine) row number)) result }
 {
-    let kind = row.kind;
-    match kind {
+    // By the kind's number, as document 01 has it, since a row may have a number that is no kind.
+    match row.kind {
         // read, write: process, file, offset and length
         rows::READ | rows::WRITE => ask_range(machine, row, number),
         // commit, open, close, sync: process and file
         rows::COMMIT | rows::OPEN | rows::CLOSE | rows::SYNC => ask_file(machine, row, number),
         // send, recv, wait, barrier and numbers that are no kind: no file
-        _ => refusal::OF_FILE,
+        _ => Err(Refusal::OfFile),
     }
 }
 
 // The questions of a row that uses its process and its file: 15, 14 and 10.
-fn ask_file(machine: Machine, row: Row, number: u32) -> u32
-    ensures { result ≡ first_no (file_asked (header_of machine) row number) }
+#[tactic(auto, unfolding(rows::specs::Questions::first_no))]
+fn ask_file(machine: Machine, row: Row, number: u32) -> Result<(), Refusal>
+    ensures { Asks (first_no (file_asked (header_of machine) row number)) result }
 {
     if row.file != machine.file {
-        return refusal::OF_FILE;
+        return Err(Refusal::OfFile);
     }
     if number < 1 {
-        return refusal::ROW_NUMBER;
+        return Err(Refusal::RowNumber);
     }
     if Machine::ROWS < number {
-        return refusal::ROW_NUMBER;
+        return Err(Refusal::RowNumber);
     }
     if machine.process_limit <= row.process {
-        return refusal::RANGE;
+        return Err(Refusal::Range);
     }
-    0
+    Ok(())
 }
 
 // The questions of a row that uses its offset and its length too: 11 behind the others.
-fn ask_range(machine: Machine, row: Row, number: u32) -> u32
-    ensures { result ≡ first_no (range_asked (header_of machine) row number) }
+#[tactic(auto, unfolding(rows::specs::Questions::first_no))]
+fn ask_range(machine: Machine, row: Row, number: u32) -> Result<(), Refusal>
+    ensures { Asks (first_no (range_asked (header_of machine) row number)) result }
 {
-    let asked = ask_file(machine, row, number);
-    if asked != 0 {
-        return asked;
+    ask_file(machine, row, number)?;
+    if rows::OFFSET_MAX - row.offset < row.length {
+        return Err(Refusal::RangeEnd);
     }
-    let offset = row.offset;
-    let length = row.length;
-    if rows::OFFSET_MAX - offset < length {
-        return refusal::RANGE_END;
-    }
-    0
+    Ok(())
 }
 
 // Whether a row is one of the file: its kind uses a file, and the row names this one.
 pub fn is_of(machine: Machine, row: Row) -> bool
     ensures { result ≡ of_file (header_of machine).file row }
 {
-    let kind = row.kind;
-    match kind {
+    // By the kind's number, as document 01 has it, since a row may have a number that is no kind.
+    match row.kind {
         // read, write, commit, open, close, sync
         rows::READ | rows::WRITE | rows::COMMIT | rows::OPEN | rows::CLOSE | rows::SYNC => row.file
             == machine.file,
@@ -113,45 +115,5 @@ pub fn slices_fit(rows_len: usize, counts_len: usize, n: u32) -> bool
     ensures { result ≡ leb (6 * n) rows_len && leb n counts_len }
 {
     let all = n as usize;
-    if rows_len / rows::FIELDS < all {
-        return false;
-    }
-    all <= counts_len
-}
-
-// The number of a refusal, and 0 for any other answer.
-pub fn refusal_in(answer: Answer) -> u32
-    ensures { result ≡ refusal_of answer }
-{
-    match answer {
-        Answer::Refused(number) => number,
-        Answer::Listed(_) => 0,
-        Answer::Done => 0,
-    }
-}
-
-// The count of pieces, and 0 for any other answer.
-pub fn count_in(answer: Answer) -> u32
-    ensures { result ≡ count_of answer }
-{
-    match answer {
-        Answer::Refused(_) => 0,
-        Answer::Listed(count) => count,
-        Answer::Done => 0,
-    }
-}
-
-// What making answers: the maps are made, or the number of the question that was answered No.
-#[derive(Clone, Copy)]
-pub enum Made {
-    Made,
-    Refused(u32),
-}
-
-// How far a replay came: the rows gone through, the pieces of its reads, and 0, or the number of the question that the next row answers No.
-#[derive(Clone, Copy)]
-pub struct Replayed {
-    pub rows: u32,
-    pub pieces: usize,
-    pub refusal: u32,
+    all <= rows_len / rows::FIELDS && all <= counts_len
 }

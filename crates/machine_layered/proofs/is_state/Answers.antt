@@ -4,23 +4,23 @@ use Rattle.std.proofs.Common.{sym, ◌∙◌}
 use Rattle.machine_state.specs.Answers.{header_of}
 use Rattle.machine_layered.proofs.is_state.Goals as goal
 
-pub returns-then-model-ge-MODELS : goal.returns-then-model-ge-MODELS
-returns-then-model-ge-MODELS c = let a = c.args in no_model (header_of a.machine) a.maps.now c.if-model-ge-MODELS.true
+pub returns-then-machine-ge-MODELS : goal.returns-then-machine-ge-MODELS
+returns-then-machine-ge-MODELS c = let a = c.args in no_model (header_of a.machine) a.maps.now c.if-machine-ge-MODELS.true
 
 pub returns-then-not-is_process_limit : goal.returns-then-not-is_process_limit
 returns-then-not-is_process_limit c =
     let a = c.args in
     let h = header_of a.machine in
     let xs = a.maps.now in
-    no_limit h xs c.if-model-ge-MODELS.false (sym c.is_process_limit.ensures ∙ c.if-not-is_process_limit.true)
+    no_limit h xs c.if-machine-ge-MODELS.false (sym c.is_process_limit.ensures ∙ c.if-not-is_process_limit.true)
 
-pub returns-then-file-ge-FILES : goal.returns-then-file-ge-FILES
-returns-then-file-ge-FILES c =
+pub returns-then-machine-ge-FILES : goal.returns-then-machine-ge-FILES
+returns-then-machine-ge-FILES c =
     let a = c.args in
     let h = header_of a.machine in
     let xs = a.maps.now in
     let limit = sym c.is_process_limit.ensures ∙ c.if-not-is_process_limit.false in
-    no_file h xs c.if-model-ge-MODELS.false limit c.if-file-ge-FILES.true
+    no_file h xs c.if-machine-ge-MODELS.false limit c.if-machine-ge-FILES.true
 
 pub returns-then-maps-space : goal.returns-then-maps-space
 returns-then-maps-space c =
@@ -28,7 +28,7 @@ returns-then-maps-space c =
     let h = header_of a.machine in
     let xs = a.maps.now in
     let limit = sym c.is_process_limit.ensures ∙ c.if-not-is_process_limit.false in
-    no-slice h xs c.if-model-ge-MODELS.false limit c.if-file-ge-FILES.false c.if-maps-space.true
+    no-slice h xs c.if-machine-ge-MODELS.false limit c.if-machine-ge-FILES.false c.if-maps-space.true
 
 pub returns-then-not-is_published : goal.returns-then-not-is_published
 returns-then-not-is_published c =
@@ -36,7 +36,7 @@ returns-then-not-is_published c =
     let h = header_of a.machine in
     let xs = a.maps.now in
     let limit = sym c.is_process_limit.ensures ∙ c.if-not-is_process_limit.false in
-    no_first h xs c.if-model-ge-MODELS.false limit c.if-file-ge-FILES.false c.if-maps-space.false (sym c.is_published.ensures ∙ c.if-not-is_published.true)
+    no_first h xs c.if-machine-ge-MODELS.false limit c.if-machine-ge-FILES.false c.if-maps-space.false (sym c.is_published.ensures ∙ c.if-not-is_published.true)
 
 pub returns : goal.returns
 returns c =
@@ -45,4 +45,4 @@ returns c =
     let xs = a.maps.now in
     let limit = sym c.is_process_limit.ensures ∙ c.if-not-is_process_limit.false in
     c.are_lawful.ensures
-    ∙ by_views h xs c.if-model-ge-MODELS.false limit c.if-file-ge-FILES.false c.if-maps-space.false (sym c.is_published.ensures ∙ c.if-not-is_published.false)
+    ∙ by_views h xs c.if-machine-ge-MODELS.false limit c.if-machine-ge-FILES.false c.if-maps-space.false (sym c.is_published.ensures ∙ c.if-not-is_published.false)

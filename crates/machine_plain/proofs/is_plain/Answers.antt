@@ -9,18 +9,18 @@ returns-then-not-is_process_limit c =
     let a = c.args in
     no_limit (header_of a.plain) a.map.now (sym c.is_process_limit.ensures ∙ c.if-not-is_process_limit.true)
 
-pub returns-then-file-ge-FILES : goal.returns-then-file-ge-FILES
-returns-then-file-ge-FILES c =
+pub returns-then-plain-ge-FILES : goal.returns-then-plain-ge-FILES
+returns-then-plain-ge-FILES c =
     let a = c.args in
-    no_file (header_of a.plain) a.map.now (sym c.is_process_limit.ensures ∙ c.if-not-is_process_limit.false) c.if-file-ge-FILES.true
+    no_file (header_of a.plain) a.map.now (sym c.is_process_limit.ensures ∙ c.if-not-is_process_limit.false) c.if-plain-ge-FILES.true
 
 pub returns-then-map-space : goal.returns-then-map-space
 returns-then-map-space c =
     let a = c.args in
-    no_room (header_of a.plain) a.map.now (sym c.is_process_limit.ensures ∙ c.if-not-is_process_limit.false) c.if-file-ge-FILES.false c.if-map-space.true
+    no_room (header_of a.plain) a.map.now (sym c.is_process_limit.ensures ∙ c.if-not-is_process_limit.false) c.if-plain-ge-FILES.false c.if-map-space.true
 
 pub returns : goal.returns
 returns c =
     let a = c.args in
-    c.is_published.ensures ∙ one_map (header_of a.plain) a.map.now (sym c.is_process_limit.ensures ∙ c.if-not-is_process_limit.false) c.if-file-ge-FILES.false
+    c.is_published.ensures ∙ one_map (header_of a.plain) a.map.now (sym c.is_process_limit.ensures ∙ c.if-not-is_process_limit.false) c.if-plain-ge-FILES.false
     c.if-map-space.false
