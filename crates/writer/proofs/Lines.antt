@@ -1,14 +1,11 @@
 -- The header and the rows' lines, put into a slice one behind the other.
-use Rattle.std.proofs.Common.{ℕ, ◌+◌, ◌*◌, ◌-◌, ◌≤◌, ◌<◌, arith, ◌≡◌, refl, sym, ap, ◌∙◌, Bool, true, false, cond, List, [], ◌∷◌, ◌++◌, append_assoc, append-nil, length, take, drop, length-append, ne_eqb}
+use Rattle.std.proofs.Common.{ℕ, ◌+◌, ◌*◌, ◌-◌, ◌≤◌, arith, ◌≡◌, refl, sym, ap, ◌∙◌, Bool, true, false, cond, List, [], ◌∷◌, ◌++◌, append_assoc, append-nil, length, take, drop, length-append, ne_eqb}
 use lib.Dec.{eqb}
 use borrow.Rule.Slice.PartMut.{put_mid}
 use Rattle.print.specs.Puts.{lay, put_in, put_end}
 use Rattle.print.proofs.Laying.{lay-none}
 use Rattle.print.proofs.Parts.{Laid, put-laid, laid-length, then, part-laid}
 use Rattle.rows.specs.declared.row.Row.{Row}
-use Rattle.rows.specs.Limits.{FIELDS}
-use Rattle.rows.specs.Rows.{rows_in, row_in}
-use Rattle.rows.proofs.Slices.{rows-add, row_next, length-rows}
 use Rattle.writer_line.specs.Lines.{commas, record_of}
 use Rattle.writer_line.proofs.Contents.{RECORD_MOST, record_most}
 use Rattle.writer.specs.Writing.{lines_of, header_line, header_of}
@@ -58,12 +55,13 @@ unfolding lines_of
 lines_add [] more = refl
 lines_add (r ∷ rows) more = ap (λ (l : List ℕ). record_of r ++ l) (lines_add rows more) ∙ sym (append_assoc (record_of r) (lines_of rows) (lines_of more))
 
--- The lines of one row more.
-pub lines_next : (i : ℕ) (xs : List ℕ) → lines_of (rows_in (i + 1) xs) ≡ lines_of (rows_in i xs) ++ record_of (row_in xs i)
+-- The lines of rows, one more and those behind it.
+pub lines_next : (taken : List Row) {left : List Row} {row : Row} {rest : List Row} → left ≡ row ∷ rest →
+    lines_of (taken ++ (row ∷ [])) ++ lines_of rest ≡ lines_of taken ++ lines_of left
 unfolding lines_of
-lines_next i xs =
-    ap lines_of (row_next i xs) ∙ lines_add (rows_in i xs) (row_in xs i ∷ [])
-    ∙ ap (λ (l : List ℕ). lines_of (rows_in i xs) ++ l) (append-nil (record_of (row_in xs i)))
+lines_next taken {left} {row} {rest} e =
+    ap (λ (l : List ℕ). l ++ lines_of rest) (lines_add taken (row ∷ [])) ∙ append_assoc (lines_of taken) (lines_of (row ∷ [])) (lines_of rest)
+    ∙ ap (λ (l : List ℕ). lines_of taken ++ (l ++ lines_of rest)) (append-nil (record_of row)) ∙ ap (λ (l : List Row). lines_of taken ++ lines_of l) (sym e)
 
 -- The lines of rows have at most 64 bytes each.
 pub lines_most : (rows : List Row) → length (lines_of rows) ≤ RECORD_MOST * length rows
@@ -71,77 +69,60 @@ unfolding lines_of
 lines_most [] = omega arith
 lines_most (r ∷ rows) = omega (arith, lines_most rows, record_most r, length-append (record_of r) (lines_of rows))
 
--- The lines of fewer rows are not longer.
-lines_up : (i n : ℕ) (xs : List ℕ) → i ≤ n → length (lines_of (rows_in i xs)) ≤ length (lines_of (rows_in n xs))
-lines_up i n xs h =
-    let e : i + (n - i) ≡ n = omega arith in
-    let whole = ap length (ap (λ (m : ℕ). lines_of (rows_in m xs)) (sym e) ∙ ap lines_of (rows-add i (n - i) xs) ∙ lines_add (rows_in i xs) _) in
-    omega (arith, whole, length-append (lines_of (rows_in i xs)) (lines_of (rows_in (n - i) (drop (i * FIELDS) xs))))
+-- The lines of a first row and those behind it.
+pub line-first : {left : List Row} {row : Row} {rest : List Row} → left ≡ row ∷ rest →
+    length (lines_of left) ≡ length (record_of row) + length (lines_of rest)
+unfolding lines_of
+line-first {left} {row} {rest} e = ap (λ (l : List Row). length (lines_of l)) e ∙ length-append (record_of row) (lines_of rest)
+
+-- No rows have no lines.
+pub lines-over : {left : List Row} → left ≡ [] → length (lines_of left) ≡ 0
+unfolding lines_of
+lines-over e = ap (λ (l : List Row). length (lines_of l)) e
 
 -- ---- Lines put into the rest of a slice
 
-module _ (xs : List ℕ) (n i : ℕ) {out₀ : List ℕ} {start at : ℕ} {out : List ℕ} (laid : Laid out₀ start (lines_of (rows_in i xs)) at out)
-    (room : start + length (lines_of (rows_in n xs)) ≤ length out₀) where
+module _ (all taken : List Row) {left : List Row} {row : Row} {rest : List Row} (next : left ≡ row ∷ rest) (whole : lines_of taken ++ lines_of left ≡ lines_of all)
+    {out₀ : List ℕ} {start at : ℕ} {out : List ℕ} (laid : Laid out₀ start (lines_of taken) at out)
+    (room : start + length (lines_of all) ≤ length out₀) where
+  -- The line of one row more.
+  one-more : lines_of (taken ++ (row ∷ [])) ≡ lines_of taken ++ record_of row
+  unfolding lines_of
+  one-more = lines_add taken (row ∷ []) ∙ ap (λ (l : List ℕ). lines_of taken ++ l) (append-nil (record_of row))
+
+  -- The lines with those of the next row and those behind it are all.
+  pub lines_go : lines_of (taken ++ (row ∷ [])) ++ lines_of rest ≡ lines_of all
+  lines_go = lines_next taken next ∙ whole
+
   -- There is room for the next row's line.
-  pub record_room : i < n → at + length (record_of (row_in xs i)) ≤ length out
-  record_room h =
+  pub record_room : at + length (record_of row) ≤ length out
+  record_room =
       omega (
         arith,
         laid.behind,
         laid-length laid,
-        lines_up (i + 1) n xs (omega arith),
-        ap length (lines_next i xs),
-        length-append (lines_of (rows_in i xs)) (record_of (row_in xs i)),
+        ap length lines_go,
+        length-append (lines_of (taken ++ (row ∷ []))) (lines_of rest),
+        ap length one-more,
+        length-append (lines_of taken) (record_of row),
       )
 
   -- The next row's line is laid behind the lines before it.
-  pub record_next : i < n → {end : ℕ} {last : List ℕ} → {r : Row} → r ≡ row_in xs i →
-      (end ≡ put_end (take (length out - at) (drop at out)) 0 (record_of r)) × (last ≡ put_in (take (length out - at) (drop at out)) 0 (record_of r)) →
-      Laid out₀ start (lines_of (rows_in (i + 1) xs)) (at + end) (put_mid at (length out - at) out last)
-  record_next h e p = rw (lines_next i xs) (then laid (part-laid out at (record_of (row_in xs i)) (record_room h) (rw e at p)))
-
-  -- Behind the last row all lines are laid.
-  pub lines_laid : i ≤ n → n ≤ i → (at ≡ start + length (lines_of (rows_in n xs))) × (out ≡ lay out₀ start (lines_of (rows_in n xs)))
-  lines_laid h g =
-      let e : i ≡ n = omega arith in
-      (rw e at laid.behind, rw e at laid.whole)
+  pub record_next : {end : ℕ} {last : List ℕ} →
+      (end ≡ put_end (take (length out - at) (drop at out)) 0 (record_of row)) × (last ≡ put_in (take (length out - at) (drop at out)) 0 (record_of row)) →
+      Laid out₀ start (lines_of (taken ++ (row ∷ []))) (at + end) (put_mid at (length out - at) out last)
+  record_next p = rw one-more (then laid (part-laid out at (record_of row) record_room p))
 
 -- Before the first row nothing is laid.
-pub lines_none : (out : List ℕ) (start : ℕ) (xs : List ℕ) (n : ℕ) → start + length (lines_of (rows_in n xs)) ≤ length out →
-    Laid out start (lines_of (rows_in 0 xs)) start out
-unfolding lines_of rows_in
-lines_none out start xs n h = record { fit = omega arith; behind = omega arith; whole = lay-none out start }
+pub lines_none : (out : List ℕ) (start : ℕ) {all left : List Row} → left ≡ all → start + length (lines_of all) ≤ length out →
+    Laid out start (lines_of []) start out × (lines_of [] ++ lines_of left ≡ lines_of all)
+unfolding lines_of
+lines_none out start e h = (record { fit = omega arith; behind = omega arith; whole = lay-none out start }, ap lines_of e)
 
--- ---- Lines measured
-
--- What measuring keeps: `lines` is the length of the first i rows' lines.
-pub record Measured (xs : List ℕ) (n lines i : ℕ) : Type 0 where
-  pub so_far : lines ≡ length (lines_of (rows_in i xs))
-  pub within : i ≤ n
-
--- Before the first row there is no line.
-pub measured_none : (xs : List ℕ) (n : ℕ) → Measured xs n 0 0
-unfolding lines_of rows_in
-measured_none xs n = record { so_far = refl; within = omega arith }
-
-module _ (xs : List ℕ) (n i : ℕ) {lines : ℕ} (m : Measured xs n lines i) where
-  -- The lines have at most 64 bytes for each row.
-  pub measured_few : lines ≤ RECORD_MOST * i
-  measured_few = omega (arith, m.so_far, lines_most (rows_in i xs), length-rows i xs)
-
-  -- One line more is measured.
-  pub measured_next : i < n → {r : Row} {size : ℕ} → r ≡ row_in xs i → size ≡ length (record_of r) → Measured xs n (lines + size) (i + 1)
-  measured_next h e s =
-      record {
-        so_far =
-            (λ j. m.so_far j + (s ∙ ap (λ r. length (record_of r)) e) j)
-            ∙ sym (ap length (lines_next i xs) ∙ length-append (lines_of (rows_in i xs)) (record_of (row_in xs i)));
-        within = omega arith;
-      }
-
-  -- Behind the last row all lines are measured.
-  pub measured_all : n ≤ i → lines ≡ length (lines_of (rows_in n xs))
-  measured_all g =
-      let w : i ≤ n = m.within in
-      let e : i ≡ n = omega arith in
-      m.so_far ∙ ap (λ (k : ℕ). length (lines_of (rows_in k xs))) e
+-- Behind the last row all lines are laid.
+pub lines_laid : (all taken : List Row) {left : List Row} → lines_of taken ++ lines_of left ≡ lines_of all → left ≡ [] → {out₀ : List ℕ} {start at : ℕ} {out : List ℕ} →
+    Laid out₀ start (lines_of taken) at out → (at ≡ start + length (lines_of all)) × (out ≡ lay out₀ start (lines_of all))
+unfolding lines_of
+lines_laid all taken whole e {out₀} {start} l =
+    let is : lines_of taken ≡ lines_of all = sym (append-nil (lines_of taken)) ∙ ap (λ (r : List Row). lines_of taken ++ lines_of r) (sym e) ∙ whole in
+    (l.behind ∙ ap (λ (w : List ℕ). start + length w) is, l.whole ∙ ap (lay out₀ start) is)

@@ -22,8 +22,7 @@ use Rattle.trace.proofs.Barriers.{AskedNo, asked-no_of, asked-accepted}
 use Rattle.trace.proofs.Laws.{WellFormed}
 use Rattle.writer_line.specs.Lines.{number_field, record_of}
 use Rattle.writer_line.proofs.Contents.{record-size}
-use Rattle.writer.specs.declared.Written.{Written}
-use Rattle.writer.specs.declared.Written.TheVariants.{Length, Refused}
+use Rattle.writer.specs.Answers.{Written, Length, Refused}
 use Rattle.writer.specs.Writing.{LINE_MOST, lines_of, header_of, text_of, write_questions, written_questions, ask_rows, text_fits, on_asked, not_written, written, write_trace, written_of}
 use Rattle.writer.proofs.Formed.{SoundFrom, sound_from, passes-iff, asked-all}
 use Rattle.writer.proofs.Lines.{header-most}

@@ -1,5 +1,5 @@
 -- The text of rows, and the questions that writing them asks, each one definition, in document 02's order; the first No decides.
-use Rattle.std.specs.Prelude.{ℕ, ◌+◌, ◌*◌, Bool, true, cond, ◌&&◌, List, [], ◌∷◌, ◌++◌, ◌≡◌, length, leb, ltb, eqb}
+use Rattle.std.specs.Prelude.{ℕ, ◌+◌, ◌*◌, Result, Bool, true, cond, ◌&&◌, List, [], ◌∷◌, ◌++◌, ◌≡◌, length, leb, ltb, eqb}
 use Rattle.csv_field.specs.FieldGrammar.{CRLF}
 use Rattle.messages.specs.Questions.{message_questions}
 use Rattle.print.specs.Puts.{lay}
@@ -13,10 +13,8 @@ use Rattle.trace.specs.Questions.{header_word, end_in_range, OFFSETS, Outcome, r
 use Rattle.trace.specs.Rows.{header_names, used_by}
 use Rattle.trace_numbers.specs.declared.Used.{Used}
 use Rattle.writer_line.specs.Lines.{commas, record_of}
-use Rattle.writer.specs.declared.asking.Asked.{Asked}
-use Rattle.writer.specs.declared.asking.Asked.TheVariants.{Passed, No}
-use Rattle.writer.specs.declared.Written.{Written}
-use Rattle.writer.specs.declared.Written.TheVariants.{Length, Refused}
+use Rattle.rows.specs.declared.refusal.Refused.{Refused as RefusedAt}
+use Rattle.writer.specs.Answers.{Asked, Passed, No, Written, Length, Refused, told_written}
 
 -- ---- The text
 
@@ -151,6 +149,6 @@ out_left (not_written number row) place out = out
 out_left (written text) place out = lay out place text
 
 -- What a call answers, and what it leaves of the slice.
-pub record Writes (w : Writing) (answer : Written) (place : ℕ) (out out' : List ℕ) : Type 0 where
-  pub answered : answer ≡ written_of w
+pub record Writes (w : Writing) (answer : Result ℕ RefusedAt) (place : ℕ) (out out' : List ℕ) : Type 0 where
+  pub answered : told_written answer ≡ written_of w
   pub out_after : out' ≡ out_left w place out

@@ -20,15 +20,13 @@ pub(crate) fn put_header(out: &mut [u8], at: usize, header: u32) -> usize
 
 // Puts the lines of the first n rows from an index on, each row's line at the front of the rest of the slice, and answers the index behind them.
 pub(crate) fn put_rows(out: &mut [u8], start: usize, rows: &[u32], n: usize) -> usize
-    requires { (n * FIELDS ≤ length rows.now) × (start + length (lines_of (rows_in n rows.now)) ≤ length out.old) }
+    requires { start + length (lines_of (rows_in n rows.now)) ≤ length out.old }
     ensures answer { result ≡ start + length (lines_of (rows_in n rows.now)) }
     ensures left { out.new ≡ lay out.old start (lines_of (rows_in n rows.now)) }
 {
     let mut at = start;
-    let mut i = 0;
-    while i < n {
-        at += writer_line::put_record(&mut out[at..], rows::row_at(rows, i));
-        i += 1;
+    for row in rows::first_rows(rows, n) {
+        at += writer_line::put_record(&mut out[at..], row);
     }
     at
 }

@@ -38,11 +38,9 @@ fn lines_length(rows: &[u32], n: usize) -> usize
     requires { n ≤ ROWS }
     ensures { result ≡ length (lines_of (rows_in n rows.now)) }
 {
-    let mut lines: usize = 0;
-    let mut i: usize = 0;
-    while i < n {
-        lines += writer_line::record_length(rows::row_at(rows, i));
-        i += 1;
+    let mut lines = 0;
+    for row in rows::first_rows(rows, n) {
+        lines += writer_line::record_length(row);
     }
     lines
 }

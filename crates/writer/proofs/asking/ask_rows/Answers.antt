@@ -1,32 +1,46 @@
 -- `writer::asking::ask_rows` meets its contract.
-use Rattle.writer.proofs.Passing.{asking_none, asking_end, numbers-no, message-no, row-yes}
+use Rattle.std.proofs.Common.{rules, arith, ◌≡◌, ◌+◌, ◌++◌, ◌∷◌, []}
+use Rattle.std.proofs.lemmas.Grind.{common_steps}
+use Rattle.messages.specs.Table.{table_questions, table_after}
+use Rattle.rows.specs.declared.refusal.Refusal.{Refusal}
+use Rattle.rows.specs.First.{rest}
+use Rattle.rows.specs.Questions.{first_no}
+use Rattle.rows.specs.Refusals.{number_of}
+use Rattle.rows.specs.Rows.{rows_in}
+use Rattle.rows.proofs.Slices.{length-rows}
+use Rattle.writer.specs.Answers.{No}
+use Rattle.writer.specs.Writing.{number_questions, ask_rows, asked_of}
+use Rattle.writer.proofs.Passing.{asking_none, asking_end, row-no, row-yes}
 use Rattle.writer.proofs.asking.ask_rows.Goals as goal
 
-pub loop-i-init : goal.loop-i-init
-loop-i-init c = asking_none c.args.process_limit c.args.n c.args.rows.now c.requires.3
-
-pub returns-then-no-ne0 : goal.returns-then-no-ne0
-returns-then-no-ne0 c =
+pub loop-row-init : goal.loop-row-init
+loop-row-init c =
     let a = c.args in
-    let l = c.loop-i in
-    numbers-no a.process_limit a.n a.rows.now l.i l.invariant c.loop-i-test.true c.row_at-row.ensures c.ask_numbers-no.ensures c.if-no-ne0.true
+    let left : rest c.into_iter-row-iterator.result ≡ rows_in a.n a.rows.now = search rules in
+    let size = length-rows a.n a.rows.now in
+    (tt, tt, asking_none a.process_limit c.requires.new_table left, grind (arith, common_steps))
 
-pub returns-then-order-ne0 : goal.returns-then-order-ne0
-returns-then-order-ne0 c =
+pub loop-row-preserved : goal.loop-row-preserved
+loop-row-preserved c =
     let a = c.args in
-    let pre = c.requires in
-    let l = c.loop-i in
-    message-no a.process_limit a.n a.rows.now l.i l.invariant c.loop-i-test.true c.row_at-row.ensures c.ask_numbers-no.ensures pre.2 c.if-no-ne0.false c.put-order.ensures.answer c.if-order-ne0.true
+    let l = c.loop-row in
+    let next : rest l.row-iterator ≡ c.in-Some.row ∷ rest c.next.new.self = search rules in
+    let none : first_no (number_questions a.process_limit c.in-Some.row ++ table_questions l.table.entries c.in-Some.row) ≡ 0 = search rules in
+    let noted : c.ask_row.new.table.entries ≡ table_after l.table.entries c.in-Some.row = search rules in
+    (tt, tt, row-yes l.invariant.2 next c.requires.few noted none, grind (arith, common_steps))
 
-pub loop-i-preserved : goal.loop-i-preserved
-loop-i-preserved c =
+pub returns-in_err-map_err : goal.returns-in_err-map_err
+returns-in_err-map_err c =
     let a = c.args in
-    let pre = c.requires in
-    let l = c.loop-i in
-    row-yes a.process_limit a.n a.rows.now l.i l.invariant c.loop-i-test.true c.row_at-row.ensures c.ask_numbers-no.ensures pre.2 c.if-no-ne0.false c.put-order.ensures.answer c.put-order.ensures.left c.if-order-ne0.false
+    let l = c.loop-row in
+    let next : rest l.row-iterator ≡ c.in-Some.row ∷ rest c.next.new.self = search rules in
+    let no : (e : Refusal) → number_of e ≡ first_no (number_questions a.process_limit c.in-Some.row ++ table_questions l.table.entries c.in-Some.row) →
+    No (number_of e) (l.number + 1) ≡ asked_of (ask_rows a.process_limit [] (rows_in a.n a.rows.now)) = row-no l.invariant.2 next c.requires.few in
+    grind (arith, common_steps, no)
 
 pub returns : goal.returns
 returns c =
     let a = c.args in
-    let l = c.loop-i in
-    asking_end a.process_limit a.n a.rows.now l.i l.invariant c.loop-i-test.false
+    let l = c.loop-row in
+    let over : rest l.row-iterator ≡ [] = search rules in
+    asking_end l.invariant.2 over

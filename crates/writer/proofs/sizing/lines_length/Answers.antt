@@ -1,21 +1,33 @@
 -- `writer::sizing::lines_length` meets its contract.
-use Rattle.std.proofs.Common.{arith}
-use Rattle.writer_line.proofs.Contents.{record_most}
-use Rattle.writer.proofs.Lines.{measured_none, measured_few, measured_next}
+use Rattle.std.proofs.Common.{rules, arith, ap, ◌≡◌, ◌∷◌, [], length}
+use Rattle.rows.specs.First.{rest}
+use Rattle.rows.specs.Rows.{rows_in}
+use Rattle.rows.proofs.Slices.{length-rows}
+use Rattle.writer.specs.Writing.{lines_of}
+use Rattle.writer.proofs.Lines.{line-first, lines-over, lines_most}
 use Rattle.writer.proofs.sizing.lines_length.Goals as goal
 
-pub loop-i-init : goal.loop-i-init
-loop-i-init c = measured_none c.args.rows.now c.args.n
+pub loop-row-init : goal.loop-row-init
+loop-row-init c =
+    let a = c.args in
+    let left : rest c.into_iter-row-iterator.result ≡ rows_in a.n a.rows.now = search rules in
+    (tt, tt, omega (arith, ap (λ rows. length (lines_of rows)) left))
 
 pub overflow_add-lines : goal.overflow_add-lines
 overflow_add-lines c =
     let a = c.args in
-    let pre = c.requires in
-    let l = c.loop-i in
-    omega (arith, measured_few a.rows.now a.n l.i l.invariant, c.loop-i-test.true, pre, c.record_length-lines.ensures, record_most c.row_at.result)
+    let l = c.loop-row in
+    let next : rest l.row-iterator ≡ c.in-Some.row ∷ rest c.next.new.self = search rules in
+    omega (arith, l.invariant.2, line-first next, c.record_length-lines.ensures, lines_most (rows_in a.n a.rows.now), length-rows a.n a.rows.now)
 
-pub loop-i-preserved : goal.loop-i-preserved
-loop-i-preserved c =
-    let a = c.args in
-    let l = c.loop-i in
-    measured_next a.rows.now a.n l.i l.invariant c.loop-i-test.true c.row_at.ensures c.record_length-lines.ensures
+pub loop-row-preserved : goal.loop-row-preserved
+loop-row-preserved c =
+    let l = c.loop-row in
+    let next : rest l.row-iterator ≡ c.in-Some.row ∷ rest c.next.new.self = search rules in
+    (tt, tt, omega (arith, l.invariant.2, line-first next, c.record_length-lines.ensures))
+
+pub returns : goal.returns
+returns c =
+    let l = c.loop-row in
+    let over : rest l.row-iterator ≡ [] = search rules in
+    omega (arith, l.invariant.2, lines-over over)

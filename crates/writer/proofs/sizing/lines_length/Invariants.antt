@@ -1,11 +1,12 @@
 -- `writer::sizing::lines_length` meets its contract.
-use Rattle.std.proofs.Common.{◌-◌}
-use Rattle.writer.proofs.Lines.{Measured}
+use Rattle.std.proofs.Common.{◌≡◌, ◌+◌, length}
+use Rattle.rows.specs.First.{rest}
+use Rattle.rows.specs.Rows.{rows_in}
+use Rattle.writer.specs.Writing.{lines_of}
 use Rattle.writer.proofs.sizing.lines_length.Given as goal
 
--- `lines` is the length of the first i rows' lines.
-abbrev pub invariant-loop-i : goal.invariant-loop-i
-invariant-loop-i l = Measured l.rows l.n l.lines l.i
-
-abbrev pub decreases-loop-i : goal.decreases-loop-i
-decreases-loop-i l = l.n - l.i
+-- The lines so far and those of the rows that are left have the length of all.
+abbrev pub invariant-loop-row : goal.invariant-loop-row
+invariant-loop-row l =
+    (goal.iterator-loop-row).can_next l.row-iterator × (goal.iterator-loop-row).is_finite l.row-iterator
+    × (l.lines + length (lines_of (rest l.row-iterator)) ≡ length (lines_of (rows_in l.n l.fn.rows)))
