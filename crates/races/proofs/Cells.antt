@@ -136,50 +136,35 @@ module _ (xs : List ℕ) (x y : ℕ) where
 
 -- ---- The last refresh
 
--- Below 0 no number passes.
-pub last_none : (test : ℕ → Bool) {i : ℕ} → i ≤ 0 → last_below i test ≡ 0
-unfolding last_below
-last_none test {i} h = let e : i ≡ 0 = omega arith in ap (λ (k : ℕ). last_below k test) e
-
-module _ (test : ℕ → Bool) (i : ℕ) (h : 0 < i) where
-  -- The number i is one more than i - 1.
-  split-last : i ≡ suc (i - 1)
-  split-last = omega arith
-
-  -- Where i - 1 passes, it is the last that passes.
-  last-here : test (i - 1) ≡ true → last_below i test ≡ i
-  unfolding last_below
-  last-here e = ap (λ (k : ℕ). last_below k test) split-last ∙ rw e (sym split-last)
-
-  -- Where i - 1 does not pass, the numbers below i - 1 decide.
-  last-before : test (i - 1) ≡ false → last_below i test ≡ last_below (i - 1) test
-  unfolding last_below
-  last-before e = ap (λ (k : ℕ). last_below k test) split-last ∙ rw e
-
 module _ (xs : List ℕ) (n model y : ℕ) where
   -- Row k refreshes for row y.
   abbrev pub refreshing : ℕ → Bool
   refreshing k = is_refresh (rows_in n xs) model (row_at (rows_in n xs) y) k
 
   -- Row k refreshes for row y where their numbers say so.
-  refresh_cells : (k : ℕ) → y < n → k < n →
+  pub refresh_cells : (k : ℕ) → y < n → k < n →
       refreshing k
       ≡ (refreshes model (get_or xs (k * 6 + 1) 0) && (eqb (get_or xs (y * 6 + 2) 0) (get_or xs (k * 6 + 2) 0) && eqb (get_or xs (y * 6) 0) (get_or xs (k * 6) 0)))
   refresh_cells k h l =
       rw (row-in n y xs h, row-in n k xs l, kind-in xs k, file-in xs k, file-in xs y, process-in xs k, process-in xs y)
 
-  -- Whether row i - 1 refreshes for row y.
-  module _ (i : ℕ) (h : y < n) (l : i ≤ y) (z : 0 < i) {b : Bool}
-      (e : b
-      ≡ (refreshes model (get_or xs ((i - 1) * 6 + 1) 0)
-      && (eqb (get_or xs (y * 6 + 2) 0) (get_or xs ((i - 1) * 6 + 2) 0) && eqb (get_or xs (y * 6) 0) (get_or xs ((i - 1) * 6) 0)))) where
-    -- Row i - 1 refreshes, and is the last that does.
-    pub refresh-here : b ≡ true → last_below i refreshing ≡ i
-    refresh-here q = last-here refreshing i z (refresh_cells (i - 1) h (omega arith) ∙ sym e ∙ q)
+  module _ (k : ℕ) (h : y < n) (l : k < n) where
+    -- A row of another process does not refresh for row y.
+    pub of_process : (get_or xs (k * 6) 0 ≡ get_or xs (y * 6) 0 → ⊥) → false ≡ refreshing k
+    of_process e =
+        sym (refresh_cells k h l ∙ simp (ne_eqb (get_or xs (y * 6) 0) (get_or xs (k * 6) 0) (λ q. e (sym q)), and-false))
 
-    -- Row i - 1 does not refresh, and the rows before decide.
-    pub refresh-before : b ≡ false → last_below i refreshing ≡ last_below (i - 1) refreshing
-    refresh-before q = last-before refreshing i z (refresh_cells (i - 1) h (omega arith) ∙ sym e ∙ q)
+    -- Nor does a row of another file.
+    pub of_file : (get_or xs (y * 6 + 2) 0 ≡ get_or xs (k * 6 + 2) 0 → ⊥) → false ≡ refreshing k
+    of_file e = sym (refresh_cells k h l ∙ simp (ne_eqb (get_or xs (y * 6 + 2) 0) (get_or xs (k * 6 + 2) 0) e, and-false))
+
+    -- Of a row of the same process and file, the kind decides.
+    pub by_kind : get_or xs (k * 6) 0 ≡ get_or xs (y * 6) 0 → get_or xs (y * 6 + 2) 0 ≡ get_or xs (k * 6 + 2) 0 →
+        refreshes model (get_or xs (k * 6 + 1) 0) ≡ refreshing k
+    by_kind e f =
+        sym (refresh_cells k h l
+        ∙ rw (eq-eqb (get_or xs (y * 6 + 2) 0) (get_or xs (k * 6 + 2) 0) f, eq-eqb (get_or xs (y * 6) 0) (get_or xs (k * 6) 0) (sym e))
+        (and-true (refreshes model (get_or xs (k * 6 + 1) 0))))
 
   -- Where a read refreshes, row y itself is the refresh.
   pub refresh_own : refreshes model READ ≡ true → suc y ≡ refresh_at (rows_in n xs) model y
@@ -190,3 +175,24 @@ module _ (xs : List ℕ) (n model y : ℕ) where
   pub refresh_earlier : refreshes model READ ≡ false → refresh_at (rows_in n xs) model y ≡ last_below y refreshing
   unfolding refresh_at
   refresh_earlier e = rw e
+
+module _ (test : ℕ → Bool) (n i : ℕ) (decides : last_below n test ≡ last_below i test) where
+  -- Where no number is left, none passes.
+  pub last_none : i ≤ 0 → last_below n test ≡ 0
+  unfolding last_below
+  last_none h = let e : i ≡ 0 = omega arith in decides ∙ ap (λ (k : ℕ). last_below k test) e
+
+  module _ (h : 0 < i) where
+    -- The number i is one more than i - 1.
+    split-last : i ≡ suc (i - 1)
+    split-last = omega arith
+
+    -- Where i - 1 passes, it is the last that passes.
+    pub last-here : test (i - 1) ≡ true → last_below n test ≡ suc (i - 1)
+    unfolding last_below
+    last-here passes = decides ∙ ap (λ (k : ℕ). last_below k test) split-last ∙ rw passes
+
+    -- Where i - 1 does not pass, the numbers below i - 1 decide.
+    pub last-before : test (i - 1) ≡ false → last_below n test ≡ last_below (i - 1) test
+    unfolding last_below
+    last-before fails = decides ∙ ap (λ (k : ℕ). last_below k test) split-last ∙ rw fails

@@ -9,11 +9,9 @@ use Rattle.happens_before.specs.Order.{counts_of}
 use Rattle.happens_before.specs.Filling.{filled_left}
 use Rattle.happens_before.proofs.Asking.{all_asked}
 use Rattle.races_meaning.specs.Races.{verdict_of}
-use Rattle.races.specs.declared.Found.{Found}
-use Rattle.races.specs.Answers.{judge_questions, verdict_found, found_of}
+use Rattle.races.specs.Answers.{Found, judge_questions, verdict_found, found_of}
 use Rattle.races_meaning.specs.Lists.{race_pairs}
-use Rattle.races.specs.declared.Listed.{Listed}
-use Rattle.races.specs.Listing.{list_questions, listed_of, list_left, room_answer, room_left}
+use Rattle.races.specs.Listing.{Listed, list_questions, listed_of, list_left, room_answer, room_left}
 use Rattle.races.proofs.Whole.{same_first, asked-answer, asked-left}
 
 module _ (rows : List Row) (rest : List ℕ) {n : ℕ} {xs : List ℕ} (many : n ≡ length rows) (held : xs ≡ numbers rows ++ rest) where

@@ -1,6 +1,6 @@
 -- The two passes that look for a row that races with y: what they read, and what they know after each turn.
-use Rattle.std.proofs.Common.{ℕ, zero, suc, ◌+◌, ◌*◌, ◌-◌, ◌≤◌, ◌<◌, add-zero, add-one, arith, ◌≡◌, refl, sym, ap, ap₂, ◌∙◌, ◌⊎◌, inl, inr, Bool, true, false, cond, ◌&&◌, List, [], ◌∷◌, append-nil, length, replicate, length-set, length-append, get_or-drop, eq-eqb, ne_eqb, lt-ltb}
-use mathlib.Core.Bool.{and-true, and-false}
+use Rattle.std.proofs.Common.{Option, None, Some, ℕ, zero, suc, ◌+◌, ◌*◌, ◌-◌, ◌≤◌, ◌<◌, add-zero, add-one, arith, ◌≡◌, refl, sym, ap, ap₂, ◌∙◌, ◌⊎◌, inl, inr, Bool, true, false, cond, ◌&&◌, List, [], ◌∷◌, append-nil, length, drop, replicate, length-set, length-append, get_or-drop, eq-eqb, ne_eqb, lt-ltb}
+use mathlib.Core.Bool.{false≢true, and-true, and-false}
 use lib.ListN.{get_or, set, length-replicate}
 use lib.Dec.{leb, ltb, eqb}
 use Rattle.rows.specs.Kinds.{READ, WRITE}
@@ -21,7 +21,8 @@ use Rattle.races_meaning.specs.Scan.{noted, last_noted, is_in_order, seen}
 use Rattle.races_meaning.specs.Lists.{RowPair, pairs_with, pairs_below, race_pairs}
 use Rattle.races_meaning.proofs.Lists.{none-with, few-with, pair_of}
 use Rattle.races_meaning.proofs.Scans.{race_seen}
-use Rattle.races.specs.Given.{Given, Noted, may_conflict}
+use Rattle.std.specs.Option.{is_some}
+use Rattle.races.specs.Given.{Given, Noted, may_conflict, told_row}
 use Rattle.races.specs.Listing.{with_pair, with_pairs}
 use Rattle.races.proofs.Putting.{put-append, put_last_lem}
 use Rattle.rows.proofs.Below.{last-most}
@@ -61,7 +62,7 @@ module _ {n P model : ℕ} {xs counts : List ℕ} (g : Given n P model xs counts
         arith,
         block_before P h,
         ap length g.counted,
-        length-append (rows_of P f (length rows)) g.rest,
+        length-append (rows_of P f (length rows)) (drop (n * P) counts),
         length-rows_of P f (length rows),
         ap (λ (m : ℕ). m * P) (length-rows n xs),
       )
@@ -71,7 +72,7 @@ module _ {n P model : ℕ} {xs counts : List ℕ} (g : Given n P model xs counts
   unfolding counts_of
   cell {k} {p} h l =
       ap (λ (x : List ℕ). cell_in P x k p) g.counted
-      ∙ cell-done P (λ k p. count rows p k) (length rows) k p g.rest (omega (arith, length-rows n xs)) l
+      ∙ cell-done P (λ k p. count rows p k) (length rows) k p (drop (n * P) counts) (omega (arith, length-rows n xs)) l
 
   -- All that a comparison of counts asks for holds.
   pub asked : {k i j : ℕ} → k < n → i < n → j < n →
@@ -152,6 +153,24 @@ refresh_most rows model y = go (refreshes model READ) (last-most y (is_refresh r
         cond b (suc y) (last_below y (is_refresh rows model (row_at rows y))) ≤ suc y
     go true h = omega arith
     go false h = omega arith
+
+-- A row that is there is told by a number past 0.
+pub some_row : (r : Option ℕ) → is_some r ≡ true → 0 < told_row r
+some_row None e = absurd (false≢true e)
+some_row (Some k) e = omega arith
+
+-- Where there is no row, 0 is told.
+pub none_row : (r : Option ℕ) → is_some r ≡ false → told_row r ≡ 0
+none_row None e = refl
+none_row (Some k) e = absurd (false≢true (sym e))
+
+-- The index of a row is one less than what is told.
+pub row_told : {r : Option ℕ} {k : ℕ} → r ≡ Some k → told_row r - 1 ≡ k
+row_told {r} {k} e = rw e (omega arith)
+
+-- The row that refreshes for row y is one of the rows.
+pub refresh_low : (rows : List Row) (model : ℕ) {y n k : ℕ} {r : Option ℕ} → told_row r ≡ refresh_at rows model y → y < n → r ≡ Some k → k < n
+refresh_low rows model {y} {n} {k} {r} t h e = let told : suc k ≡ refresh_at rows model y = rw e at t in omega (arith, told, refresh_most rows model y)
 
 -- ---- The pass that notes
 

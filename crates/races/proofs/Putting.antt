@@ -1,9 +1,10 @@
 -- Pairs put into a list one by one: where there is room for all, they stand at its front.
-use Rattle.std.proofs.Common.{ℕ, suc, ◌+◌, ◌*◌, ◌≤◌, ◌<◌, arith, ◌≡◌, refl, sym, ap, ◌∙◌, Bool, true, false, cond, List, [], ◌∷◌, ◌++◌, append_assoc, length, drop, length-append, length-set, le-leb}
+use Rattle.std.proofs.Common.{leb-true, take, ℕ, zero, suc, ◌+◌, ◌*◌, ◌≤◌, ◌<◌, arith, ◌≡◌, refl, sym, ap, ◌∙◌, Bool, true, false, cond, List, [], ◌∷◌, ◌++◌, append_assoc, length, drop, length-append, length-set, le-leb}
 use lib.ListN.{set}
 use lib.Seq.{set_at, append_snoc}
 use lib.Dec.{leb}
 use borrow.Author.Tests.{lt-leb}
+use Rattle.rows.specs.Rows.{with_group}
 use Rattle.races_meaning.specs.Lists.{RowPair, pair_numbers}
 use Rattle.races.specs.Listing.{with_pair, with_pairs}
 
@@ -21,16 +22,30 @@ pub put_last_lem : (k : ℕ) (a : List RowPair) (p : RowPair) (list : List ℕ) 
 unfolding with_pairs
 put_last_lem k a p list = put-append k a (p ∷ []) list
 
-module _ (k a b : ℕ) (list : List ℕ) where
-  -- Where there is room, the pair is put.
-  pub pair-in : 2 * k + 2 ≤ length list → set (set list (2 * k) a) (2 * k + 1) b ≡ with_pair k a b list
-  unfolding with_pair
-  pair-in h = sym (rw (le-leb _ _ h))
+-- Two numbers stored one behind the other stand between what was before and behind them.
+two_stored : (at a b : ℕ) (list : List ℕ) → suc (suc at) ≤ length list →
+    take at list ++ (a ∷ (b ∷ drop (suc (suc at)) list)) ≡ set (set list at a) (suc at) b
+two_stored at a b [] h = absurd (omega arith)
+two_stored zero a b (x ∷ []) h = absurd (omega arith)
+two_stored zero a b (x ∷ (y ∷ list)) h = refl
+two_stored (suc at) a b (x ∷ list) h = ap (λ (l : List ℕ). x ∷ l) (two_stored at a b list (omega arith))
 
-  -- Where there is no room, the list stays.
-  pub pair-out : length list < 2 * k + 2 → list ≡ with_pair k a b list
-  unfolding with_pair
-  pair-out h = sym (rw (lt-leb _ _ h))
+-- A group of two numbers is a pair.
+pub pair_group : (k a b : ℕ) (list : List ℕ) → with_group 2 k (a ∷ (b ∷ [])) list ≡ with_pair k a b list
+unfolding with_group with_pair
+pair_group k a b list =
+    let e : k * 2 ≡ 2 * k = omega arith in
+    ap (λ (at : ℕ). cond (leb (at + 2) (length list)) (take at list ++ (a ∷ (b ∷ drop (at + 2) list))) list) e
+    ∙ go (leb (2 * k + 2) (length list)) refl
+  where
+    go : (t : Bool) → leb (2 * k + 2) (length list) ≡ t →
+        cond t (take (2 * k) list ++ (a ∷ (b ∷ drop (2 * k + 2) list))) list ≡ cond t (set (set list (2 * k) a) (2 * k + 1) b) list
+    go true q =
+        let one : 2 * k + 1 ≡ suc (2 * k) = omega arith in
+        let two : 2 * k + 2 ≡ suc (suc (2 * k)) = omega arith in
+        let room : suc (suc (2 * k)) ≤ length list = omega (arith, leb-true _ _ q) in
+        rw (one, two) (two_stored (2 * k) a b list room)
+    go false q = refl
 
 -- A list keeps its length.
 pub length-with : (k : ℕ) (pairs : List RowPair) (list : List ℕ) → length (with_pairs k pairs list) ≡ length list

@@ -1,31 +1,34 @@
 -- The verdict's call: what the search relies on, and what the call answers and leaves.
-use Rattle.std.proofs.Common.{ℕ, suc, ◌+◌, ◌*◌, ◌-◌, ◌≤◌, ◌<◌, mul-le-mul, add-one, arith, ◌≡◌, refl, sym, ap, ◌∙◌, Bool, true, false, cond, List, [], ◌∷◌, ◌++◌, length, drop, replicate, leb-true, ltb-true, lt-ltb, le-ltb, le-leb, ne_eqb}
+use Rattle.std.proofs.Common.{Result, Ok, Err, drop_at, ℕ, suc, ◌+◌, ◌*◌, ◌-◌, ◌≤◌, ◌<◌, mul-le-mul, add-one, arith, ◌≡◌, refl, sym, ap, ◌∙◌, Bool, true, false, cond, List, [], ◌∷◌, ◌++◌, length, drop, replicate, leb-true, ltb-true, lt-ltb, le-ltb, le-leb, ne_eqb}
 use lib.ListN.{get_or}
 use lib.Dec.{leb, ltb}
 use borrow.Author.Tests.{lt-leb}
 use Rattle.rows.specs.Limits.{MODELS, ROWS}
-use Rattle.rows.specs.Refusals.{SHORT_SLICE, LIMITS, LIST_SPACE}
+use Rattle.std.specs.Result.{IsErrAnd}
+use Rattle.rows.specs.Refusals.{SHORT_SLICE, LIMITS, LIST_SPACE, number_of, refused_at}
+use Rattle.rows.specs.declared.refusal.Refused as refused
+use Rattle.rows.specs.declared.refusal.Refusal.{Refusal}
 use Rattle.rows.specs.Rows.{rows_in}
 use Rattle.rows.specs.Questions.{long_enough, is_process_limit, first_no}
 use Rattle.rows.proofs.Asking.{all_yes, none-no, none-appended, first-no, rest-decides}
-use Rattle.happens_before.specs.declared.Filled.{Filled}
-use Rattle.happens_before.specs.declared.Filled.TheVariants as filled
-use Rattle.happens_before.specs.Order.{counts_of}
-use Rattle.happens_before.specs.Filling.{count_limits, fill_questions, filled_of, filled_left}
+use Rattle.happens_before.specs.Order.{count, counts_of}
+use Rattle.happens_before.specs.Filling.{count_limits, fill_questions, filled_left}
 use Rattle.rows.proofs.Bools.{and_out}
 use Rattle.rows.proofs.Slices.{length-rows}
-use Rattle.happens_before.proofs.Asking.{Asked, asked, done-told, refused-told}
+use Rattle.happens_before.proofs.Filling.{length-rows_of}
+use Rattle.happens_before.proofs.Asking.{Asked, asked}
 use Rattle.races_meaning.specs.Races.{verdict_of}
 use Rattle.races_meaning.specs.Lists.{RowPair, pairs_with, pairs_below, race_pairs, pair_numbers, first_of}
 use Rattle.races_meaning.proofs.Lists.{front_below, first-listed, pairs-most}
-use Rattle.races.specs.Answers.{judge_questions, verdict_found, found_of}
+use Rattle.races.specs.Answers.{Free, Race, judge_questions, verdict_found, found_of}
 use Rattle.races.specs.Given.{Given}
-use Rattle.races.specs.declared.Found.{Found}
-use Rattle.races.specs.declared.Found.TheVariants.{Free, Race, Refused}
-use Rattle.races.specs.declared.Listed.{Listed}
-use Rattle.races.specs.declared.Listed.TheVariants as listed
-use Rattle.races.specs.Listing.{has_room, list_questions, listed_of, list_left, room_answer, room_left, with_pairs}
+use Rattle.races.specs.Listing as listed
+use Rattle.races.specs.Listing.{told_listed, has_room, list_questions, listed_of, list_left, room_answer, room_left, with_pairs}
 use Rattle.races.proofs.Putting.{put_all, put_first}
+
+-- A refusal's number is past 0.
+pub some-number : (e : Refusal) → 0 < number_of e
+some-number e = grind arith
 
 -- ---- The first race
 
@@ -97,6 +100,12 @@ module _ (pairs : List RowPair) (list : List ℕ) where
   room_out h = rw (lt-leb (2 * length pairs) (length list) h) (refl, refl)
 
 module _ (n P model : ℕ) (xs : List ℕ) where
+  -- The counts of the rows are one for each row and process.
+  length-counted : length (counts_of P (rows_in n xs)) ≡ n * P
+  unfolding counts_of
+  length-counted =
+      length-rows_of P (λ k p. count (rows_in n xs) p k) (length (rows_in n xs)) ∙ ap (λ (m : ℕ). m * P) (length-rows n xs)
+
   -- Once all is asked, the search may rely on what it needs.
   pub given : (L : ℕ) (rest : List ℕ) {counts : List ℕ} → Asked n P xs L → model < MODELS → counts ≡ counts_of P (rows_in n xs) ++ rest →
       Given n P model xs counts
@@ -107,8 +116,9 @@ module _ (n P model : ℕ) (xs : List ℕ) where
         is_model = m;
         rows_within = omega (arith, t.rows_have_room);
         below = t.below;
-        rest = rest;
-        counted = e;
+        counted =
+            e ∙ ap (λ (l : List ℕ). counts_of P (rows_in n xs) ++ l)
+            (sym (ap (drop (n * P)) e ∙ drop_at (counts_of P (rows_in n xs)) rest (n * P) length-counted));
       }
 
   -- ---- The first No
@@ -165,77 +175,43 @@ module _ (n P model : ℕ) (xs : List ℕ) where
     abbrev first : ℕ
     first = first_no (judge_questions n P model xs (length counts))
 
-    -- A No refuses and keeps the counts.
-    pub refuses : {number : ℕ} → number ≡ first → (number ≡ 0 → ⊥) → (filled.Refused number ≡ filled_of first) × (counts ≡ filled_left first n P xs counts)
-    refuses {number} e z = rw (← e, ne_eqb number 0 z) (refl, refl)
-
-    -- Where a slice is too short, the first No is 1.
-    pub no-slice : long_enough n P (length xs) (length counts) ≡ false → SHORT_SLICE ≡ first
+    -- Where the number is no model, the first No is 1 or 2.
+    pub no_model : MODELS ≤ model → first ≡ cond (long_enough n P (length xs) (length counts)) LIMITS SHORT_SLICE
     unfolding first_no judge_questions
-    no-slice e = rw e
+    no_model h = rw (le-ltb model MODELS h)
 
-    -- Where the number is no model, the first No is 2.
-    pub no_model : long_enough n P (length xs) (length counts) ≡ true → MODELS ≤ model → LIMITS ≡ first
-    unfolding first_no judge_questions
-    no_model e h = rw (e, le-ltb model MODELS h)
-
-    -- Where the number is a model, filling the counts decides.
-    pub fills : model < MODELS → {f : Filled} {ys : List ℕ} → f ≡ filled_of (first_no (fill_questions n P xs (length counts))) →
-        ys ≡ filled_left (first_no (fill_questions n P xs (length counts))) n P xs counts → (f ≡ filled_of first) × (ys ≡ filled_left first n P xs counts)
-    fills m e l = (
-      e ∙ ap filled_of (same_first (length counts) m),
-      l ∙ ap (λ (number : ℕ). filled_left number n P xs counts) (same_first (length counts) m),
-    )
-
-    -- What the questions and the filled counts come to.
-    module _ {f : Filled} {ys : List ℕ} (e : f ≡ filled_of first) (l : ys ≡ filled_left first n P xs counts) where
-      -- A refusal is the first No, for verdict and list.
-      pub first-refused : {k : ℕ} → f ≡ filled.Refused k → (k ≡ first) × (k ≡ 0 → ⊥)
-      first-refused q = refused-told first (sym e ∙ q)
-
-      -- The verdict refuses with the same number.
-      pub verdict-refuses : {k : ℕ} → f ≡ filled.Refused k → (Refused k ≡ found_of first xs n model) × (ys ≡ filled_left first n P xs counts)
-      verdict-refuses {k} q = let t = first-refused q in (rw (← t.0, ne_eqb k 0 t.1) refl, l)
-
-      -- So does the list, which stays as it was.
-      pub list-refuses : (list : List ℕ) {k : ℕ} → f ≡ filled.Refused k →
-          (listed.Refused k 0 ≡ listed_of (first_no (list_questions n P model xs (length counts) (length list))) (race_pairs (rows_in n xs) model))
-          × (ys ≡ filled_left first n P xs counts)
-          × (list ≡ list_left (first_no (list_questions n P model xs (length counts) (length list))) (race_pairs (rows_in n xs) model) list)
+    module _ (e : Refusal) (refuses : number_of e ≡ first) (list : List ℕ) where
+      -- The first No of a list is that of the verdict.
+      list-first : first_no (list_questions n P model xs (length counts) (length list)) ≡ number_of e
       unfolding list_questions
-      list-refuses list {k} q =
-          let t = first-refused q in
-          let no : first_no (list_questions n P model xs (length counts) (length list)) ≡ k =
-          first-no (judge_questions n P model xs (length counts)) _ (λ z. t.1 (t.0 ∙ z)) ∙ sym t.0 in
-          (rw (no, ne_eqb k 0 t.1) refl, l, rw (no, ne_eqb k 0 t.1) refl)
+      list-first = first-no (judge_questions n P model xs (length counts)) _ (λ z. omega (arith, some-number e)) ∙ sym refuses
 
-      module _ (q : f ≡ filled.Done) where
-        -- Where filling is done, every answer was Yes.
-        all-passed : first ≡ 0
-        all-passed = done-told first (sym e ∙ q)
+      -- A list is refused with the same number.
+      pub list-refuses : (answer : Result ℕ refused.Refused) → IsErrAnd answer (λ r. r ≡ refused_at e 0) →
+          told_listed answer ≡ listed_of (first_no (list_questions n P model xs (length counts) (length list))) (race_pairs (rows_in n xs) model)
+      list-refuses (Err r) q =
+          rw (list-first, ne_eqb (number_of e) 0 (λ z. omega (arith, some-number e)))
+          (ap (λ (r : refused.Refused). listed.Refused (number_of r.refusal) r.place) q)
+      list-refuses (Ok r) q = absurd q
 
-        -- A model is known where every answer was Yes.
-        known-model : model < MODELS
-        unfolding judge_questions
-        known-model =
-            let yes = all_yes (judge_questions n P model xs (length counts)) (omega arith) all-passed in
-            ltb-true model MODELS (and_out (ltb model MODELS) (count_limits n P) yes.1.0).0
+      -- It stays as it was.
+      pub list-stays : list ≡ list_left (first_no (list_questions n P model xs (length counts) (length list))) (race_pairs (rows_in n xs) model) list
+      list-stays = rw (list-first, ne_eqb (number_of e) 0 (λ z. omega (arith, some-number e))) refl
 
-        -- What the search relies on holds.
-        pub given-filled : Given n P model xs ys
-        given-filled =
-            given (length counts) (replicate (length counts - n * P) 0) (asked n P xs (length counts) (same_first (length counts) known-model ∙ all-passed)) known-model
-            (l ∙ ap (λ (number : ℕ). filled_left number n P xs counts) all-passed)
+    module _ (passed : first ≡ 0) where
+      -- A model is known where every answer was Yes.
+      known-model : model < MODELS
+      unfolding judge_questions
+      known-model =
+          let yes = all_yes (judge_questions n P model xs (length counts)) (omega arith) passed in
+          ltb-true model MODELS (and_out (ltb model MODELS) (count_limits n P) yes.1.0).0
 
-        -- The verdict on the rows is the answer, and the counts are filled.
-        pub judges : {r : Found} → r ≡ verdict_found (verdict_of (rows_in n xs) model) →
-            (r ≡ found_of first xs n model) × (ys ≡ filled_left first n P xs counts)
-        judges r = (r ∙ ap (λ (number : ℕ). found_of number xs n model) (sym all-passed), l)
+      -- What the search relies on holds.
+      pub given-filled : {ys : List ℕ} → ys ≡ filled_left first n P xs counts → Given n P model xs ys
+      given-filled l =
+          given (length counts) (replicate (length counts - n * P) 0) (asked n P xs (length counts) (same_first (length counts) known-model ∙ passed)) known-model
+          (l ∙ ap (λ (number : ℕ). filled_left number n P xs counts) passed)
 
-        -- The list of the rows' races is the answer, and the counts are filled.
-        pub lists : (list : List ℕ) {r : Listed} {after : List ℕ} → r ≡ room_answer (race_pairs (rows_in n xs) model) (length list) →
-            after ≡ room_left (race_pairs (rows_in n xs) model) list →
-            (r ≡ listed_of (first_no (list_questions n P model xs (length counts) (length list))) (race_pairs (rows_in n xs) model))
-            × (ys ≡ filled_left first n P xs counts)
-            × (after ≡ list_left (first_no (list_questions n P model xs (length counts) (length list))) (race_pairs (rows_in n xs) model) list)
-        lists list r a = (r ∙ sym (asked-answer (length counts) (length list) all-passed), l, a ∙ sym (asked-left (length counts) list all-passed))
+      -- The verdict on the rows is the answer.
+      pub passed_found : verdict_found (verdict_of (rows_in n xs) model) ≡ found_of first xs n model
+      passed_found = sym (ap (λ (number : ℕ). found_of number xs n model) passed)

@@ -1,5 +1,5 @@
 -- What the search for races relies on.
-use Rattle.std.specs.Prelude.{ℕ, ◌*◌, ◌-◌, ◌≤◌, ◌<◌, ◌≡◌, Bool, false, not, ◌&&◌, ◌||◌, List, ◌++◌, length, get_or}
+use Rattle.std.specs.Prelude.{ℕ, suc, ◌*◌, ◌-◌, ◌≤◌, ◌<◌, ◌≡◌, Bool, false, not, ◌&&◌, ◌||◌, List, ◌++◌, length, drop, get_or, Option, None, Some}
 use Rattle.rows.specs.declared.row.Row.{Row}
 use Rattle.rows.specs.Rows.{rows_in, row_in}
 use Rattle.happens_before.specs.Order.{same_process, counts_of}
@@ -16,8 +16,12 @@ pub record Given (n processes model : ℕ) (xs counts : List ℕ) : Type 0 where
   pub is_model : model < MODELS
   pub rows_within : n * FIELDS ≤ length xs
   pub below : (k : ℕ) → k < n → (row_in xs k).process < processes
-  pub rest : List ℕ
-  pub counted : counts ≡ counts_of processes (rows_in n xs) ++ rest
+  pub counted : counts ≡ counts_of processes (rows_in n xs) ++ drop (n * processes) counts
+
+-- The index of a row, plus one; 0 where there is none.
+abbrev pub told_row : Option ℕ → ℕ
+told_row None = 0
+told_row (Some k) = suc k
 
 -- All of a conflict but the shared byte: two data rows that name the same file and are of different processes, one of them a write.
 abbrev pub may_conflict : Row → Row → Bool

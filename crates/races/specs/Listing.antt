@@ -1,12 +1,11 @@
 -- What listing every race asks, answers and leaves.
-use Rattle.std.specs.Prelude.{ℕ, suc, ◌+◌, ◌*◌, Bool, cond, List, [], ◌∷◌, ◌++◌, length, drop, set, leb, eqb}
-use Rattle.rows.specs.Refusals.{LIST_SPACE}
+use Rattle.std.specs.Prelude.{ℕ, suc, ◌+◌, ◌*◌, Bool, cond, List, [], ◌∷◌, ◌++◌, length, drop, set, leb, eqb, Result, Ok, Err}
+use Rattle.rows.specs.Refusals.{LIST_SPACE, number_of}
+use Rattle.rows.specs.declared.refusal.Refused as refused
 use Rattle.rows.specs.Rows.{rows_in}
 use Rattle.rows.specs.Questions.{Question}
 use Rattle.races_meaning.specs.Lists.{RowPair, race_pairs, pair_numbers}
 use Rattle.races.specs.Answers.{judge_questions}
-use Rattle.races.specs.declared.Listed.{Listed}
-use Rattle.races.specs.declared.Listed.TheVariants.{Pairs, Refused}
 
 -- 23. Is the list long enough for every pair, two numbers each?
 abbrev pub has_room : List RowPair → ℕ → Bool
@@ -17,6 +16,16 @@ unfoldable pub list_questions : ℕ → ℕ → ℕ → List ℕ → ℕ → ℕ
 list_questions n processLimit model xs countsLength listLength =
     judge_questions n processLimit model xs countsLength
     ++ (record { number = LIST_SPACE; yes = has_room (race_pairs (rows_in n xs) model) listLength } ∷ [])
+
+-- What listing every race comes to: the number of pairs, or the number and place of a refusal; the place is 0 where the refusal names no record.
+pub data Listed : Type 0 where
+  Pairs : (count : ℕ) → Listed
+  Refused : (number place : ℕ) → Listed
+
+-- What the call's answer says.
+abbrev pub told_listed : Result ℕ refused.Refused → Listed
+told_listed (Ok count) = Pairs count
+told_listed (Err e) = Refused (number_of e.refusal) e.place
 
 -- The number of pairs, or the first No.
 abbrev pub listed_of : ℕ → List RowPair → Listed

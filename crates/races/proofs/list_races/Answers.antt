@@ -1,16 +1,31 @@
 -- `races::list_races` meets its contract.
-use Rattle.races.proofs.Whole.{list-refuses, given-filled, lists}
+use Rattle.std.proofs.Common.{sym, ◌∙◌, length}
+use Rattle.races.proofs.Whole.{given-filled, list-refuses, list-stays, asked-answer, asked-left}
 use Rattle.races.proofs.list_races.Goals as goal
 
-pub put_all-requires : goal.put_all-requires
-put_all-requires c = given-filled c.args.n c.args.process_limit c.args.model c.args.rows.now c.args.counts.now c.fill.ensures.answer c.fill.ensures.left c.in-Done.is
+pub invariant_of-search : goal.invariant_of-search
+invariant_of-search c =
+    let a = c.args in
+    record { given = given-filled a.n a.process_limit a.model a.rows.now a.counts.now c.in_ok-fill.ensures.answer c.fill.ensures.left }
 
-pub returns-in-Refused : goal.returns-in-Refused
-returns-in-Refused c =
-    let t = list-refuses c.args.n c.args.process_limit c.args.model c.args.rows.now c.args.counts.now c.fill.ensures.answer c.fill.ensures.left c.args.list.now c.in-Refused.is in
-    record { answer = t.0; left = t.1; listed = t.2 }
+pub returns-in_err-fill-clause-answer : goal.returns-in_err-fill-clause-answer
+returns-in_err-fill-clause-answer c =
+    let a = c.args in
+    list-refuses a.n a.process_limit a.model a.rows.now a.counts.now _ c.in_err-fill.ensures.answer a.list.now _ c.from_residual.ensures.1
 
-pub returns-in-Done : goal.returns-in-Done
-returns-in-Done c =
-    let t = lists c.args.n c.args.process_limit c.args.model c.args.rows.now c.args.counts.now c.fill.ensures.answer c.fill.ensures.left c.in-Done.is c.args.list.now c.put_all.ensures.answer c.put_all.ensures.listed in
-    record { answer = t.0; left = t.1; listed = t.2 }
+pub returns-in_err-fill-clause-listed : goal.returns-in_err-fill-clause-listed
+returns-in_err-fill-clause-listed c =
+    let a = c.args in
+    list-stays a.n a.process_limit a.model a.rows.now a.counts.now _ c.in_err-fill.ensures.answer a.list.now
+
+pub returns-clause-answer : goal.returns-clause-answer
+returns-clause-answer c =
+    let a = c.args in
+    c.put_all.ensures.answer
+    ∙ sym (asked-answer a.n a.process_limit a.model a.rows.now (length a.counts.now) (length a.list.now) c.in_ok-fill.ensures.answer)
+
+pub returns-clause-listed : goal.returns-clause-listed
+returns-clause-listed c =
+    let a = c.args in
+    c.put_all.ensures.listed
+    ∙ sym (asked-left a.n a.process_limit a.model a.rows.now (length a.counts.now) a.list.now c.in_ok-fill.ensures.answer)
