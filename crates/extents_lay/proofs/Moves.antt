@@ -1,9 +1,9 @@
 -- Runs put into a map, and numbers moved within it.
-use Rattle.std.proofs.Common.{ℕ, suc, ◌+◌, ◌*◌, ◌-◌, ◌/◌, ◌%◌, ◌≤◌, ◌<◌, min, add-one, arith, ◌≡◌, refl, sym, ap, ◌∙◌, List, [], ◌∷◌, ◌++◌, append_assoc, append-nil, length, take, drop, replicate, length-append, length-drop, length-set, take-append-drop, length-take-le, take-suc, get_or-take, get_or-drop, drop-drop, take-add, take_at, drop_at}
+use Rattle.std.proofs.Common.{ℕ, ◌+◌, ◌*◌, ◌-◌, ◌/◌, ◌%◌, ◌≤◌, ◌<◌, min, add-one, arith, ◌≡◌, refl, sym, ap, ◌∙◌, List, [], ◌∷◌, ◌++◌, append_assoc, append-nil, length, take, drop, replicate, length-append, length-drop, take-append-drop, length-take-le, drop-drop, take-add, take_at, drop_at}
 use native.Mathlib.Decide.{dec_lt}
 use native.Mathlib.Numerals.{add-two, add-three}
-use lib.ListN.{get_or, set, length-replicate, replicate-append-replicate, get_or-append}
-use lib.Seq.{append_snoc, set_at, sets-eq, paste, paste-zero, paste-suc, take-paste, drop-paste, slice, slice_empty, slice-cons}
+use lib.ListN.{set, length-replicate, replicate-append-replicate}
+use lib.Seq.{sets-eq, paste, take-paste, drop-paste, slice}
 use borrow.Rule.Slice.PartMut.{put_mid}
 use Rattle.extents_meaning.specs.Runs.{Run, run_of}
 use Rattle.extents_meaning.specs.Maps.{fours}
@@ -61,83 +61,33 @@ put_one xs i s l c f h =
       ),
     )
 
--- ---- Numbers moved up, from the last one on
+-- Four numbers copied into a slice are four stores.
+pub four_stored : (xs : List ℕ) (at a b c d : ℕ) → at + 4 ≤ length xs → {ys : List ℕ} → ys ≡ a ∷ (b ∷ (c ∷ (d ∷ []))) →
+    put_mid at (at + 4 - at) xs ys ≡ set (set (set (set xs at a) (at + 1) b) (at + 2) c) (at + 3) d
+four_stored xs at a b c d h {ys} e =
+    let new = a ∷ (b ∷ (c ∷ (d ∷ []))) in
+    let k : at + (at + 4 - at) ≡ at + 4 = omega arith in
+    let stored : set (set (set (set xs at a) (at + 1) b) (at + 2) c) (at + 3) d ≡ (take at xs ++ new) ++ drop (at + 4) xs =
+    rw (add-one, add-two, add-three) (sets-eq new xs at h) in
+    (λ t. take at xs ++ (e t ++ (drop-drop (at + 4 - at) at xs ∙ (λ v. drop (k v) xs)) t))
+    ∙ sym (append_assoc (take at xs) new (drop (at + 4) xs)) ∙ sym stored
 
--- The numbers from place i on are in their new places.
-pub record Upward (xs : List ℕ) (from end by : ℕ) (ys : List ℕ) (i : ℕ) : Type 0 where
-  pub low : from ≤ i
-  pub high : i ≤ end
-  pub fit : end + by ≤ length xs
-  pub same : length ys ≡ length xs
-  pub so_far : ys ≡ take (i + by) xs ++ (slice i end xs ++ drop (end + by) xs)
+-- ---- Numbers copied within a slice
 
--- At first no number is moved up.
-pub up_start : (xs : List ℕ) (from end by : ℕ) → from ≤ end → end + by ≤ length xs → Upward xs from end by xs end
-up_start xs from end by h k =
-    record {
-      low = h;
-      high = omega arith;
-      fit = k;
-      same = refl;
-      so_far = sym ((λ j. take (end + by) xs ++ (slice_empty end xs j ++ drop (end + by) xs)) ∙ take-append-drop (end + by) xs);
-    }
-
-module _ {xs : List ℕ} {from end by : ℕ} {ys : List ℕ} {i : ℕ} (u : Upward xs from end by ys i) where
-  -- One more number is moved up.
-  pub up_next : from < i → Upward xs from end by (set ys (i - 1 + by) (get_or ys (i - 1) 0)) (i - 1)
-  up_next h =
-      let l = u.high in
-      let k = u.fit in
-      let j = i - 1 in
-      let p = take (j + by) xs in
-      let rest = slice i end xs ++ drop (end + by) xs in
-      let e : i + by ≡ suc (j + by) = omega arith in
-      let s : i ≡ suc j = omega arith in
-      let read : get_or ys j 0 ≡ get_or xs j 0 =
-      ap (λ (l : List ℕ). get_or l j 0) u.so_far
-      ∙ get_or-append (take (i + by) xs) rest 0 j (omega (arith, length-take-le (i + by) xs (omega arith)))
-      ∙ get_or-take (i + by) xs j 0 (omega arith) in
-      let whole : ys ≡ p ++ (get_or xs (j + by) 0 ∷ rest) =
-      u.so_far
-      ∙ (λ t. ((λ v. take (e v) xs) ∙ take-suc xs (j + by) 0 (omega arith)) t ++ rest)
-      ∙ append_snoc p (get_or xs (j + by) 0) rest in
-      record {
-        low = omega arith;
-        high = omega arith;
-        fit = k;
-        same = length-set ys (j + by) (get_or ys j 0) ∙ u.same;
-        so_far =
-            (λ t. set (whole t) (j + by) (read t))
-            ∙ set_at p (get_or xs (j + by) 0) rest (get_or xs j 0) (j + by) (length-take-le (j + by) xs (omega arith))
-            ∙ (λ t. p ++ (get_or xs j 0 ∷ (slice (s t) end xs ++ drop (end + by) xs)))
-            ∙ (λ t. p ++ (sym (slice-cons j end xs 0 (omega arith) (omega arith)) t ++ drop (end + by) xs));
-      }
-
-  -- All numbers are moved up.
-  pub up_stop : i ≤ from → ys ≡ take (from + by) xs ++ (slice from end xs ++ drop (end + by) xs)
-  up_stop h = let e : i ≡ from = omega (arith, u.low) in u.so_far ∙ (λ t. take (e t + by) xs ++ (slice (e t) end xs ++ drop (end + by) xs))
-
--- ---- Zeros stored
-
--- A part of a slice that comes back as zeros.
-pub cleared-part : (from to : ℕ) (xs : List ℕ) → from ≤ to → to ≤ length xs → {last : List ℕ} →
-    last ≡ replicate (length (take (to - from) (drop from xs))) 0 →
-    put_mid from (to - from) xs last ≡ (take from xs ++ replicate (to - from) 0) ++ drop to xs
-cleared-part from to xs h k {last} e =
-    let n : length (take (to - from) (drop from xs)) ≡ to - from = length-take-le (to - from) (drop from xs) (omega (arith, length-drop from xs)) in
-    let z : last ≡ replicate (to - from) 0 = e ∙ ap (λ (m : ℕ). replicate {A = ℕ} m 0) n in
-    let d : from + (to - from) ≡ to = omega arith in
-    (λ t. take from xs ++ (z t ++ drop-drop (to - from) from xs t))
-    ∙ (λ t. take from xs ++ (replicate (to - from) 0 ++ drop (d t) xs))
-    ∙ sym (append_assoc (take from xs) (replicate (to - from) 0) (drop to xs))
+-- Numbers copied up by some places.
+pub copied_up : (xs : List ℕ) (from end by : ℕ) → from ≤ end → end + by ≤ length xs →
+    paste xs (from + by) (drop from xs) (end - from) ≡ take (from + by) xs ++ (slice from end xs ++ drop (end + by) xs)
+copied_up xs from end by h k =
+    let n = end - from in
+    let e : from + n ≡ end = omega arith in
+    let d : from + by + n ≡ end + by = omega arith in
+    let part : take n (drop from xs) ≡ slice from end xs =
+    sym
+    ((λ t. drop from (take (sym e t) xs)) ∙ ap (drop from) (take-add from n xs)
+    ∙ drop_at (take from xs) (take n (drop from xs)) from (length-take-le from xs (omega arith))) in
+    append_assoc (take (from + by) xs) (take n (drop from xs)) (drop (from + by + n) xs) ∙ (λ t. take (from + by) xs ++ (part t ++ drop (d t) xs))
 
 -- ---- Numbers moved, and zeros behind them
-
--- The first i numbers of those from `from` to `end` stand at the place `to`, and the others are as they were.
-pub record Downward (xs : List ℕ) (from end to : ℕ) (ys : List ℕ) (i : ℕ) : Type 0 where
-  pub high : from + i ≤ end
-  pub same : length ys ≡ length xs
-  pub so_far : ys ≡ paste xs to (drop from xs) i
 
 module _ (xs : List ℕ) (from end to : ℕ)
     (p : ((from ≤ end) × (end ≤ length xs) × (to + (end - from) ≤ length xs)) × (drop end xs ≡ replicate (length xs - end) 0)) where
@@ -154,18 +104,9 @@ module _ (xs : List ℕ) (from end to : ℕ)
       sym (drop-drop by end xs) ∙ ap (drop by) (p.1 ∙ (λ t. replicate (sym e t) 0) ∙ sym (replicate-append-replicate by n 0))
       ∙ drop_at (replicate by 0) (replicate n 0) by (length-replicate by 0)
 
-  -- the numbers that move, as a part of the slice
-  part : slice from end xs ≡ moving
-  part =
-      let e : end ≡ from + (end - from) = omega arith in
-      (λ t. drop from (take (e t) xs)) ∙ ap (drop from) (take-add from (end - from) xs)
-      ∙ drop_at (take from xs) moving from (length-take-le from xs (omega arith))
-
-  -- Numbers that were moved up stand at their new place.
-  pub moved_up : from < to → {ys : List ℕ} → ys ≡ take (from + (to - from)) xs ++ (slice from end xs ++ drop (end + (to - from)) xs) → Moved ys
-  moved_up l q =
-      let e : from + (to - from) ≡ to = omega arith in
-      q ∙ (λ t. take (e t) xs ++ (part t ++ fewer (to - from) (length xs - to - (end - from)) (omega arith) t))
+  -- the numbers copied to their new place
+  abbrev copied : List ℕ
+  copied = paste xs to (drop from xs) (end - from)
 
   -- Numbers that do not move stand there.
   pub moved_none : from ≡ to → Moved xs
@@ -177,46 +118,25 @@ module _ (xs : List ℕ) (from end to : ℕ)
       ∙ (λ t. take (e t) xs ++ sym (take-append-drop (end - from) (drop from xs)) t)
       ∙ (λ t. take to xs ++ (moving ++ back t))
 
-  -- At first no number is moved down.
-  pub down_start : Downward xs from end to xs 0
-  down_start = record { high = omega arith; same = refl; so_far = paste-zero xs to (drop from xs) }
+  -- Numbers copied up stand there.
+  pub moved_up : from ≤ to → Moved copied
+  moved_up l =
+      let e : to + (end - from) ≡ end + (to - from) = omega arith in
+      append_assoc (take to xs) moving (drop (to + (end - from)) xs)
+      ∙ (λ t. take to xs ++ (moving ++ ((λ v. drop (e v) xs) ∙ fewer (to - from) (length xs - to - (end - from)) (omega arith)) t))
 
-  module _ (lower : to ≤ from) {ys : List ℕ} {i : ℕ} (u : Downward xs from end to ys i) where
-    -- What stands behind the moved numbers is as it was.
-    kept : drop (to + i) ys ≡ drop (to + i) xs
-    kept =
-        let o = u.high in
-        ap (drop (to + i)) u.so_far ∙ drop-paste xs to (drop from xs) i (omega arith) (omega (arith, length-drop from xs))
-
-    -- One more number is moved down.
-    pub down-next : from + i < end → Downward xs from end to (set ys (to + i) (get_or ys (from + i) 0)) (i + 1)
-    down-next l =
-        let e : to + i + (from - to) ≡ from + i = omega arith in
-        let read : get_or ys (from + i) 0 ≡ get_or (drop from xs) i 0 =
-        (λ t. get_or ys (sym e t) 0) ∙ sym (get_or-drop (to + i) ys (from - to) 0) ∙ (λ t. get_or (kept t) (from - to) 0)
-        ∙ get_or-drop (to + i) xs (from - to) 0 ∙ (λ t. get_or xs (e t) 0) ∙ sym (get_or-drop from xs i 0) in
-        record {
-          high = omega arith;
-          same = length-set ys (to + i) (get_or ys (from + i) 0) ∙ u.same;
-          so_far =
-              (λ t. set (u.so_far t) (to + i) (read t))
-              ∙ paste-suc xs to (drop from xs) i 0 (omega arith) (omega (arith, length-drop from xs))
-              ∙ (λ t. paste xs to (drop from xs) (sym (add-one i) t));
-        }
-
-    -- All numbers are moved down, and zeros were stored behind them.
-    pub moved_down : end ≤ from + i → {zs : List ℕ} → zs ≡ (take (to + i) ys ++ replicate (end - (to + i)) 0) ++ drop end ys → Moved zs
-    moved_down l q =
-        let o = u.high in
-        let s = drop from xs in
-        let n : i ≡ end - from = omega arith in
-        let a = end - (to + i) in
-        let b = length xs - end in
-        let m : a + b ≡ length xs - to - (end - from) = omega arith in
-        let front : take (to + i) ys ≡ take to xs ++ take i s =
-        ap (take (to + i)) u.so_far ∙ take-paste xs to s i (omega arith) (omega (arith, length-drop from xs)) in
-        let back : drop end ys ≡ replicate b 0 = drop_more (to + i) end ys xs (omega arith) kept ∙ p.1 in
-        q ∙ (λ t. (front t ++ replicate a 0) ++ back t)
-        ∙ append_assoc (take to xs ++ take i s) (replicate a 0) (replicate b 0)
-        ∙ append_assoc (take to xs) (take i s) (replicate a 0 ++ replicate b 0)
-        ∙ (λ t. take to xs ++ (take (n t) s ++ (replicate-append-replicate a b 0 ∙ (λ v. replicate (m v) 0)) t))
+  -- Numbers copied down stand there once zeros are stored behind them.
+  pub moved_down : to ≤ from → {ys : List ℕ} → ys ≡ (take (to + (end - from)) copied ++ replicate (end - (to + (end - from))) 0) ++ drop end copied → Moved ys
+  moved_down l q =
+      let s = drop from xs in
+      let n = end - from in
+      let a = end - (to + n) in
+      let b = length xs - end in
+      let m : a + b ≡ length xs - to - n = omega arith in
+      let room : n ≤ length s = omega (arith, length-drop from xs) in
+      let front : take (to + n) copied ≡ take to xs ++ moving = take-paste xs to s n (omega arith) room in
+      let back : drop end copied ≡ replicate b 0 = drop_more (to + n) end copied xs (omega arith) (drop-paste xs to s n (omega arith) room) ∙ p.1 in
+      q ∙ (λ t. (front t ++ replicate a 0) ++ back t)
+      ∙ append_assoc (take to xs ++ moving) (replicate a 0) (replicate b 0)
+      ∙ append_assoc (take to xs) moving (replicate a 0 ++ replicate b 0)
+      ∙ (λ t. take to xs ++ (moving ++ (replicate-append-replicate a b 0 ∙ (λ v. replicate (m v) 0)) t))

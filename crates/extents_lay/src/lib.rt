@@ -58,8 +58,7 @@ fn first_behind(map: &[u32], all: usize, first: usize, end: u32, cell: u32) -> u
     requires { (lawful map.now ≡ true) × (all ≡ length (runs map.now)) × (first ≤ all) }
     ensures { Behind (runs map.now) first end cell result }
 {
-    let mut i = first;
-    while i < all {
+    for i in first..all {
         let start = locate::start_at(map, i);
         if end < start {
             return i;
@@ -67,9 +66,8 @@ fn first_behind(map: &[u32], all: usize, first: usize, end: u32, cell: u32) -> u
         if end == start && locate::cell_at(map, i) != cell {
             return i;
         }
-        i += 1;
     }
-    i
+    all
 }
 
 // What stays of the first run met, before the range; a part of the same cell joins the range.
@@ -79,28 +77,22 @@ fn left_side(map: &[u32], all: usize, first: usize, start: u32, cell: u32) -> Si
 {
     if first == all {
         return Side {
-            start: 0,
-            length: 0,
-            cell: 0,
             bound: start,
+            ..Side::NONE
         };
     }
     let from = locate::start_at(map, first);
     if start <= from {
         return Side {
-            start: 0,
-            length: 0,
-            cell: 0,
             bound: start,
+            ..Side::NONE
         };
     }
     let value = locate::cell_at(map, first);
     if value == cell {
         return Side {
-            start: 0,
-            length: 0,
-            cell: 0,
             bound: from,
+            ..Side::NONE
         };
     }
     Side {
@@ -118,29 +110,23 @@ fn right_side(map: &[u32], first: usize, behind: usize, end: u32, cell: u32) -> 
 {
     if behind <= first {
         return Side {
-            start: 0,
-            length: 0,
-            cell: 0,
             bound: end,
+            ..Side::NONE
         };
     }
     let last = behind - 1;
     let to = locate::end_at(map, last);
     if to <= end {
         return Side {
-            start: 0,
-            length: 0,
-            cell: 0,
             bound: end,
+            ..Side::NONE
         };
     }
     let value = locate::cell_at(map, last);
     if value == cell {
         return Side {
-            start: 0,
-            length: 0,
-            cell: 0,
             bound: to,
+            ..Side::NONE
         };
     }
     Side {
@@ -163,21 +149,11 @@ fn middle_length(from: u32, to: u32, cell: u32) -> u32
     to - from
 }
 
-// How many runs a part is: 0 or 1.
-fn some(length: u32) -> usize
-    ensures { result ≡ min length 1 }
-{
-    if length == 0 {
-        return 0;
-    }
-    1
-}
-
 // How many runs the parts of a range are: what stays before it, the range, and what stays behind it.
 fn count_parts(left: Side, middle: u32, right: Side) -> usize
     ensures { result ≡ min left.length 1 + min middle 1 + min right.length 1 }
 {
-    some(left.length) + some(middle) + some(right.length)
+    (left.length.min(1) + middle.min(1) + right.length.min(1)) as usize
 }
 
 // Moves the numbers from `from` to `end` to the place `to`, and puts 0 behind them as far as numbers stood. Behind `end` all is 0.
@@ -190,16 +166,10 @@ fn move_to(map: &mut [u32], from: usize, end: usize, to: usize)
     if from == to {
         return;
     }
-    if from < to {
-        move_up(map, from, end, to - from);
-        return;
+    map.copy_within(from..end, to);
+    if to < from {
+        clear_between(map, to + (end - from), end);
     }
-    let mut i = 0;
-    while from + i < end {
-        map[to + i] = map[from + i];
-        i += 1;
-    }
-    clear_between(map, to + i, end);
 }
 
 // Moves the numbers from `from` to `end` up by some places.
@@ -208,11 +178,7 @@ pub fn move_up(map: &mut [u32], from: usize, end: usize, by: usize)
     ensures { map.new ≡ take (from + by) map.old
         ++ (slice from end map.old ++ drop (end + by) map.old) }
 {
-    let mut i = end;
-    while from < i {
-        i -= 1;
-        map[i + by] = map[i];
-    }
+    map.copy_within(from..end, from + by);
 }
 
 // Puts 0 from a place up to another.
@@ -220,7 +186,7 @@ pub fn clear_between(map: &mut [u32], from: usize, to: usize)
     requires { (from ≤ to) × (to ≤ length map.old) }
     ensures { map.new ≡ (take from map.old ++ replicate (to - from) 0) ++ drop to map.old }
 {
-    rows::clear(&mut map[from..to]);
+    map[from..to].fill(0);
 }
 
 // Puts a run behind the first i runs, if the run has a length, and answers the place behind.
@@ -243,8 +209,5 @@ pub fn put_run(map: &mut [u32], at: usize, start: u32, length: u32, cell: u32)
     ensures { map.new
         ≡ set (set (set (set map.old at start) (at + 1) length) (at + 2) (cell / 2)) (at + 3) (cell % 2) }
 {
-    map[at] = start;
-    map[at + 1] = length;
-    map[at + 2] = cell / 2;
-    map[at + 3] = cell % 2;
+    map[at..at + 4].copy_from_slice(&[start, length, cell / 2, cell % 2]);
 }

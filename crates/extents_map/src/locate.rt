@@ -14,6 +14,16 @@ pub struct Side {
     pub bound: u32,
 }
 
+impl Side {
+    // No part of a run.
+    pub const NONE: Side = Side {
+        start: 0,
+        length: 0,
+        cell: 0,
+        bound: 0,
+    };
+}
+
 // The four numbers of a run.
 #[derive(Clone, Copy, Debug, PartialEq, Eq, Hash)]
 pub(crate) struct Run {

@@ -1,5 +1,4 @@
 -- `extents_lay::first_behind` meets its contract.
-use Rattle.std.proofs.Common.{◌-◌}
 use Rattle.extents_meaning.specs.Maps.{runs}
 use Rattle.extents_map.proofs.Parted.{Reaching}
 use Rattle.extents_lay.proofs.first_behind.Given as goal
@@ -7,6 +6,3 @@ use Rattle.extents_lay.proofs.first_behind.Given as goal
 -- The range meets the runs from run `first` to run i.
 abbrev pub invariant-loop-i : goal.invariant-loop-i
 invariant-loop-i l = Reaching (runs l.map) l.first l.end l.i
-
-abbrev pub decreases-loop-i : goal.decreases-loop-i
-decreases-loop-i l = l.all - l.i

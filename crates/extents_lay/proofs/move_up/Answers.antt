@@ -1,6 +1,7 @@
 -- `extents_lay::move_up` meets its contract.
-use Rattle.extents_lay.proofs.Moves.{up_next}
+use Rattle.std.proofs.Common.{◌∙◌}
+use Rattle.extents_lay.proofs.Moves.{copied_up}
 use Rattle.extents_lay.proofs.move_up.Goals as goal
 
-pub loop-i-preserved : goal.loop-i-preserved
-loop-i-preserved c = up_next c.loop-i.invariant c.loop-i-test.true
+pub returns : goal.returns
+returns c = let a = c.args in c.copy_within.ensures.after ∙ copied_up a.map.now a.from a.end a.by c.requires.0 c.requires.1
