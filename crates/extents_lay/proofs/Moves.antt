@@ -1,10 +1,11 @@
 -- Runs put into a map, and numbers moved within it.
-use Rattle.std.proofs.Common.{ℕ, ◌+◌, ◌*◌, ◌-◌, ◌/◌, ◌%◌, ◌≤◌, ◌<◌, min, add-one, arith, ◌≡◌, refl, sym, ap, ◌∙◌, List, [], ◌∷◌, ◌++◌, append_assoc, append-nil, length, take, drop, replicate, length-append, length-drop, take-append-drop, length-take-le, drop-drop, take-add, take_at, drop_at}
+use Rattle.std.proofs.Common.{ℕ, ◌+◌, ◌*◌, ◌-◌, ◌/◌, ◌%◌, ◌≤◌, ◌<◌, min, add-one, arith, ◌≡◌, refl, sym, ap, ◌∙◌, List, [], ◌∷◌, ◌++◌, append_assoc, append-nil, length, take, drop, replicate, length-append, length-drop, take-append-drop, length-take-le, drop-drop, take-add, take_at, drop_at, le-leb}
 use native.Mathlib.Decide.{dec_lt}
 use native.Mathlib.Numerals.{add-two, add-three}
 use lib.ListN.{set, length-replicate, replicate-append-replicate}
 use lib.Seq.{sets-eq, paste, take-paste, drop-paste, slice}
 use borrow.Rule.Slice.PartMut.{put_mid}
+use Rattle.rows.specs.Rows.{with_group}
 use Rattle.extents_meaning.specs.Runs.{Run, run_of}
 use Rattle.extents_meaning.specs.Maps.{fours}
 use Rattle.extents_meaning.proofs.Trips.{fours-append}
@@ -39,25 +40,26 @@ Put xs i s l c r ys =
 pub put-none : (xs : List ℕ) (i s l c : ℕ) → l ≡ 0 → Put xs i s l c i xs
 put-none xs i s l c e = rw (part_none s l c e) (omega arith, (λ ps f. rw append-nil f, λ k h. refl))
 
--- four stores put one run
-pub put_one : (xs : List ℕ) (i s l c : ℕ) → 1 ≤ l → 4 * (i + 1) ≤ length xs →
-    Put xs i s l c (i + 1) (set (set (set (set xs (i * 4) s) (i * 4 + 1) l) (i * 4 + 2) (c / 2)) (i * 4 + 3) (c % 2))
-unfolding fours
-put_one xs i s l c f h =
+-- four numbers put one run
+pub put_one : (xs : List ℕ) (i s l c : ℕ) → 1 ≤ l → 4 * (i + 1) ≤ length xs → {ys : List ℕ} →
+    ys ≡ with_group 4 i (s ∷ (l ∷ (c / 2 ∷ (c % 2 ∷ [])))) xs → Put xs i s l c (i + 1) ys
+unfolding fours with_group
+put_one xs i s l c f h {ys} w =
     let new = s ∷ (l ∷ (c / 2 ∷ (c % 2 ∷ []))) in
     let q : i * 4 ≡ 4 * i = omega arith in
-    let e : 4 * i + 4 ≡ 4 * (i + 1) = omega arith in
+    let e : i * 4 + 4 ≡ 4 * (i + 1) = omega arith in
     let front = take (4 * i) xs ++ new in
     let back = drop (4 * (i + 1)) xs in
-    let stored : set (set (set (set xs (i * 4) s) (i * 4 + 1) l) (i * 4 + 2) (c / 2)) (i * 4 + 3) (c % 2) ≡ front ++ back =
-    rw (add-one, add-two, add-three) (sets-eq new xs (i * 4) (omega arith))
-    ∙ (λ t. (take (q t) xs ++ new) ++ drop (((λ v. q v + 4) ∙ e) t) xs) in
+    let stored : ys ≡ front ++ back =
+    w
+    ∙ rw (le-leb (i * 4 + 4) (length xs) (omega arith))
+    ((λ t. take (q t) xs ++ (new ++ drop (e t) xs)) ∙ sym (append_assoc (take (4 * i) xs) new back)) in
     let n : length front ≡ 4 * (i + 1) = omega (arith, length-append (take (4 * i) xs) new, length-take-le (4 * i) xs (omega arith)) in
     rw (part-some s l c f) (
       omega arith,
       (
         λ ps q. ap (take (4 * (i + 1))) stored ∙ take_at front back (4 * (i + 1)) n ∙ (λ t. q t ++ new) ∙ sym (fours-append ps (run_of s l c ∷ [])),
-        λ k o. drop_more (4 * (i + 1)) (4 * k) _ xs (omega arith) (ap (drop (4 * (i + 1))) stored ∙ drop_at front back (4 * (i + 1)) n),
+        λ k o. drop_more (4 * (i + 1)) (4 * k) ys xs (omega arith) (ap (drop (4 * (i + 1))) stored ∙ drop_at front back (4 * (i + 1)) n),
       ),
     )
 

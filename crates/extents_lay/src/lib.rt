@@ -199,7 +199,7 @@ fn put_part(map: &mut [u32], i: usize, start: u32, length: u32, cell: u32) -> us
     if length == 0 {
         return i;
     }
-    put_run(map, i * 4, start, length, cell);
+    rows::put_group(map, i, [start, length, cell / 2, cell % 2]);
     i + 1
 }
 

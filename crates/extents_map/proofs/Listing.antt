@@ -1,9 +1,8 @@
 -- Pieces listed from the first byte on: one is in hand while the value stays, and is put when the value changes.
-use Rattle.std.proofs.Common.{ℕ, suc, ◌+◌, ◌*◌, ◌-◌, ◌/◌, ◌≤◌, ◌<◌, min, add-zero, arith, ◌≡◌, refl, sym, ap, ◌∙◌, List, [], ◌∷◌, ◌++◌, append_assoc, append-nil, length, drop, length-append, take-append-drop, take_at, drop_at, drop-drop}
+use Rattle.std.proofs.Common.{ℕ, suc, ◌+◌, ◌*◌, ◌-◌, ◌/◌, ◌≤◌, ◌<◌, min, add-zero, arith, ◌≡◌, refl, sym, ap, ◌∙◌, List, [], ◌∷◌, ◌++◌, append_assoc, append-nil, length, take, drop, length-append, take-append-drop, take_at, drop_at, drop-drop, le-leb}
 use native.Mathlib.Decide.{dec_lt, ℕ_discrete}
-use lib.ListN.{set}
-use lib.Seq.{sets-eq}
 use Rattle.rows.specs.Limits.{OFFSET_MAX}
+use Rattle.rows.specs.Rows.{with_group}
 use Rattle.extents_meaning.specs.Cells.{Bytes, number_in}
 use Rattle.extents_meaning.specs.Runs.{Run}
 use Rattle.extents_meaning.specs.Maps.{threes, bytes_of, with_part, listed_in}
@@ -50,21 +49,18 @@ module _ {xs : List ℕ} {hand : Piece} {x value : ℕ} where
       }
 
   -- another value puts the one in hand
-  pub turn-put : (hand.value ≡ 0 → ⊥) → (value ≡ hand.value → ⊥) → hand.count * 3 + 3 ≤ length xs →
-      (let k = hand.count * 3 in
-      Turned xs hand x value (piece_of (hand.count + 1) x value)
-      (set (set (set xs k hand.start) (k + 1) (x - hand.start)) (k + 2) (hand.value - 1)))
-  unfolding threes
-  turn-put z n h =
+  pub turn-put : (hand.value ≡ 0 → ⊥) → (value ≡ hand.value → ⊥) → hand.count * 3 + 3 ≤ length xs → {ys : List ℕ} →
+      ys ≡ with_group 3 hand.count (hand.start ∷ ((x - hand.start) ∷ ((hand.value - 1) ∷ []))) xs →
+      Turned xs hand x value (piece_of (hand.count + 1) x value) ys
+  unfolding threes with_group
+  turn-put z n h e =
       let k = hand.count * 3 in
-      let e : k + 1 ≡ suc k = omega arith in
-      let d : k + 2 ≡ suc (suc k) = omega arith in
       let ns = hand.start ∷ ((x - hand.start) ∷ ((hand.value - 1) ∷ [])) in
       record {
         same = λ l q. absurd (n q);
         other = λ f.
             rw (put_some hand.start x hand.value [] z)
-            (refl, (λ i. set (set (set xs k hand.start) (e i) (x - hand.start)) (d i) (hand.value - 1)) ∙ sets-eq ns xs k h);
+            (refl, e ∙ rw (le-leb (k + 3) (length xs) h) (sym (append_assoc (take k xs) ns (drop (k + 3) xs))));
       }
 
 -- ---- A listing

@@ -53,10 +53,11 @@ fn turn(out: &mut [u32], hand: Piece, x: u32, value: u32) -> Piece
     if value == hand.value {
         return hand;
     }
-    let at = hand.count * 3;
-    out[at] = hand.start;
-    out[at + 1] = x - hand.start;
-    out[at + 2] = hand.value - 1;
+    rows::put_group(
+        out,
+        hand.count,
+        [hand.start, x - hand.start, hand.value - 1],
+    );
     Piece {
         count: hand.count + 1,
         start: x,

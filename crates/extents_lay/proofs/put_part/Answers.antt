@@ -9,4 +9,4 @@ returns-then-length-eq0 c = let both = put-none _ _ _ _ _ c.if-length-eq0.true i
 pub returns-clause-runs_put : goal.returns-clause-runs_put
 returns-clause-runs_put c =
     let f = c.if-length-eq0.false in
-    rw c.put_run.ensures ((put_one c.args.map.now c.args.i c.args.start c.args.length c.args.cell (omega (arith, f)) (omega (arith, f, c.requires))).1)
+    (put_one c.args.map.now c.args.i c.args.start c.args.length c.args.cell (omega arith) (omega (arith, c.requires)) c.put_group.ensures).1
