@@ -1,5 +1,5 @@
 -- The first No of the questions: of a call, of a header and of a row's record.
-use Rattle.std.proofs.Common.{ℕ, suc, ◌*◌, ◌≤◌, ◌<◌, arith, ◌≡◌, refl, sym, ap, ◌∙◌, Bool, true, false, cond, ◌&&◌, List, [], map, length, drop, drop_of_length-le, drop-cons, lt-ltb, le-ltb, le-leb, eq-eqb, ne_eqb, eqb-true}
+use Rattle.std.proofs.Common.{ℕ, ◌*◌, ◌≤◌, ◌<◌, arith, ◌≡◌, refl, sym, ◌∙◌, Bool, true, false, cond, ◌&&◌, List, [], ◌∷◌, length, lt-ltb, le-ltb, le-leb, eq-eqb, ne_eqb, eqb-true}
 use mathlib.Core.Bool.{and-true}
 use lib.ListN.{get_or}
 use lib.Dec.{leb, eqb}
@@ -9,14 +9,12 @@ use Rattle.csv_content.specs.Content.{content_of, same_bytes}
 use Rattle.csv_field.specs.declared.Span.{Span}
 use Rattle.rows.specs.Limits.{MODELS, ROWS}
 use Rattle.rows.specs.declared.row.Row.{Row}
-use Rattle.trace_numbers.specs.declared.ReadRow.{ReadRow}
-use Rattle.trace_numbers.specs.declared.ReadRow.TheVariants.{Kept, No}
+use Rattle.trace_numbers.specs.Numbers.{ReadRow, Kept, No}
 use Rattle.trace.specs.Rows.{header_names, same_fields, row_of}
 use Rattle.trace.specs.Questions.{in_limits, call_questions, field_questions, record_questions}
-use Rattle.messages.specs.Table.{table_questions, table_after}
-use Rattle.rows.specs.Questions.{Question, first_no, is_process_limit}
-use Rattle.rows.proofs.Asking.{From, first-no, rest-decides}
-use Rattle.trace.specs.Reads.{fields_of, judged_by, judged_fields, judged_row, table_left, headed}
+use Rattle.rows.specs.Questions.{first_no, is_process_limit}
+use Rattle.rows.proofs.Asking.{From}
+use Rattle.trace.specs.Reads.{fields_of, judged_by, judged_fields, headed}
 
 -- ---- The questions 1 to 3
 
@@ -83,44 +81,28 @@ module _ (header model rowLimit processLimit rowsLength countsLength : ℕ) wher
 
 -- ---- The header
 
--- The record has the first k of the six names, and the others decide.
-pub record Named (text : List ℕ) (count : ℕ) (spans : List Span) (k : ℕ) : Type 0 where
-  pub six : length spans ≡ 6
-  pub rest : headed count (fields_of text spans) ≡ same_fields (map (content_of text) (drop k spans)) (drop k header_names)
+-- the header by its six names
+pub header_by : (text : List ℕ) (count : ℕ) (spans : List Span) → length spans ≡ 6 →
+    headed count (fields_of text spans)
+    ≡ eqb count 6
+    && (same_bytes (content_of text (get_or spans 0 no_span)) (get_or header_names 0 [])
+    && (same_bytes (content_of text (get_or spans 1 no_span)) (get_or header_names 1 [])
+    && (same_bytes (content_of text (get_or spans 2 no_span)) (get_or header_names 2 [])
+    && (same_bytes (content_of text (get_or spans 3 no_span)) (get_or header_names 3 [])
+    && (same_bytes (content_of text (get_or spans 4 no_span)) (get_or header_names 4 [])
+    && same_bytes (content_of text (get_or spans 5 no_span)) (get_or header_names 5 []))))))
+unfolding same_fields
+header_by text count [] h = absurd (omega arith)
+header_by text count (a ∷ []) h = absurd (omega arith)
+header_by text count (a ∷ (b ∷ [])) h = absurd (omega arith)
+header_by text count (a ∷ (b ∷ (c ∷ []))) h = absurd (omega arith)
+header_by text count (a ∷ (b ∷ (c ∷ (d ∷ [])))) h = absurd (omega arith)
+header_by text count (a ∷ (b ∷ (c ∷ (d ∷ (e ∷ []))))) h = absurd (omega arith)
+header_by text count (a ∷ (b ∷ (c ∷ (d ∷ (e ∷ (f ∷ [])))))) h = simp and-true
+header_by text count (a ∷ (b ∷ (c ∷ (d ∷ (e ∷ (f ∷ (g ∷ rest))))))) h = absurd (omega arith)
 
--- a record without six fields is no header
-pub not_six : (text : List ℕ) (count : ℕ) (spans : List Span) → (count ≡ 6 → ⊥) → false ≡ headed count (fields_of text spans)
-not_six text count spans h = rw (ne_eqb count 6 h)
-
--- of a record with six fields, the names decide
-pub none_named : {text : List ℕ} {count : ℕ} {spans : List Span} → length spans ≡ 6 → count ≡ 6 → Named text count spans 0
-none_named s h = record { six = s; rest = rw h }
-
-module _ {text : List ℕ} {count : ℕ} {spans : List Span} {k : ℕ} (n : Named text count spans k) (h : k < 6)
-    {b : Bool} (e : b ≡ same_bytes (content_of text (get_or spans k no_span)) (get_or header_names k [])) where
-  -- the next name and those behind it decide
-  next : headed count (fields_of text spans) ≡ (b && same_fields (map (content_of text) (drop (suc k) spans)) (drop (suc k) header_names))
-  unfolding same_fields
-  next =
-      let g : k < length spans = omega (arith, n.six) in
-      let g' : k < length header_names = omega arith in
-      n.rest ∙ rw (drop-cons spans k no_span g, drop-cons header_names k [] g', e)
-
-  -- the next name is there
-  pub named : b ≡ true → Named text count spans (suc k)
-  named q = record { six = n.six; rest = next ∙ rw q }
-
-  -- the next name is not there
-  pub other_name : b ≡ false → false ≡ headed count (fields_of text spans)
-  other_name q = sym (next ∙ rw q)
-
-  -- the sixth name is the last
-  pub last_name : k ≡ 5 → b ≡ headed count (fields_of text spans)
-  unfolding same_fields
-  last_name q =
-      let g : length spans ≤ suc k = omega (arith, n.six) in
-      let g' : length header_names ≤ suc k = omega arith in
-      sym (next ∙ rw (drop_of_length-le spans g, drop_of_length-le header_names g') (and-true b))
+-- the header, for a search
+pub ruleset by_names = header_by
 
 -- ---- The questions 6 to 11
 
@@ -166,55 +148,3 @@ module _ (rowLimit processLimit n count : ℕ) (fields : List (List ℕ)) where
   pub fields-decide : n < rowLimit → count ≡ 6 → {j : ReadRow} → j ≡ judged_fields processLimit fields → j ≡ record_answer rowLimit processLimit n count fields
   unfolding record_questions first_no judged_fields
   fields-decide h s e = e ∙ rw (lt-ltb n rowLimit h, eq-eqb count 6 s)
-
--- ---- The questions from 6 on
-
-module _ (rowLimit processLimit n : ℕ) (table : List ℕ) (count : ℕ) (fields : List (List ℕ)) {j : ReadRow}
-    (e : j ≡ record_answer rowLimit processLimit n count fields) where
-  -- the answer to a row's record
-  abbrev whole : ReadRow
-  whole = judged_row rowLimit processLimit n table count fields
-
-  -- the table that is left
-  abbrev left : List ℕ
-  left = table_left rowLimit processLimit n table count fields
-
-  -- the questions 6 to 11
-  abbrev asked : List Question
-  asked = record_questions rowLimit processLimit n count fields
-
-  -- one of 6 to 11 has No
-  pub record_no : {k : ℕ} → j ≡ No k → (No k ≡ whole) × (table ≡ left)
-  unfolding judged_row table_left
-  record_no q =
-      let o = (no_of (first_no asked) fields (sym e ∙ q)).1 in
-      let g = first-no asked (table_questions table (row_of fields)) o in
-      (sym (ap (λ (x : ℕ). judged_by x fields) g ∙ (sym e ∙ q)), rw (ne_eqb (first_no asked) 0 o))
-
-  -- 6 to 11 have Yes
-  module _ {row : Row} (q : j ≡ Kept row) {no : ℕ} {after : List ℕ}
-      (m : (no ≡ first_no (table_questions table row)) × (after ≡ table_after table row)) where
-    -- the record's row
-    told : (first_no asked ≡ 0) × (row ≡ row_of fields)
-    told = kept_of (first_no asked) fields (sym e ∙ q)
-
-    -- the questions of its message decide
-    final : whole ≡ judged_by no fields
-    unfolding judged_row
-    final =
-        ap (λ (x : ℕ). judged_by x fields)
-        (rest-decides asked (table_questions table (row_of fields)) (numbered rowLimit processLimit n count fields) told.0
-        ∙ sym (m.0 ∙ ap (λ (r : Row). first_no (table_questions table r)) told.1))
-
-    -- the row was put to the table
-    final-left : after ≡ left
-    unfolding table_left
-    final-left = m.1 ∙ ap (table_after table) told.1 ∙ rw (eq-eqb (first_no asked) 0 told.0)
-
-    -- one of them has No
-    pub order-no : (no ≡ 0 → ⊥) → (No no ≡ whole) × (after ≡ left)
-    order-no x = (sym (final ∙ rw (ne_eqb no 0 x)), final-left)
-
-    -- all have Yes
-    pub order-yes : no ≡ 0 → (Kept row ≡ whole) × (after ≡ left)
-    order-yes x = (ap Kept told.1 ∙ sym (final ∙ rw (eq-eqb no 0 x)), final-left)

@@ -1,6 +1,7 @@
 pub mod Barriers
 pub mod Laws
 pub mod Asking
+pub mod Refusing
 pub mod Turns
 pub mod Going
 pub mod Whole

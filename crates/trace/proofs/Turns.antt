@@ -1,67 +1,33 @@
--- Reading rows one after the other, whatever is asked of each record: the header, what holds after some rows, and what the next record adds.
-use Rattle.std.proofs.Common.{ℕ, suc, ◌+◌, ◌*◌, ◌≤◌, ◌<◌, arith, ◌≡◌, refl, sym, ap, ap₂, ◌∙◌, Bool, true, false, cond, ◌&&◌, List, [], ◌∷◌, ◌++◌, length, take, drop, length-append, eq-eqb, ne_eqb, eqb-true}
+-- Reading rows one after the other, whatever is asked of each row: the header, what holds after some rows, and what the next record adds.
+use Rattle.std.proofs.Common.{ℕ, suc, ◌+◌, ◌*◌, ◌≤◌, ◌<◌, arith, ◌≡◌, refl, sym, ap, ap₂, ◌∙◌, Bool, true, false, cond, ◌&&◌, List, [], ◌∷◌, ◌++◌, length, take, drop, length-append, eq-eqb, ne_eqb, eqb-true, ltb-true}
 use mathlib.Core.Bool.{false≢true}
 use lib.ListN.{length-map}
 use lib.Dec.{ltb, eqb}
 use borrow.Author.Tests.{eqb-false}
 use Rattle.csv_content.specs.Content.{content_of, same_bytes}
-use Rattle.csv_records.specs.Reading.{read_at, records, records_from, on_found, Finding, nothing, malformed, past-limit, found, Records, Ending, all_read, at-malformed, at-limit, first_six, reading_of}
+use Rattle.csv_records.specs.Reading.{read_at, records, records_from, on_found, Finding, nothing, malformed, past-limit, found, Records, Ending, first_six}
 use Rattle.csv_field.specs.declared.Span.{Span}
-use Rattle.csv_records.specs.declared.Reading.{Reading}
-use Rattle.csv_records.specs.declared.Status.TheVariants.{Record}
+use Rattle.csv_records.specs.declared.Record.{Record}
 use Rattle.csv_records.proofs.Limit.{records-next}
 use Rattle.csv_records.proofs.Places.{found-places}
-use Rattle.csv_records.proofs.Answers.{Told, tells, all-six}
+use Rattle.csv_records.proofs.Answers.{Told, all-six}
 use Rattle.rows.specs.declared.row.Row.{Row}
 use Rattle.rows.specs.Rows.{six, numbers}
 use Rattle.rows.specs.Questions.{Question, first_no}
+use Rattle.rows.proofs.Asking.{all_yes}
 use Rattle.rows.proofs.Slices.{numbers-next}
-use Rattle.trace_numbers.specs.declared.ReadRow.{ReadRow}
-use Rattle.trace_numbers.specs.declared.ReadRow.TheVariants.{Kept, No}
-use Rattle.trace.specs.declared.Checked.TheVariants.{Accepted, Refused}
+use Rattle.trace_numbers.specs.Numbers.{ReadRow, Kept, No}
 use Rattle.trace.specs.Rows.{header_names, same_fields, row_of}
-use Rattle.trace.specs.Questions.{field_questions, record_questions, is_header, Outcome, refused, accepted, checked_of, Holds}
+use Rattle.trace.specs.Questions.{field_questions, record_questions, is_header, Outcome, refused, accepted, Accepted, Refused, checked_of, Holds}
 use Rattle.trace.specs.Reads.{fields_of, judged_by, headed}
-use Rattle.trace.proofs.Asking.{no_of, kept_of}
-
--- ---- Judging
-
--- A judge says what records come to behind the rows before, by how the text ends.
-abbrev pub Judge : Type 0
-Judge = List Row → List (List (List ℕ)) → Ending → Outcome
-
--- A judge puts these questions to each record, the row limit among them, and goes on behind a record that passes.
-pub record Judges (rowLimit : ℕ) (questions : List Row → List (List ℕ) → List Question) (judge : Judge) : Type 0 where
-  pub none_left : (rows : List Row) → judge rows [] all_read ≡ accepted rows
-  pub malformed_left : (rows : List Row) → judge rows [] at-malformed ≡ refused 4 (length rows + 1)
-  pub limit-left : (rows : List Row) → judge rows [] at-limit ≡ refused 6 (length rows + 1)
-  pub record_left : (rows : List Row) (fields : List (List ℕ)) (rest : List (List (List ℕ))) (ending : Ending) →
-      judge rows (fields ∷ rest) ending
-      ≡ cond (eqb (first_no (questions rows fields)) 0) (judge (rows ++ (row_of fields ∷ [])) rest ending)
-      (refused (first_no (questions rows fields)) (length rows + 1))
-  pub in_limit : (rows : List Row) (fields : List (List ℕ)) → first_no (questions rows fields) ≡ 0 → length rows < rowLimit
+use Rattle.trace.specs.Reader.{judge_asked, behind_header, read_by, first_record_no, behind_first, header_no, rows_start, Step, ended, stopped, taken, step_of}
+use Rattle.trace.proofs.Asking.{no_of, kept_of, numbered}
 
 -- the records from a place on
 abbrev pub records_at : List ℕ → ℕ → ℕ → Records
 records_at text limit at = records_from (suc (length text)) text limit at
 
--- what records come to behind some rows
-abbrev pub judge_all : Judge → List Row → Records → Outcome
-judge_all judge done r = judge done r.rows r.ending
-
 -- ---- The header
-
--- what records come to with a header first, at place 0
-unfoldable pub judge_behind : Judge → List (List (List ℕ)) → Ending → Outcome
-judge_behind judge [] all_read = refused 5 0
-judge_behind judge [] at-malformed = refused 4 0
-judge_behind judge [] at-limit = refused 5 0
-judge_behind judge (fields ∷ rest) ending = cond (is_header fields) (judge [] rest ending) (refused 5 0)
-
--- A reader has the judge judge all records under header word 0, and those behind the header under any other.
-pub record Heads (judge : Judge) (read : ℕ → Records → Outcome) : Type 0 where
-  pub plain : (header : ℕ) (r : Records) → header ≡ 0 → read header r ≡ judge_all judge [] r
-  pub behind : (header : ℕ) (r : Records) → (header ≡ 0 → ⊥) → read header r ≡ judge_behind judge r.rows r.ending
 
 -- lists of the same fields have one length
 same_length : (a b : List (List ℕ)) → same_fields a b ≡ true → length a ≡ length b
@@ -92,145 +58,198 @@ headed-same text spans count c = go (eqb count 6) refl
     go true e = ap (λ (l : List Span). is_header (fields_of text l)) (all e)
     go false e = wrong (is_header (fields_of text spans)) e refl
 
-module _ {judge : Judge} {read : ℕ → Records → Outcome} (H : Heads judge read) (text : List ℕ) (limit header : ℕ) where
-  -- without a header, the rows start at once
-  pub no_header : header ≡ 0 → read header (records text limit) ≡ judge_all judge [] (records_at text limit 0)
-  unfolding records
-  no_header e = H.plain header (records text limit) e
+-- what records come to, by how the text ends
+abbrev pub Judge : Type 0
+Judge = List (List (List ℕ)) → Ending → Outcome
 
-  module _ (n : header ≡ 0 → ⊥) where
-    -- with a header, the outcome by what the reader finds first
-    header-first : (f : Finding) → read_at text 0 limit ≡ f →
-        read header (records text limit)
-        ≡ judge_behind judge (on_found text f (λ p. records_at text limit p)).rows (on_found text f (λ p. records_at text limit p)).ending
-    unfolding records
-    header-first f e =
-        let behind : Records → Outcome = λ r. judge_behind judge r.rows r.ending in
-        H.behind header (records text limit) n ∙ ap behind (records-next text limit 0)
-        ∙ ap (λ (x : Finding). behind (on_found text x (λ p. records_at text limit p))) e
+-- what the records from a place on come to
+abbrev pub judge_at : Judge → List ℕ → ℕ → ℕ → Outcome
+judge_at judge text limit at = judge (records_at text limit at).rows (records_at text limit at).ending
 
-    -- a text without records gets 5
-    pub header-missing : read_at text 0 limit ≡ nothing → read header (records text limit) ≡ refused 5 0
-    unfolding on_found judge_behind
-    header-missing e = header-first nothing e
+module _ (judge : Judge) (text : List ℕ) (limit header : ℕ) where
+  -- what the text comes to
+  abbrev whole : Outcome
+  whole = read_by judge header (records text limit)
 
-    -- a malformed header gets 4
-    pub header-malformed : read_at text 0 limit ≡ malformed → read header (records text limit) ≡ refused 4 0
-    unfolding on_found judge_behind
-    header-malformed e = header-first malformed e
+  -- with a header, what the text comes to by what the reader finds first
+  header-first : (header ≡ 0 → ⊥) → (f : Finding) → read_at text 0 limit ≡ f →
+      whole ≡ behind_header judge (on_found text f (λ p. records_at text limit p)).rows (on_found text f (λ p. records_at text limit p)).ending
+  unfolding records read_by
+  header-first n f e =
+      let behind : Records → Outcome = λ r. behind_header judge r.rows r.ending in
+      rw (ne_eqb header 0 n) (ap behind (records-next text limit 0) ∙ ap (λ (x : Finding). behind (on_found text x (λ p. records_at text limit p))) e)
 
-    -- a header that meets the byte limit gets 5
-    pub header-over : read_at text 0 limit ≡ past-limit → read header (records text limit) ≡ refused 5 0
-    unfolding on_found judge_behind
-    header-over e = header-first past-limit e
+  -- the first record refuses the text or starts it
+  first-decides : (header ≡ 0 → ⊥) → (f : Finding) → read_at text 0 limit ≡ f →
+      whole ≡ cond (eqb (first_record_no text f) 0) (judge_at judge text limit (behind_first f)) (refused (first_record_no text f) 0)
+  unfolding on_found behind_header first_record_no
+  first-decides n nothing e = header-first n nothing e
+  first-decides n malformed e = header-first n malformed e
+  first-decides n past-limit e = header-first n past-limit e
+  first-decides n (found spans end next) e = header-first n (found spans end next) e ∙ go (is_header (fields_of text spans))
+    where
+      go : (x : Bool) →
+          cond x (judge_at judge text limit next) (refused 5 0) ≡ cond (eqb (cond x 0 5) 0) (judge_at judge text limit next) (refused (cond x 0 5) 0)
+      go true = refl
+      go false = refl
 
-    -- the first record is the header where it has the names, and gets 5 where not
-    header-record : {x : Bool} (spans : List Span) (end next : ℕ) → read_at text 0 limit ≡ found spans end next →
-        is_header (fields_of text spans) ≡ x → read header (records text limit) ≡ cond x (judge_all judge [] (records_at text limit next)) (refused 5 0)
-    unfolding on_found judge_behind
-    header-record spans end next e h =
-        header-first (found spans end next) e ∙ ap (λ (y : Bool). cond y (judge_all judge [] (records_at text limit next)) (refused 5 0)) h
+  -- the No to the header refuses the text
+  pub header-refused : {k : ℕ} → k ≡ header_no header text (read_at text 0 limit) → (k ≡ 0 → ⊥) → whole ≡ refused k 0
+  header-refused {k} e n = go (eqb header 0) refl e
+    where
+      go : (x : Bool) → eqb header 0 ≡ x → k ≡ cond x 0 (first_record_no text (read_at text 0 limit)) → whole ≡ refused k 0
+      go true q d = absurd (n d)
+      go false q d =
+          first-decides (eqb-false header 0 q) (read_at text 0 limit) refl ∙ rw (← d, ne_eqb k 0 n)
 
-    -- the first record, read as r, is the header where the test b passes, and gets 5 where not
-    pub header_read : {r : Reading} → r ≡ reading_of (read_at text 0 limit) → r.status ≡ Record → {b x : Bool} →
-        b ≡ headed r.count (fields_of text r.spans) → b ≡ x →
-        read header (records text limit) ≡ cond x (judge_all judge [] (records_at text limit r.next)) (refused 5 0)
-    header_read {r} e a {b} {x} q y =
-        let t = tells (read_at text 0 limit) r e a in
-        let h : is_header (fields_of text t.spans) ≡ x =
-        sym (headed-same text t.spans r.count t.count) ∙ sym (ap (λ (l : List Span). headed r.count (fields_of text l)) t.kept) ∙ sym q ∙ y in
-        rw t.place (header-record t.spans t.end t.next t.is_found h)
+  -- where it has none, the rows decide from their start on
+  pub header-passed : {s : ℕ} → header_no header text (read_at text 0 limit) ≡ 0 → s ≡ rows_start header (read_at text 0 limit) →
+      whole ≡ judge_at judge text limit s
+  unfolding records read_by
+  header-passed {s} e d = go (eqb header 0) refl e d
+    where
+      go : (x : Bool) → eqb header 0 ≡ x → cond x 0 (first_record_no text (read_at text 0 limit)) ≡ 0 → s ≡ cond x 0 (behind_first (read_at text 0 limit)) →
+          whole ≡ judge_at judge text limit s
+      go true q n p = rw (p, q)
+      go false q n p = rw p (first-decides (eqb-false header 0 q) (read_at text 0 limit) refl ∙ rw n)
+
+-- no record is no header
+pub none-first : (text : List ℕ) {f : Finding} → f ≡ nothing → 5 ≡ first_record_no text f
+unfolding first_record_no
+none-first text e = rw e refl
+
+-- a malformed record is none
+pub malformed-first : (text : List ℕ) {f : Finding} → f ≡ malformed → 4 ≡ first_record_no text f
+unfolding first_record_no
+malformed-first text e = rw e refl
+
+-- a record that meets the byte limit is none
+pub limit-first : (text : List ℕ) {f : Finding} → f ≡ past-limit → 5 ≡ first_record_no text f
+unfolding first_record_no
+limit-first text e = rw e refl
+
+-- the first record, read as r, is the header where the test b passes
+pub headed_first : (text : List ℕ) (limit : ℕ) {r : Record} → Told (read_at text 0 limit) r → {b : Bool} → b ≡ headed r.count (fields_of text r.spans) →
+    (first_record_no text (read_at text 0 limit) ≡ cond b 0 5) × (behind_first (read_at text 0 limit) ≡ r.next)
+unfolding first_record_no
+headed_first text limit {r} t {b} e =
+    let h : is_header (fields_of text t.spans) ≡ b =
+    sym (headed-same text t.spans r.count t.count) ∙ sym (ap (λ (l : List Span). headed r.count (fields_of text l)) t.kept) ∙ sym e in
+    (rw (t.is_found, h), rw t.is_found (sym t.place))
 
 -- ---- Row after row
 
 -- The code has read the rows `done` up to place `at`: the outcome is that of the rest behind them. The slice, xs₀ at first, holds their
 -- numbers.
-pub record Going (judge : Judge) (o : Outcome) (rowLimit : ℕ) (text : List ℕ) (limit : ℕ) (xs₀ : List ℕ) (done : List Row) (at n : ℕ) (xs : List ℕ) : Type 0 where
-  pub whole : o ≡ judge_all judge done (records_at text limit at)
+pub record Going (judge : List Row → Judge) (o : Outcome) (rowLimit : ℕ) (text : List ℕ) (limit : ℕ) (xs₀ : List ℕ) (done : List Row) (at n : ℕ) (xs : List ℕ) : Type 0 where
+  pub whole : o ≡ judge_at (judge done) text limit at
   pub many : n ≡ length done
   pub few : n ≤ rowLimit
   pub held : xs ≡ numbers done ++ drop (6 * n) xs₀
 
 -- before the first row
-pub begin : {judge : Judge} {o : Outcome} {rowLimit : ℕ} {text : List ℕ} {limit : ℕ} {xs₀ : List ℕ} {start : ℕ} →
-    o ≡ judge_all judge [] (records_at text limit start) → Going judge o rowLimit text limit xs₀ [] start 0 xs₀
+pub begin : {judge : List Row → Judge} {o : Outcome} {rowLimit : ℕ} {text : List ℕ} {limit : ℕ} {xs₀ : List ℕ} {start : ℕ} →
+    o ≡ judge_at (judge []) text limit start → Going judge o rowLimit text limit xs₀ [] start 0 xs₀
 unfolding numbers
 begin e = record { whole = e; many = refl; few = omega arith; held = refl }
 
-module _ {R : ℕ} {questions : List Row → List (List ℕ) → List Question} {judge : Judge} (J : Judges R questions judge)
-    {o : Outcome} {text : List ℕ} {limit : ℕ} {xs₀ : List ℕ} {done : List Row} {at n : ℕ} {xs : List ℕ} (g : Going judge o R text limit xs₀ done at n xs) where
+-- The loop that reads the rows, with the state s of what is asked.
+pub record Reading {S : Type 0} (asked : S → Row → ℕ) (noted : S → Row → S) (R P : ℕ) (text : List ℕ) (limit : ℕ) (o : Outcome) (xs₀ : List ℕ)
+    (s : S) (at n : ℕ) (xs : List ℕ) : Type 0 where
+  pub done : List Row
+  pub going : Going (judge_asked asked noted R P s) o R text limit xs₀ done at n xs
+
+module _ {S : Type 0} (asked : S → Row → ℕ) (noted : S → Row → S) (R P : ℕ) (s : S)
+    {o : Outcome} {text : List ℕ} {limit : ℕ} {xs₀ : List ℕ} {done : List Row} {at n : ℕ} {xs : List ℕ}
+    (g : Going (judge_asked asked noted R P s) o R text limit xs₀ done at n xs) where
   -- the outcome, by what the reader finds next
-  step : (f : Finding) → read_at text at limit ≡ f → o ≡ judge_all judge done (on_found text f (λ p. records_at text limit p))
-  step f e =
-      g.whole ∙ ap (judge_all judge done) (records-next text limit at)
-      ∙ ap (λ (x : Finding). judge_all judge done (on_found text x (λ p. records_at text limit p))) e
+  found-next : (f : Finding) → read_at text at limit ≡ f →
+      o ≡ judge_asked asked noted R P s done (on_found text f (λ p. records_at text limit p)).rows (on_found text f (λ p. records_at text limit p)).ending
+  found-next f e =
+      let on : Records → Outcome = λ r. judge_asked asked noted R P s done r.rows r.ending in
+      g.whole ∙ ap on (records-next text limit at) ∙ ap (λ (x : Finding). on (on_found text x (λ p. records_at text limit p))) e
 
-  -- the place of the next row
-  place : length done + 1 ≡ n + 1
-  place = ap (λ (k : ℕ). k + 1) (sym g.many)
+  -- the outcome behind a step
+  abbrev after : Step → Outcome
+  after ended = accepted done
+  after (stopped k) = refused k (n + 1)
+  after (taken row next) = judge_at (judge_asked asked noted R P (noted s row) (done ++ (row ∷ []))) text limit next
 
-  -- at the end of the text the rows are accepted
-  accepted-here : read_at text at limit ≡ nothing → o ≡ accepted done
-  unfolding on_found
-  accepted-here e = step nothing e ∙ J.none_left done
+  -- the step decides
+  step-decides : (f : Finding) → read_at text at limit ≡ f → o ≡ after (step_of (asked s) R P n text f)
+  unfolding on_found judge_asked step_of
+  step-decides nothing e = found-next nothing e
+  step-decides malformed e = found-next malformed e ∙ ap (λ (k : ℕ). refused 4 (k + 1)) (sym g.many)
+  step-decides past-limit e = found-next past-limit e ∙ ap (λ (k : ℕ). refused 6 (k + 1)) (sym g.many)
+  step-decides (found spans end next) e =
+      found-next (found spans end next) e ∙ rw (← g.many) (go (eqb first 0) (eqb (asked s row) 0))
+    where
+      fields : List (List ℕ)
+      fields = fields_of text spans
 
-  -- at the end of the text the answer is the number of rows
-  pub at-end : read_at text at limit ≡ nothing → Accepted n ≡ checked_of o
-  at-end e = ap Accepted g.many ∙ sym (ap checked_of (accepted-here e))
+      first : ℕ
+      first = first_no (record_questions R P n (length fields) fields)
 
-  -- at the end of the text the slice holds the rows
-  pub end-held : read_at text at limit ≡ nothing → Holds o xs₀ xs
-  end-held e = rw (accepted-here e) (g.held ∙ ap (λ (k : ℕ). numbers done ++ drop (6 * k) xs₀) g.many)
+      row : Row
+      row = row_of fields
 
-  -- a malformed record gets 4
-  pub malformed_here : read_at text at limit ≡ malformed → o ≡ refused 4 (n + 1)
-  unfolding on_found
-  malformed_here e = step malformed e ∙ J.malformed_left done ∙ ap (refused 4) place
+      on : Outcome
+      on = judge_at (judge_asked asked noted R P (noted s row) (done ++ (row ∷ []))) text limit next
 
-  -- a record that meets the byte limit gets 6
-  pub limit-here : read_at text at limit ≡ past-limit → o ≡ refused 6 (n + 1)
-  unfolding on_found
-  limit-here e = step past-limit e ∙ J.limit-left done ∙ ap (refused 6) place
+      go : (x y : Bool) → cond x (cond y on (refused (asked s row) (n + 1))) (refused first (n + 1))
+          ≡ after (cond x (cond y (taken row next) (stopped (asked s row))) (stopped first))
+      go true true = refl
+      go true false = refl
+      go false y = refl
 
-  -- a record stands at `at`
-  module _ {spans : List Span} {end next : ℕ} (f : read_at text at limit ≡ found spans end next) where
-    -- the first No of the record
-    abbrev first : ℕ
-    first = first_no (questions done (fields_of text spans))
+  -- at the end of the text the answer is the number of rows, and the slice holds them
+  pub at-end : ended ≡ step_of (asked s) R P n text (read_at text at limit) → (Accepted n ≡ checked_of o) × Holds o xs₀ xs
+  at-end e =
+      let q : o ≡ accepted done = rw (← e) at (step-decides (read_at text at limit) refl) in
+      (rw q (ap Accepted g.many), rw q (g.held ∙ ap (λ (k : ℕ). numbers done ++ drop (6 * k) xs₀) g.many))
 
-    -- the outcome behind the record
-    abbrev behind-here : Row → Outcome
-    behind-here row = judge_all judge (done ++ (row ∷ [])) (records_at text limit next)
+  -- a No refuses the rows
+  pub at-no : {k : ℕ} → stopped k ≡ step_of (asked s) R P n text (read_at text at limit) → o ≡ refused k (n + 1)
+  at-no e = rw (← e) at (step-decides (read_at text at limit) refl)
 
-    -- the outcome, by the record's first No
-    on : (x : Bool) → eqb first 0 ≡ x → o ≡ cond x (behind-here (row_of (fields_of text spans))) (refused first (length done + 1))
-    unfolding on_found
-    on x e =
-        step (found spans end next) f ∙ J.record_left done (fields_of text spans) (records_at text limit next).rows (records_at text limit next).ending
-        ∙ ap (λ (y : Bool). cond y (behind-here (row_of (fields_of text spans))) (refused first (length done + 1))) e
+  module _ {row : Row} {next : ℕ} (e : taken row next ≡ step_of (asked s) R P n text (read_at text at limit)) where
+    -- a row is within the row limit, and the record behind it starts behind this one
+    taken-in : (f : Finding) → read_at text at limit ≡ f → taken row next ≡ step_of (asked s) R P n text f → (n < R) × (at < next) × (next ≤ length text)
+    unfolding step_of record_questions
+    taken-in nothing r q = let z : ◌≡◌ {A = ℕ} 0 1 = cc in absurd (omega arith)
+    taken-in malformed r q = let z : ◌≡◌ {A = ℕ} 0 1 = cc in absurd (omega arith)
+    taken-in past-limit r q = let z : ◌≡◌ {A = ℕ} 0 1 = cc in absurd (omega arith)
+    taken-in (found spans end to) r q = go (eqb first 0) refl (eqb (asked s (row_of fields)) 0) q
+      where
+        fields : List (List ℕ)
+        fields = fields_of text spans
 
-    -- the record is refused
-    refused-here : {k : ℕ} → judged_by first (fields_of text spans) ≡ No k → o ≡ refused k (n + 1)
-    refused-here j =
-        let t = no_of first (fields_of text spans) j in
-        on false (ne_eqb first 0 t.1) ∙ ap₂ refused t.0 place
+        first : ℕ
+        first = first_no (record_questions R P n (length fields) fields)
 
-    -- the record is the next row
-    module _ {row : Row} (j : judged_by first (fields_of text spans) ≡ Kept row) where
-      -- the next row is within the row limit
-      room : n < R
-      room = let h = J.in_limit done (fields_of text spans) (kept_of first (fields_of text spans) j).0 in omega (arith, g.many)
+        go : (x : Bool) → eqb first 0 ≡ x → (y : Bool) →
+            taken row next ≡ cond x (cond y (taken (row_of fields) to) (stopped (asked s (row_of fields)))) (stopped first) → (n < R) × (at < next) × (next ≤ length text)
+        go true z true d =
+            let to-is : next ≡ to = cc in
+            let p = found-places text at limit spans end to r in
+            let within = (all_yes (record_questions R P n (length fields) fields) (numbered R P n (length fields) fields) (eqb-true first 0 z)).0 in
+            (ltb-true n R within, omega (arith, p.2), omega (arith, p.3))
+        go true z false d = let z : ◌≡◌ {A = ℕ} 0 1 = cc in absurd (omega arith)
+        go false z y d = let z : ◌≡◌ {A = ℕ} 0 1 = cc in absurd (omega arith)
 
-      -- the loop goes on behind the row
-      goes_on_lem : {ys : List ℕ} → ys ≡ take (n * 6) xs ++ (six row ++ drop (n * 6 + 6) xs) → Going judge o R text limit xs₀ (done ++ (row ∷ [])) next (n + 1) ys
-      goes_on_lem e =
-          let t = kept_of first (fields_of text spans) j in
-          record {
-            whole = on true (eq-eqb first 0 t.0) ∙ ap behind-here (sym t.1);
-            many = omega (arith, g.many, length-append done (row ∷ []));
-            few = omega (arith, room);
-            held = numbers-next done row xs₀ g.many g.held e;
-          }
+    pub row_in : (n < R) × (at < next) × (next ≤ length text)
+    row_in = taken-in (read_at text at limit) refl e
+
+    -- the loop goes on behind the row
+    pub next_row_lem : {ys : List ℕ} → ys ≡ take (n * 6) xs ++ (six row ++ drop (n * 6 + 6) xs) →
+        Going (judge_asked asked noted R P (noted s row)) o R text limit xs₀ (done ++ (row ∷ [])) next (n + 1) ys
+    next_row_lem l =
+        record {
+          whole = rw (← e) at (step-decides (read_at text at limit) refl);
+          many = omega (arith, g.many, length-append done (row ∷ []));
+          few = omega (arith, row_in);
+          held = numbers-next done row xs₀ g.many g.held l;
+        }
 
 -- ---- One record
 
@@ -259,32 +278,68 @@ judged-same R P others {m} text spans count e c =
     ∙ other-fields P others (ltb m R) (eqb (length (fields_of text spans)) 6) (fields_of text (first_six spans)) (fields_of text spans)
     (λ y. ap (fields_of text) (all-six spans (sym c ∙ size ∙ eqb-true (length (fields_of text spans)) 6 y)))
 
--- ---- The laws above, by what the calls answered
+-- ---- A record that was read
 
--- the record behind the one that was read starts after this one
-pub onward : (text : List ℕ) (at limit : ℕ) {r : Reading} → Told (read_at text at limit) r → (at < r.next) × (r.next ≤ length text)
-onward text at limit t =
-    let p = found-places text at limit t.spans t.end t.next t.is_found in
-    (omega (arith, p.2, t.place), omega (arith, p.3, t.place))
+-- no record stops the rows at their end
+pub end-step : (asked : Row → ℕ) (R P n : ℕ) (text : List ℕ) {f : Finding} → f ≡ nothing → ended ≡ step_of asked R P n text f
+unfolding step_of
+end-step asked R P n text e = rw e refl
 
--- r is the reading at the place, and j the answer of its whole record behind the rows before.
-module _ {R : ℕ} {questions : List Row → List (List ℕ) → List Question} {judge : Judge} (J : Judges R questions judge)
-    {o : Outcome} {text : List ℕ} {limit : ℕ} {xs₀ : List ℕ} {done : List Row} {at n : ℕ} {xs : List ℕ} (g : Going judge o R text limit xs₀ done at n xs)
-    {r : Reading} (t : Told (read_at text at limit) r)
-    {j : ReadRow} (w : j ≡ judged_by (first_no (questions done (fields_of text t.spans))) (fields_of text t.spans)) where
-  -- a record with a No is refused
-  pub no_row : {k : ℕ} → j ≡ No k → o ≡ refused k (n + 1)
-  no_row q = refused-here J g t.is_found (sym w ∙ q)
+-- a malformed record stops the rows
+pub malformed-step : (asked : Row → ℕ) (R P n : ℕ) (text : List ℕ) {f : Finding} → f ≡ malformed → stopped 4 ≡ step_of asked R P n text f
+unfolding step_of
+malformed-step asked R P n text e = rw e refl
+
+-- a record that meets the byte limit stops them too
+pub limit-step : (asked : Row → ℕ) (R P n : ℕ) (text : List ℕ) {f : Finding} → f ≡ past-limit → stopped 6 ≡ step_of asked R P n text f
+unfolding step_of
+limit-step asked R P n text e = rw e refl
+
+-- r is the record that was read, and j the answer of its first six fields to the questions 6 to 11
+module _ (asked : Row → ℕ) (R P n : ℕ) (text : List ℕ) (at limit : ℕ) {r : Record} (t : Told (read_at text at limit) r) {j : ReadRow}
+    (e : j ≡ judged_by (first_no (record_questions R P n r.count (fields_of text r.spans))) (fields_of text r.spans)) where
+  -- the record's fields
+  abbrev all : List (List ℕ)
+  all = fields_of text t.spans
+
+  -- the first No to the record
+  abbrev first : ℕ
+  first = first_no (record_questions R P n (length all) all)
+
+  -- the answer is that of all fields
+  whole-record : j ≡ judged_by first all
+  unfolding record_questions field_questions
+  whole-record =
+      e ∙ (λ i. judged_by (first_no (record_questions R P n r.count (fields_of text (t.kept i)))) (fields_of text (t.kept i)))
+      ∙ judged-same R P (λ fields. []) text t.spans r.count refl t.count
+
+  -- the step, by the first No of the record and what its row is asked
+  here : (x y : Bool) → eqb first 0 ≡ x → eqb (asked (row_of all)) 0 ≡ y →
+      step_of asked R P n text (read_at text at limit) ≡ cond x (cond y (taken (row_of all) t.next) (stopped (asked (row_of all)))) (stopped first)
+  unfolding step_of
+  here x y p q = rw (t.is_found, p, q)
+
+  -- a No of 6 to 11 stops the rows
+  pub record-no : {k : ℕ} → j ≡ No k → stopped k ≡ step_of asked R P n text (read_at text at limit)
+  record-no q =
+      let o = no_of first all (sym whole-record ∙ q) in
+      sym (here false (eqb (asked (row_of all)) 0) (ne_eqb first 0 o.1) refl ∙ ap stopped o.0)
 
   module _ {row : Row} (q : j ≡ Kept row) where
-    -- the next row is within the row limit
-    pub row_room : n < R
-    row_room = room J g t.is_found (sym w ∙ q)
+    row-is : (first ≡ 0) × (row ≡ row_of all)
+    row-is = kept_of first all (sym whole-record ∙ q)
 
-    -- the loop goes on behind the row
-    pub next_row_lem : {ys : List ℕ} → ys ≡ take (n * 6) xs ++ (six row ++ drop (n * 6 + 6) xs) →
-        Going judge o R text limit xs₀ (done ++ (row ∷ [])) r.next (n + 1) ys
-    next_row_lem l = rw t.place (goes_on_lem J g t.is_found (sym w ∙ q) l)
+    -- a No behind them stops the rows
+    pub row-no : {k : ℕ} → k ≡ asked row → (k ≡ 0 → ⊥) → stopped k ≡ step_of asked R P n text (read_at text at limit)
+    row-no {k} a z =
+        let b : k ≡ asked (row_of all) = a ∙ ap asked row-is.1 in
+        sym (here true false (eq-eqb first 0 row-is.0) (ne_eqb (asked (row_of all)) 0 (λ d. z (b ∙ d))) ∙ ap stopped (sym b))
+
+    -- without a No the row is taken
+    pub row-taken : asked row ≡ 0 → taken row r.next ≡ step_of asked R P n text (read_at text at limit)
+    row-taken a =
+        sym (here true true (eq-eqb first 0 row-is.0) (eq-eqb (asked (row_of all)) 0 (sym (ap asked row-is.1) ∙ a))
+        ∙ ap₂ taken (sym row-is.1) (sym t.place))
 
 -- what the reading of rows answers and holds where the outcome is a refusal
 pub refusal : {o : Outcome} {k p : ℕ} (xs ys : List ℕ) → o ≡ refused k p → (Refused k p ≡ checked_of o) × Holds o xs ys

@@ -1,54 +1,23 @@
 -- The whole call: the header, the questions 1 to 3, and what the call leaves in the lent slices.
-use Rattle.std.proofs.Common.{ℕ, ◌*◌, ◌-◌, ◌≤◌, ◌<◌, arith, ◌≡◌, refl, sym, ap, ◌∙◌, Bool, true, false, cond, List, [], ◌∷◌, ◌++◌, length, take, drop, replicate, length-append, eq-eqb, ne_eqb, le-leb}
+use Rattle.std.proofs.Common.{ℕ, ◌*◌, ◌-◌, ◌≤◌, ◌<◌, arith, ◌≡◌, refl, sym, ap, ◌∙◌, Bool, true, false, cond, List, ◌++◌, length, take, drop, replicate, length-append, eq-eqb, ne_eqb, le-leb, Result, Ok}
 use borrow.Rule.Slice.PartMut.{put_mid}
 use borrow.Author.Tests.{lt-leb}
-use Rattle.csv_records.specs.Reading.{read_at, reading_of, records, Records, Ending, all_read, at-malformed, at-limit}
-use Rattle.csv_records.specs.declared.Reading.{Reading}
-use Rattle.csv_records.specs.declared.Status.TheVariants.{Record}
+use Rattle.csv_records.specs.Reading.{records, Records}
 use Rattle.rows.specs.declared.row.Row.{Row}
-use Rattle.trace.specs.declared.Checked.TheVariants.{Accepted, Refused}
+use Rattle.rows.specs.declared.refusal.Refused.{Refused as Refusing}
+use Rattle.trace.specs.Questions.{Accepted, Refused, told}
 use Rattle.rows.specs.Limits.{PROCESSES, MESSAGES}
 use Rattle.rows.specs.Refusals.{BARRIER_ORDER}
 use Rattle.rows.specs.Rows.{numbers, row_in, rows_in}
-use Rattle.trace.specs.Questions.{call_questions, in_limits, header_word, Outcome, refused, accepted, judge_rows, judge_header, read_records, read_trace, check_trace, checked_of, Holds, Leaves}
+use Rattle.trace.specs.Questions.{call_questions, in_limits, header_word, Outcome, refused, accepted, read_records, read_trace, check_trace, checked_of, Holds, Leaves}
 use Rattle.rows.specs.Questions.{long_enough, first_no}
-use Rattle.trace.specs.Reads.{fields_of, headed, judge_from}
 use Rattle.barriers.specs.Barriers.{barrier_place}
 use Rattle.trace.proofs.Barriers.{asked-yes, asked-no, asked-refused}
 use Rattle.trace.proofs.Laws.{records-sound}
 use Rattle.trace.proofs.Sounds.{sound_fit}
-use Rattle.trace.proofs.Turns.{Heads, judge_behind, refusal}
-use Rattle.trace.proofs.Turns as turns
+use Rattle.trace.proofs.Turns.{refusal}
 use Rattle.rows.proofs.Slices.{length-numbers, rows_back}
 use Rattle.rows.proofs.Zeros.{cleared-behind}
-
--- the records are read with a header first unless its header word is 0
-pub heads_records : (R P : ℕ) → Heads (judge_rows R P) (λ header r. read_records header R P r)
-unfolding read_records judge_header judge_behind
-heads_records R P =
-    record {
-      plain = λ header r e. rw (eq-eqb header 0 e);
-      behind = λ header r n. rw (ne_eqb header 0 n) (same r.rows r.ending);
-    }
-  where
-    same : (recs : List (List (List ℕ))) (ending : Ending) → judge_header R P recs ending ≡ judge_behind (judge_rows R P) recs ending
-    same [] all_read = refl
-    same [] at-malformed = refl
-    same [] at-limit = refl
-    same (fields ∷ rest) ending = refl
-
-module _ (R P : ℕ) (text : List ℕ) (limit header : ℕ) where
-  -- without a header, the rows start at once
-  pub no_header : header ≡ 0 → read_records header R P (records text limit) ≡ judge_from R P text limit 0
-  unfolding judge_from
-  no_header e = turns.no_header (heads_records R P) text limit header e
-
-  -- the first record, read as r, is the header where the test b passes, and gets 5 where not
-  pub header_read : (header ≡ 0 → ⊥) → {r : Reading} → r ≡ reading_of (read_at text 0 limit) → r.status ≡ Record → {b x : Bool} →
-      b ≡ headed r.count (fields_of text r.spans) → b ≡ x →
-      read_records header R P (records text limit) ≡ cond x (judge_from R P text limit r.next) (refused 5 0)
-  unfolding judge_from
-  header_read n e a q y = turns.header_read (heads_records R P) text limit header n e a q y
 
 -- ---- The questions 1 to 3
 
@@ -125,22 +94,22 @@ module _ (R P header : ℕ) (r : Records) {n : ℕ} (xs ys : List ℕ) (e : Acce
 
 module _ {o : Outcome} (xs us : List ℕ) where
   -- a refusal 1 to 3 keeps both slices
-  pub leaves_all : {k : ℕ} → o ≡ refused k 0 → k ≤ 3 → Leaves o (Refused k 0) xs xs us us
-  leaves_all {k} e h =
+  pub leaves_all : {k : ℕ} {answer : Result ℕ Refusing} → told answer ≡ Refused k 0 → o ≡ refused k 0 → k ≤ 3 → Leaves o answer xs xs us us
+  leaves_all {k} a e h =
       rw e
       (record {
-        answered = refl;
+        answered = a;
         rows_after = sym (ap (λ (b : Bool). cond b xs (replicate (length xs) 0)) (le-leb k 3 h));
         counts_after = sym (ap (λ (b : Bool). cond b us (replicate (length us) 0)) (le-leb k 3 h));
       })
 
   -- a refusal of 4 or more clears both slices
-  pub leaves_none : {k p : ℕ} {ys vs : List ℕ} → o ≡ refused k p → 4 ≤ k → ys ≡ replicate (length xs) 0 → vs ≡ replicate (length us) 0 →
-      Leaves o (Refused k p) xs ys us vs
-  leaves_none {k} e h r c =
+  pub leaves_none : {k p : ℕ} {ys vs : List ℕ} {answer : Result ℕ Refusing} → told answer ≡ Refused k p → o ≡ refused k p → 4 ≤ k →
+      ys ≡ replicate (length xs) 0 → vs ≡ replicate (length us) 0 → Leaves o answer xs ys us vs
+  leaves_none {k} a e h r c =
       rw e
       (record {
-        answered = refl;
+        answered = a;
         rows_after = r ∙ sym (ap (λ (b : Bool). cond b xs (replicate (length xs) 0)) (lt-leb k 3 h));
         counts_after = c ∙ sym (ap (λ (b : Bool). cond b us (replicate (length us) 0)) (lt-leb k 3 h));
       })
@@ -159,7 +128,7 @@ module _ {o : Outcome} (xs us : List ℕ) where
 
     -- the rows stay, and the code clears what stands behind them
     pub leaves-rows : {last vs : List ℕ} → last ≡ replicate (length (take (length ys - n * 6) (drop (n * 6) ys))) 0 → vs ≡ replicate (length us) 0 →
-        Leaves o (Accepted n) xs (put_mid (n * 6) (length ys - n * 6) ys last) us vs
+        Leaves o (Ok n) xs (put_mid (n * 6) (length ys - n * 6) ys last) us vs
     leaves-rows {last} {vs} l c =
         let p = numbers t.0 in
         let same : n * 6 ≡ 6 * length t.0 = omega (arith, t.2) in

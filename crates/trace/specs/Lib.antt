@@ -1,3 +1,5 @@
 pub mod Rows
 pub mod Questions
 pub mod Reads
+pub mod Reader
+pub mod Asked

@@ -1,12 +1,11 @@
 -- The questions put to an input, each one definition, in document 01's order; the first No decides. The crate `trace_fields` defines the
 -- questions 8 to 11, which are put to the fields of one record, and the crate `messages` those from 12 on, which are put to a row behind the
 -- rows before it. The crate `barriers` defines 22, which is put to all rows once every record has passed.
-use Rattle.std.specs.Prelude.{ℕ, ◌+◌, ◌*◌, ◌-◌, Bool, cond, ◌&&◌, List, [], ◌∷◌, ◌++◌, ◌≡◌, length, drop, replicate, leb, ltb, eqb}
+use Rattle.std.specs.Prelude.{ℕ, ◌+◌, ◌*◌, ◌-◌, Bool, cond, ◌&&◌, List, [], ◌∷◌, ◌++◌, ◌≡◌, length, drop, replicate, leb, ltb, eqb, Result, Ok, Err}
 use Rattle.csv_records.specs.Reading.{records, Records, Ending, all_read, at-malformed, at-limit}
 use Rattle.rows.specs.Limits.{MODELS, ROWS}
 use Rattle.rows.specs.declared.row.Row.{Row}
-use Rattle.trace.specs.declared.Checked.{Checked}
-use Rattle.trace.specs.declared.Checked.TheVariants.{Accepted, Refused}
+use Rattle.rows.specs.declared.refusal.Refused.{Refused as Refusing}
 use Rattle.trace.specs.Rows.{header_names, same_fields, row_of}
 use Rattle.rows.specs.Rows.{numbers}
 pub use Rattle.messages.specs.Questions.{carries, carries_by, sent, sent_by, posted, posted_by, waited_for}
@@ -15,7 +14,7 @@ pub use Rattle.trace_numbers.specs.Numbers.{number_if, OFFSETS}
 pub use Rattle.trace_fields.specs.Questions.{kind_known, as_used, end_in_range}
 unfoldable pub use Rattle.trace_fields.specs.Questions.{filled_as_used, numbers_in_range, field_questions}
 use Rattle.rows.specs.Questions.{Question, first_no, long_enough, is_process_limit}
-use Rattle.rows.specs.Refusals.{BARRIER_ORDER}
+use Rattle.rows.specs.Refusals.{BARRIER_ORDER, number_of}
 use Rattle.barriers.specs.Barriers.{barrier_place}
 
 -- ---- The questions of the caller's numbers and slices
@@ -106,6 +105,16 @@ check_trace text header model rowLimit processLimit byteLimit rowsLength countsL
 
 -- ---- What a call answers and leaves
 
+-- the answer to a trace: its row count, or the number of the question that was answered No and the record's place
+pub data Checked : Type 0 where
+  Accepted : ℕ → Checked
+  Refused : (number place : ℕ) → Checked
+
+-- the numbers that an answer gives
+abbrev pub told : Result ℕ Refusing → Checked
+told (Ok n) = Accepted n
+told (Err e) = Refused (number_of e.refusal) e.place
+
 -- the number and place of a refusal, or the row count
 abbrev pub checked_of : Outcome → Checked
 checked_of (refused number place) = Refused number place
@@ -131,7 +140,7 @@ counts_left (refused number place) xs = refusal_leaves number xs
 counts_left (accepted rows) xs = replicate (length xs) 0
 
 -- what a call answers, and what the call leaves of the rows' slice and of the counts' slice
-pub record Leaves (o : Outcome) (answer : Checked) (rows rows' counts counts' : List ℕ) : Type 0 where
-  pub answered : answer ≡ checked_of o
+pub record Leaves (o : Outcome) (answer : Result ℕ Refusing) (rows rows' counts counts' : List ℕ) : Type 0 where
+  pub answered : told answer ≡ checked_of o
   pub rows_after : rows' ≡ rows_left o rows
   pub counts_after : counts' ≡ counts_left o counts

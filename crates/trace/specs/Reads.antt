@@ -2,7 +2,7 @@
 -- call answers; the crate `trace_fields` defines what the fields of one record answer.
 use Rattle.std.specs.Prelude.{ℕ, suc, Bool, cond, ◌&&◌, List, [], ◌++◌, length, eqb}
 use Rattle.csv_records.specs.Reading.{records_from}
-use Rattle.trace_numbers.specs.declared.ReadRow.{ReadRow}
+use Rattle.trace_numbers.specs.Numbers.{ReadRow}
 pub use Rattle.trace_numbers.specs.Numbers.{fields_of, number_where}
 pub use Rattle.trace_fields.specs.Reads.{judged_by}
 unfoldable pub use Rattle.trace_fields.specs.Reads.{fills_as, judged_fields}

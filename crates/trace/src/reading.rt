@@ -1,91 +1,114 @@
-// Reads row after row into a slice of six numbers for each row, and puts the questions from 6 on to each record.
-ghost use Rattle.std.specs.Prelude.{◌≡◌, ◌*◌, ◌≤◌, length};
-ghost use Rattle.trace.specs.Questions.{checked_of, Holds};
-ghost use Rattle.trace.specs.Reads.{fields_of, judged_row, table_left, judge_from};
-ghost use Rattle.rows.specs.Limits.{ROWS, PROCESSES};
+// Reads the header and the rows of a text into a slice of six numbers for each row, and puts the questions from 4 on to them: those up to 11,
+// and what is asked of a row behind them.
+ghost use Rattle.std.specs.Prelude.{◌≡◌, ◌*◌, ◌≤◌, [], length, IfOk, IfSome, MatchResult};
+ghost use Rattle.csv_records.specs.Reading.{read_at, records};
+ghost use Rattle.rows.specs.Limits.{ROWS, FIELDS};
+ghost use Rattle.rows.specs.Refusals.{Asks, refused_at};
+ghost use Rattle.trace.specs.Questions.{told, checked_of, Holds};
+ghost use Rattle.trace.specs.Reader.{judge_asked, rows_asked, read_by, header_no, rows_start, told_step, step_of};
 
-use crate::{Checked, judge_record};
-use csv_field::Span;
-use csv_records::Status;
-use rows::refusal;
-use trace_numbers::ReadRow;
+use crate::questions::RowQuestions;
+use crate::{Call, is_header, judge_record};
+use csv_records::Unread;
+use rows::Row;
+use rows::refusal::{Refusal, Refused};
 
-// Puts the questions of a record behind n rows: 6 to 11, then those of the row's message by the table, which notes a row that passes.
-fn judge_row(
+// A row, and where the record behind it starts.
+#[derive(Clone, Copy, Debug, PartialEq, Eq, Hash)]
+struct NextRow {
+    row: Row,
+    next: usize,
+}
+
+// Reads a text under a header word: the rows stand behind a header unless the word is 0.
+pub fn read_text<Q: RowQuestions>(
     text: &[u8],
-    count: usize,
-    spans: [Span; 6],
-    table: &mut [u16; messages::ENTRIES],
-    n: usize,
-    row_limit: u32,
-    process_limit: u32,
-) -> ReadRow
-    ensures answer { result ≡ judged_row row_limit process_limit n table.old count (fields_of text.now spans) }
-    ensures left { table.new ≡ table_left row_limit process_limit n table.old count (fields_of text.now spans) }
+    call: Call,
+    questions: &mut Q,
+    rows: &mut [u32],
+) -> Result<u32, Refused>
+    requires few { call.row_limit ≤ ROWS }
+    requires room { FIELDS * call.row_limit ≤ length rows.old }
+    ensures answer { told result ≡ checked_of (read_by (judge_asked Q.asked Q.noted call.row_limit call.process_limit questions.old []) call.header (records text.now call.byte_limit)) }
+    ensures held { Holds (read_by (judge_asked Q.asked Q.noted call.row_limit call.process_limit questions.old []) call.header (records text.now call.byte_limit)) rows.old rows.new }
 {
-    match judge_record(text, count, spans, n, row_limit, process_limit) {
-        ReadRow::No(k) => ReadRow::No(k),
-        ReadRow::Kept(row) => {
-            let no = messages::put(table, row);
-            if no != 0 {
-                return ReadRow::No(no);
+    let start = rows_start(text, call)?;
+    read_rows(text, start, call, questions, rows)
+}
+
+// Where the rows of a text start: at once under header word 0, and behind the header under any other.
+fn rows_start(text: &[u8], call: Call) -> Result<usize, Refusal>
+    ensures asked { Asks (header_no call.header text.now (read_at text.now 0 call.byte_limit)) result }
+    ensures start { IfOk result (λ start. start ≡ rows_start call.header (read_at text.now 0 call.byte_limit)) }
+{
+    if call.header == 0 {
+        return Ok(0);
+    }
+    match csv_records::read_record(text, 0, call.byte_limit) {
+        Ok(Some(record)) => {
+            if is_header(text, &record) {
+                Ok(record.next)
+            } else {
+                Err(Refusal::Header)
             }
-            ReadRow::Kept(row)
         }
+        Ok(None) => Err(Refusal::Header),
+        Err(Unread::Malformed) => Err(Refusal::Malformed),
+        Err(Unread::Limit) => Err(Refusal::Header),
     }
 }
 
 // Reads rows from a place of the text on, up to the end of the text or the first No.
-pub(crate) fn read_rows(
+fn read_rows<Q: RowQuestions>(
     text: &[u8],
     start: usize,
-    row_limit: u32,
-    process_limit: u32,
-    byte_limit: usize,
+    call: Call,
+    questions: &mut Q,
     rows: &mut [u32],
-) -> Checked
-    requires { (row_limit ≤ ROWS) × (6 * row_limit ≤ length rows.old) × (process_limit ≤ PROCESSES) }
-    ensures answer { result ≡ checked_of (judge_from row_limit process_limit text.now byte_limit start) }
-    ensures held { Holds (judge_from row_limit process_limit text.now byte_limit start) rows.old rows.new }
+) -> Result<u32, Refused>
+    requires few { call.row_limit ≤ ROWS }
+    requires room { FIELDS * call.row_limit ≤ length rows.old }
+    ensures answer { told result ≡ checked_of (rows_asked Q.asked Q.noted call.row_limit call.process_limit text.now call.byte_limit questions.old start) }
+    ensures held { Holds (rows_asked Q.asked Q.noted call.row_limit call.process_limit text.now call.byte_limit questions.old start) rows.old rows.new }
 {
-    let mut table = [0u16; messages::ENTRIES];
     let mut at = start;
-    let mut n: usize = 0;
-    loop {
-        let r = csv_records::read_record(text, at, byte_limit);
-        let place = n as u32 + 1;
-        let status = r.status;
-        match status {
-            Status::End => {
-                return Checked::Accepted(n as u32);
-            }
-            Status::Malformed => {
-                return Checked::Refused(refusal::MALFORMED, place);
-            }
-            Status::Limit => {
-                return Checked::Refused(refusal::ROW_LIMIT, place);
-            }
-            Status::Record => {
-                let spans = r.spans;
-                match judge_row(
-                    text,
-                    r.count,
-                    spans,
-                    &mut table,
-                    n,
-                    row_limit,
-                    process_limit,
-                ) {
-                    ReadRow::No(k) => {
-                        return Checked::Refused(k, place);
-                    }
-                    ReadRow::Kept(row) => {
-                        rows::put_row(rows, n, row);
-                        n += 1;
-                        at = r.next;
-                    }
-                }
-            }
-        }
+    let mut n = 0;
+    while let Some(found) = placed(next_row(text, at, n, call, questions), n + 1)? {
+        rows::put_row(rows, n as usize, found.row);
+        n += 1;
+        at = found.next;
     }
+    Ok(n)
+}
+
+// An answer with the place of its record in its refusal.
+fn placed(answer: Result<Option<NextRow>, Refusal>, place: u32) -> Result<Option<NextRow>, Refused>
+    ensures { MatchResult answer (λ found. result ≡ Ok found) (λ refusal. result ≡ Err (refused_at refusal place)) }
+{
+    answer.map_err(|refusal| refusal.at(place))
+}
+
+// Puts the questions of the record at a place behind n rows: answers its row, or none at the end of the text.
+fn next_row<Q: RowQuestions>(
+    text: &[u8],
+    at: usize,
+    n: u32,
+    call: Call,
+    questions: &mut Q,
+) -> Result<Option<NextRow>, Refusal>
+    ensures answer { told_step result ≡ step_of (Q.asked questions.old) call.row_limit call.process_limit n text.now (read_at text.now at call.byte_limit) }
+    ensures left { IfOk result (λ found. IfSome found (λ r. questions.new ≡ Q.noted questions.old r.row)) }
+{
+    let record = match csv_records::read_record(text, at, call.byte_limit) {
+        Ok(Some(record)) => record,
+        Ok(None) => return Ok(None),
+        Err(Unread::Malformed) => return Err(Refusal::Malformed),
+        Err(Unread::Limit) => return Err(Refusal::RowLimit),
+    };
+    let row = judge_record(text, &record, n as usize, call)?;
+    questions.ask(row)?;
+    Ok(Some(NextRow {
+        row,
+        next: record.next,
+    }))
 }

@@ -1,61 +1,49 @@
 -- `trace::reading::read_rows` meets its contract.
-use Rattle.trace.proofs.Going.{judges_rows, begin, no_row, row_room, next_row_lem}
-use Rattle.trace.proofs.Turns.{at-end, end-held, malformed_here, limit-here, refusal, onward}
+use Rattle.std.proofs.Common.{length, ◌+◌, ◌*◌, ◌≤◌, arith, refl, ◌≡◌, ◌∙◌, [], Some, None, Ok}
+use Rattle.std.proofs.lemmas.Result.{err_from_is_err_and}
 use Rattle.rows.proofs.Slices.{with_room}
-use Rattle.csv_records.proofs.Answers.{tells}
-use Rattle.csv_records.specs.Reading.{read_at}
-use Rattle.std.proofs.Common.{length, ◌+◌, ◌*◌, ◌≤◌, arith, refl, ◌∙◌}
+use Rattle.trace.specs.Reader.{rows_asked}
+use Rattle.trace.proofs.Refusing.{refusal-was, value-was}
+use Rattle.trace.proofs.Turns.{begin, at-end, at-no, row_in, next_row_lem, refusal}
 use Rattle.trace.proofs.reading.read_rows.Goals as goal
 
-pub loop-spans-init : goal.loop-spans-init
-loop-spans-init c =
-    let a = c.args in
-    (begin a.row_limit a.process_limit a.text.now a.byte_limit a.start a.rows.now, refl)
+pub loop-found-init : goal.loop-found-init
+unfolding rows_asked
+loop-found-init g c = (record { done = []; going = begin refl }, refl)
 
-pub returns-in-End : goal.returns-in-End
-returns-in-End c =
-    let a = c.args in
-    let l = c.loop-spans in
-    let found = tells (read_at a.text.now l.at a.byte_limit) c.read_record-r.result c.read_record-r.ensures c.in-End.is in
-    record { answer = at-end (judges_rows _ _) l.invariant.0.going found; held = end-held (judges_rows _ _) l.invariant.0.going found }
+pub returns-in_err-found-clause-answer : goal.returns-in_err-found-clause-answer
+returns-in_err-found-clause-answer g c =
+    let p = err_from_is_err_and c.from_residual.result c.from_residual.ensures.1 in
+    let was = refusal-was (c.loop-found.n + 1) c.next_row.result c.in_err-found.field-0.0 c.in_err-found.ensures in
+    rw (p.1, p.2, was.2) (refusal c.args.rows.now c.loop-found.rows (at-no _ _ _ _ _ c.loop-found.invariant.0.going (rw was.1 at c.next_row.ensures.answer))).0
 
-pub returns-in-Malformed : goal.returns-in-Malformed
-returns-in-Malformed c =
-    let both = let a = c.args in
-    let l = c.loop-spans in
-    let found = tells (read_at a.text.now l.at a.byte_limit) c.read_record-r.result c.read_record-r.ensures c.in-Malformed.is in
-    refusal a.rows.now l.rows (malformed_here (judges_rows _ _) l.invariant.0.going found) in record { answer = both.0; held = both.1 }
+pub returns-in_err-found-clause-held : goal.returns-in_err-found-clause-held
+returns-in_err-found-clause-held g c =
+    let was = refusal-was (c.loop-found.n + 1) c.next_row.result c.in_err-found.field-0.0 c.in_err-found.ensures in
+    (refusal c.args.rows.now c.loop-found.rows (at-no _ _ _ _ _ c.loop-found.invariant.0.going (rw was.1 at c.next_row.ensures.answer))).1
 
-pub returns-in-Limit : goal.returns-in-Limit
-returns-in-Limit c =
-    let both = let a = c.args in
-    let l = c.loop-spans in
-    let found = tells (read_at a.text.now l.at a.byte_limit) c.read_record-r.result c.read_record-r.ensures c.in-Limit.is in
-    refusal a.rows.now l.rows (limit-here (judges_rows _ _) l.invariant.0.going found) in record { answer = both.0; held = both.1 }
+pub loop-found-smaller : goal.loop-found-smaller
+loop-found-smaller g c =
+    let was : c.next_row.result ≡ Ok (Some c.in-Some.found) = rw c.in-Some.is at (value-was (c.loop-found.n + 1) c.next_row.result c.in_ok-found.field-0 c.in_ok-found.ensures) in
+    omega (arith, row_in _ _ _ _ _ c.loop-found.invariant.0.going (rw was at c.next_row.ensures.answer))
 
-pub returns-in-No : goal.returns-in-No
-returns-in-No c =
-    let both = let a = c.args in
-    let l = c.loop-spans in
-    refusal a.rows.now l.rows
-    (no_row l.invariant.0 c.read_record-r.ensures c.in-Record.is c.requires.2 (c.judge_row.ensures.answer, c.judge_row.ensures.left) c.in-No.is) in record { answer = both.0; held = both.1 }
+pub loop-found-preserved : goal.loop-found-preserved
+loop-found-preserved g c =
+    let was : c.next_row.result ≡ Ok (Some c.in-Some.found) = rw c.in-Some.is at (value-was (c.loop-found.n + 1) c.next_row.result c.in_ok-found.field-0 c.in_ok-found.ensures) in
+    let step = rw was at c.next_row.ensures.answer in
+    let going = c.loop-found.invariant.0.going in
+    let room : c.loop-found.n * 6 + 6 ≤ length c.loop-found.rows =
+    omega (arith, row_in _ _ _ _ _ going step, c.loop-found.invariant.1, c.requires.room) in
+    let put = c.put_row.ensures ∙ with_room c.loop-found.n c.in-Some.found.row c.loop-found.rows room in
+    let left = rw was at c.next_row.ensures.left in
+    (rw left (record { done = _; going = next_row_lem _ _ _ _ _ going step put }), c.put_row.auto.rows ∙ c.loop-found.invariant.1)
 
-pub loop-spans-smaller : goal.loop-spans-smaller
-loop-spans-smaller c =
-    let l = c.loop-spans in
-    let text = c.args.text.now in
-    let limit = c.args.byte_limit in
-    let read = tells (read_at text l.at limit) _ c.read_record-r.ensures c.in-Record.is in
-    omega (arith, onward text l.at limit read)
+pub returns-clause-answer : goal.returns-clause-answer
+returns-clause-answer g c =
+    let was : c.next_row.result ≡ Ok None = rw c.in_default.is at (value-was (c.loop-found.n + 1) c.next_row.result c.in_ok-found.field-0 c.in_ok-found.ensures) in
+    (at-end _ _ _ _ _ c.loop-found.invariant.0.going (rw was at c.next_row.ensures.answer)).0
 
-pub loop-spans-preserved : goal.loop-spans-preserved
-loop-spans-preserved c =
-    let l = c.loop-spans in
-    let read = c.read_record-r.ensures in
-    let told = c.in-Record.is in
-    let few = c.requires.2 in
-    let judged = c.judge_row.ensures in
-    let kept = c.in-Kept.is in
-    let room : l.n * 6 + 6 ≤ length l.rows = omega (arith, row_room l.invariant.0 read told few (judged.answer, judged.left) kept, l.invariant.1, c.requires.1) in
-    let put = c.put_row.ensures ∙ with_room l.n c.in-Kept.row l.rows room in
-    (next_row_lem l.invariant.0 read told few (judged.answer, judged.left) kept put, c.put_row.auto.rows ∙ l.invariant.1)
+pub returns-clause-held : goal.returns-clause-held
+returns-clause-held g c =
+    let was : c.next_row.result ≡ Ok None = rw c.in_default.is at (value-was (c.loop-found.n + 1) c.next_row.result c.in_ok-found.field-0 c.in_ok-found.ensures) in
+    (at-end _ _ _ _ _ c.loop-found.invariant.0.going (rw was at c.next_row.ensures.answer)).1

@@ -1,11 +1,16 @@
 -- `trace::reading::read_rows` meets its contract.
-use Rattle.trace.proofs.Going.{WithTable}
 use Rattle.std.proofs.Common.{length, ◌-◌, ◌≡◌}
+use Rattle.trace.specs.Reader.{rows_asked}
+use Rattle.trace.proofs.Turns.{Reading}
 use Rattle.trace.proofs.reading.read_rows.Given as goal
 
--- The outcome is that of the records from `at` on behind the n rows read so far, the slice holds those rows, and the table tells of them.
-abbrev pub invariant-loop-spans : goal.invariant-loop-spans
-invariant-loop-spans l = WithTable l.row_limit l.process_limit l.text l.byte_limit l.start l.initial.rows l.at l.n l.rows l.table × (length l.rows ≡ length l.initial.rows)
+-- The rows read so far stand in the slice, and the records that are left decide.
+abbrev pub invariant-loop-found : goal.invariant-loop-found
+invariant-loop-found g l =
+    Reading g.Q.RowQuestions.asked g.Q.RowQuestions.noted l.call.row_limit l.call.process_limit l.text l.call.byte_limit
+    (rows_asked g.Q.RowQuestions.asked g.Q.RowQuestions.noted l.call.row_limit l.call.process_limit l.text l.call.byte_limit l.initial.questions l.start)
+    l.initial.rows l.questions l.at l.n l.rows
+    × (length l.rows ≡ length l.initial.rows)
 
-abbrev pub decreases-loop-spans : goal.decreases-loop-spans
-decreases-loop-spans l = length l.text - l.at
+abbrev pub decreases-loop-found : goal.decreases-loop-found
+decreases-loop-found g l = length l.text - l.at
