@@ -1,22 +1,24 @@
 -- The report, line after line.
-use Rattle.std.proofs.Common.{ℕ, ◌+◌, ◌≤◌, ◌<◌, arith, zero-add, ◌≡◌, refl, sym, ap, ◌∙◌, List, ◌++◌, append_assoc, length, take, drop, length-append, length-take-le, le-leb}
+use Rattle.std.proofs.Common.{Ok, Err, subst, ℕ, ◌+◌, ◌*◌, ◌≤◌, ◌<◌, arith, zero-add, ◌≡◌, refl, sym, ap, ◌∙◌, List, [], ◌∷◌, ◌++◌, append-nil, append_assoc, length, take, drop, length-append, length-take-le, le-leb}
 use borrow.Author.Tests.{lt-leb}
 use Rattle.print.specs.Puts.{lay, put_in, put_end}
 use Rattle.print.proofs.Laying.{lay-length}
 use Rattle.rows.specs.Rows.{rows_in}
-use Rattle.trace.specs.declared.Checked.{Checked}
-use Rattle.trace.specs.declared.Checked.TheVariants as checked
+use Rattle.rows.specs.Refusals.{number_of}
+use Rattle.rows.specs.declared.row.Row.{Row}
+use Rattle.rows.specs.declared.refusal.Refused as refusal
+use Rattle.models.specs.declared.Model.{Model}
+use Rattle.models.specs.declared.Model.TheVariants.{Posix, Commit, Session, MpiIo}
+use Rattle.models.specs.Models.{model_number}
+use Rattle.rows.specs.Limits.{MODELS}
 use Rattle.trace.specs.Questions.{Outcome, refused, accepted, Leaves}
 use Rattle.rows.specs.Questions.{first_no}
-use Rattle.trace.proofs.Whole.{refused-told}
-use Rattle.races.specs.declared.Found.{Found}
-use Rattle.races.specs.declared.Found.TheVariants.{Free, Race, Refused}
 use Rattle.races_meaning.specs.Races.{Verdict, free, racing, verdict_of}
-use Rattle.races.specs.Answers.{judge_questions, verdict_found, found_of}
-use Rattle.checker.specs.Report.{line_end, heading, posix, commit, session, mpiio, free_words, race_word, refused_word, pair, verdict_words, model_line, report_of, read_by_program, report_length, report_in}
+use Rattle.races.specs.Answers.{Found, Free, Race, Refused, judge_questions, verdict_found, found_of}
+use Rattle.checker.specs.Report.{line_end, heading, posix, commit, session, mpiio, free_words, race_word, refused_word, pair, verdict_words, model_line, model_word, line_of, report_of, read_by_program, report_length, report_in}
 use Rattle.print.proofs.Parts.{Laid, put-laid, laid-length, then}
 use Rattle.checker.proofs.Lines.{pair-most, line-most}
-use Rattle.checker.proofs.Verdicts.{passes-other, outcome, told, rows-again}
+use Rattle.checker.proofs.Verdicts.{never_refused, outcome, no_trace, told, rows-again}
 
 -- ---- A model's line
 
@@ -30,10 +32,12 @@ race_told : (v : Verdict) {earlier later : ℕ} → Race earlier later ≡ verdi
 race_told free e = let z : ◌≡◌ {A = ℕ} 0 1 = cc in absurd (omega arith)
 race_told (racing earlier later) e = cc
 
--- no verdict's answer is a refusal
-never_refused : (v : Verdict) {k : ℕ} → Refused k ≡ verdict_found v → ⊥
-never_refused free e = let z : ◌≡◌ {A = ℕ} 0 1 = cc in omega arith
-never_refused (racing earlier later) e = let z : ◌≡◌ {A = ℕ} 0 1 = cc in omega arith
+-- a model's word has at most 8 bytes
+pub word-most : (m : Model) → length (model_word m) ≤ 8
+word-most Posix = omega arith
+word-most Commit = omega arith
+word-most Session = omega arith
+word-most MpiIo = omega arith
 
 module _ (xs : List ℕ) (at : ℕ) (name rows : List ℕ) (n model L : ℕ)
     (pre : ((at + 40 ≤ length xs) × (length name ≤ 8)) × (first_no (judge_questions n 8 model rows L) ≡ 0)) {mid : ℕ} {ys : List ℕ}
@@ -43,8 +47,8 @@ module _ (xs : List ℕ) (at : ℕ) (name rows : List ℕ) (n model L : ℕ)
   verdict = verdict_of (rows_in n rows) model
 
   -- an answer that equals what races::verdict answers tells the verdict
-  answer-told : {f g : Found} → f ≡ found_of (first_no (judge_questions n 8 model rows L)) rows n model → f ≡ g → g ≡ verdict_found verdict
-  answer-told e h = sym h ∙ e ∙ ap (λ (first : ℕ). found_of first rows n model) pre.1
+  answer-told : {f : Found} → f ≡ found_of (first_no (judge_questions n 8 model rows L)) rows n model → f ≡ verdict_found verdict
+  answer-told e = e ∙ ap (λ (first : ℕ). found_of first rows n model) pre.1
 
   -- the slice holds the name
   named : Laid xs at name mid ys
@@ -56,11 +60,11 @@ module _ (xs : List ℕ) (at : ℕ) (name rows : List ℕ) (n model L : ℕ)
   line e l = let all = then named l in rw e (all.behind, all.whole)
 
   -- the line of a free trace
-  pub free-line : {f : Found} → f ≡ found_of (first_no (judge_questions n 8 model rows L)) rows n model → f ≡ Free → {end : ℕ} {zs : List ℕ} →
+  pub free-line : Free ≡ found_of (first_no (judge_questions n 8 model rows L)) rows n model → {end : ℕ} {zs : List ℕ} →
       (end ≡ put_end ys mid (free_words ++ line_end)) × (zs ≡ put_in ys mid (free_words ++ line_end)) →
       (end ≡ at + length (model_line name verdict)) × (zs ≡ lay xs at (model_line name verdict))
-  free-line e h p =
-      line (free-told verdict (answer-told e h))
+  free-line e p =
+      line (free-told verdict (answer-told e))
       (put-laid ys mid (free_words ++ line_end) p (omega (arith, named.behind, laid-length named)))
 
   module _ {word : ℕ} {zs : List ℕ} (p : (word ≡ put_end ys mid race_word) × (zs ≡ put_in ys mid race_word)) where
@@ -73,98 +77,88 @@ module _ (xs : List ℕ) (at : ℕ) (name rows : List ℕ) (n model L : ℕ)
     race-room = omega (arith, named.behind, laid-length named, raced.behind, laid-length raced)
 
     -- the line of a race
-    pub race-line : {f : Found} → f ≡ found_of (first_no (judge_questions n 8 model rows L)) rows n model → {earlier later : ℕ} → f ≡ Race earlier later →
+    pub race-line : {earlier later : ℕ} → Race earlier later ≡ found_of (first_no (judge_questions n 8 model rows L)) rows n model →
         {end : ℕ} {ws : List ℕ} → (end ≡ word + length (pair earlier later)) × (ws ≡ lay zs word (pair earlier later)) →
         (end ≡ at + length (model_line name verdict)) × (ws ≡ lay xs at (model_line name verdict))
-    race-line e {earlier} {later} h q =
-        line (race_told verdict (answer-told e h))
+    race-line {earlier} {later} e q =
+        line (race_told verdict (answer-told e))
         (then raced
         (record { fit = omega (arith, race-room, pair-most earlier later); behind = q.0; whole = q.1 }))
 
   -- rows to judge are not refused
-  pub no_refusal : {f : Found} → f ≡ found_of (first_no (judge_questions n 8 model rows L)) rows n model → {k : ℕ} → f ≡ Refused k → ⊥
-  no_refusal e h = never_refused verdict (answer-told e h)
+  pub no_refusal : {k : ℕ} → Refused k ≡ found_of (first_no (judge_questions n 8 model rows L)) rows n model → ⊥
+  no_refusal e = never_refused verdict (answer-told e)
 
--- ---- The four lines
+-- ---- The lines
 
--- the slice holds some bytes, at most k, from the front on
-record Sofar (xs w : List ℕ) (k end : ℕ) (ys : List ℕ) : Type 0 where
-  laid : Laid xs 0 w end ys
-  most : length w ≤ k
+-- the lines of some models, one behind the other
+pub lines : List Row → List Model → List ℕ
+lines rows [] = []
+lines rows (m ∷ ms) = line_of rows m ++ lines rows ms
 
--- a model's line behind the bytes so far
-more : {xs w : List ℕ} {k mid : ℕ} {ys : List ℕ} → Sofar xs w k mid ys → (name : List ℕ) (v : Verdict) → k + (length name + 29) ≤ length xs →
-    {end : ℕ} {zs : List ℕ} → (end ≡ mid + length (model_line name v)) × (zs ≡ lay ys mid (model_line name v)) →
-    Sofar xs (w ++ model_line name v) (k + (length name + 29)) end zs
-more {xs} {w} {k} {mid} {ys} s name v h p =
-    let room : mid + length (model_line name v) ≤ length ys =
-    omega (arith, s.most, s.laid.behind, laid-length s.laid, line-most name v) in
-    record {
-      laid = then s.laid (record { fit = room; behind = p.0; whole = p.1 });
-      most = omega (arith, s.most, line-most name v, length-append w (model_line name v));
-    }
+-- the line of one model more stands behind the others
+lines-snoc : (rows : List Row) (ms : List Model) (m : Model) → lines rows (ms ++ (m ∷ [])) ≡ lines rows ms ++ line_of rows m
+unfolding lines
+lines-snoc rows [] m = append-nil (line_of rows m)
+lines-snoc rows (x ∷ ms) m = ap (λ (l : List ℕ). line_of rows x ++ l) (lines-snoc rows ms m) ∙ sym (append_assoc (line_of rows x) (lines rows ms) (line_of rows m))
 
--- there is room for another line
-next : {xs w : List ℕ} {k end : ℕ} {ys : List ℕ} → Sofar xs w k end ys → k + 40 ≤ length xs → end + 40 ≤ length ys
-next s h = omega (arith, s.most, s.laid.behind, laid-length s.laid)
+-- the heading and the lines of some models have these many bytes at most
+lines-most : (rows : List Row) (ms : List Model) → length (heading ++ lines rows ms) ≤ 29 + 37 * length ms
+unfolding lines
+lines-most rows ms = omega (arith, length-append heading (lines rows ms), go ms)
+  where
+    go : (ms : List Model) → length (lines rows ms) ≤ 37 * length ms
+    go [] = omega arith
+    go (m ∷ ms) =
+        omega (
+          arith,
+          go ms,
+          length-append (line_of rows m) (lines rows ms),
+          line-most (model_word m) (verdict_of rows (model_number m)),
+          word-most m,
+        )
 
--- five parts joined from the left are the parts joined from the right
-regroup : (a b c d e : List ℕ) → (((a ++ b) ++ c) ++ d) ++ e ≡ a ++ (b ++ (c ++ (d ++ e)))
-regroup a b c d e = simp append_assoc
+-- the slice holds the heading and the lines of these models
+abbrev pub Sofar : List ℕ → List Row → List Model → ℕ → List ℕ → Type 0
+Sofar xs rows ms end ys = Laid xs 0 (heading ++ lines rows ms) end ys
 
-module _ (xs rows : List ℕ) (n L : ℕ) (pre : (256 ≤ length xs) × (first_no (judge_questions n 8 0 rows L) ≡ 0)) where
-  -- a model's verdict
-  abbrev of : ℕ → Verdict
-  of model = verdict_of (rows_in n rows) model
+-- before the first model it holds the heading
+pub heading_laid : (xs : List ℕ) (rows : List Row) {end : ℕ} {ys : List ℕ} → 256 ≤ length xs → (end ≡ put_end xs 0 heading) × (ys ≡ put_in xs 0 heading) →
+    Sofar xs rows [] end ys
+unfolding lines
+heading_laid xs rows h p = put-laid xs 0 heading p (omega arith)
 
-  -- a model's line stands behind the bytes so far
-  abbrev Adds : List ℕ → ℕ → List ℕ → ℕ → ℕ → List ℕ → Type 0
-  Adds name model ys at end zs = (end ≡ at + length (model_line name (of model))) × (zs ≡ lay ys at (model_line name (of model)))
+module _ {xs : List ℕ} (rows : List Row) (ms : List Model) {mid : ℕ} {ys : List ℕ} (s : Sofar xs rows ms mid ys) (room : 256 ≤ length xs)
+    (few : length ms ≤ 3) where
+  -- there is room for another line
+  pub line_room : mid + 40 ≤ length ys
+  line_room = omega (arith, s.behind, laid-length s, lines-most rows ms)
 
-  module _ {a : ℕ} {ys : List ℕ} (h : (a ≡ put_end xs 0 heading) × (ys ≡ put_in xs 0 heading)) where
-    -- the slice holds the heading
-    head : Sofar xs heading 29 a ys
-    head = record { laid = put-laid xs 0 heading h (omega arith); most = omega arith }
+  -- a model's line stands behind the others
+  pub line_laid : (m : Model) {end : ℕ} {zs : List ℕ} → (end ≡ mid + length (line_of rows m)) × (zs ≡ lay ys mid (line_of rows m)) →
+      Sofar xs rows (ms ++ (m ∷ [])) end zs
+  line_laid m {end} {zs} p =
+      let fit : mid + length (line_of rows m) ≤ length ys =
+      omega (arith, line_room, line-most (model_word m) (verdict_of rows (model_number m)), word-most m) in
+      let all = then s (record { fit = fit; behind = p.0; whole = p.1 }) in
+      subst (λ (w : List ℕ). Laid xs 0 w end zs)
+      (append_assoc heading (lines rows ms) (line_of rows m) ∙ sym (ap (λ (l : List ℕ). heading ++ l) (lines-snoc rows ms m))) all
 
-    -- what put_model requires of the first line
-    pub first-asks : ((a + 40 ≤ length ys) × (length posix ≤ 8)) × (first_no (judge_questions n 8 0 rows L) ≡ 0)
-    first-asks = ((next head (omega arith), omega arith), pre.1)
+-- every model's number is below their count
+pub number-low : (m : Model) → model_number m < MODELS
+number-low Posix = omega arith
+number-low Commit = omega arith
+number-low Session = omega arith
+number-low MpiIo = omega arith
 
-    module _ {b : ℕ} {zs : List ℕ} {M : ℕ} (p : Adds posix 0 ys a b zs) (l : M ≡ L) where
-      -- the slice holds one line
-      one : Sofar xs (heading ++ model_line posix (of 0)) 63 b zs
-      one = more head posix (of 0) (omega arith) p
-
-      -- what put_model requires of the second line
-      pub second-asks : ((b + 40 ≤ length zs) × (length commit ≤ 8)) × (first_no (judge_questions n 8 1 rows M) ≡ 0)
-      second-asks = ((next one (omega arith), omega arith), passes-other n 8 0 1 rows (omega arith) (omega arith) pre.1 l)
-
-      module _ {c : ℕ} {us : List ℕ} {N : ℕ} (q : Adds commit 1 zs b c us) (m : N ≡ M) where
-        -- the slice holds two lines
-        two : Sofar xs ((heading ++ model_line posix (of 0)) ++ model_line commit (of 1)) 98 c us
-        two = more one commit (of 1) (omega arith) q
-
-        -- what put_model requires of the third line
-        pub third-asks : ((c + 40 ≤ length us) × (length session ≤ 8)) × (first_no (judge_questions n 8 2 rows N) ≡ 0)
-        third-asks = ((next two (omega arith), omega arith), passes-other n 8 0 2 rows (omega arith) (omega arith) pre.1 (m ∙ l))
-
-        module _ {d : ℕ} {vs : List ℕ} {O : ℕ} (r : Adds session 2 us c d vs) (o : O ≡ N) where
-          -- the slice holds three lines
-          three : Sofar xs (((heading ++ model_line posix (of 0)) ++ model_line commit (of 1)) ++ model_line session (of 2)) 134 d vs
-          three = more two session (of 2) (omega arith) r
-
-          -- what put_model requires of the fourth line
-          pub fourth-asks : ((d + 40 ≤ length vs) × (length mpiio ≤ 8)) × (first_no (judge_questions n 8 3 rows O) ≡ 0)
-          fourth-asks = ((next three (omega arith), omega arith), passes-other n 8 0 3 rows (omega arith) (omega arith) pre.1 (o ∙ m ∙ l))
-
-          -- the heading and four lines are the report
-          pub lines_laid : {e : ℕ} {ws : List ℕ} → Adds mpiio 3 vs d e ws →
-              (e ≡ length (report_of (accepted (rows_in n rows)))) × (ws ≡ lay xs 0 (report_of (accepted (rows_in n rows))))
-          unfolding report_of
-          lines_laid s =
-              let all = more three mpiio (of 3) (omega arith) s in
-              let g = regroup heading (model_line posix (of 0)) (model_line commit (of 1)) (model_line session (of 2)) (model_line mpiio (of 3)) in
-              (all.laid.behind ∙ zero-add _ ∙ ap length g, all.laid.whole ∙ ap (λ (w : List ℕ). lay xs 0 w) g)
+-- the heading and the lines of all models are the report
+pub lines_laid : {xs : List ℕ} (rows : List Row) {end : ℕ} {ys : List ℕ} → Sofar xs rows (Posix ∷ (Commit ∷ (Session ∷ (MpiIo ∷ [])))) end ys →
+    (end ≡ length (report_of (accepted rows))) × (ys ≡ lay xs 0 (report_of (accepted rows)))
+unfolding lines report_of
+lines_laid {xs} rows s =
+    let line : Model → List ℕ = line_of rows in
+    let e = ap (λ (last : List ℕ). heading ++ (line Posix ++ (line Commit ++ (line Session ++ last)))) (append-nil (line MpiIo)) in
+    (s.behind ∙ zero-add _ ∙ ap length e, s.whole ∙ ap (λ (w : List ℕ). lay xs 0 w) e)
 
 -- ---- The whole report
 
@@ -230,25 +224,24 @@ module _ (out : List ℕ) (h : 256 ≤ length out) {mid : ℕ} {us : List ℕ} (
       (all.behind ∙ zero-add _, all.whole)
 
 -- The report, by what check_trace leaves of the program's slices.
-module _ (text out : List ℕ) (h : 256 ≤ length out) (xs us : List ℕ) (rows_long : length xs ≡ 768) (counts-long : length us ≡ 1024)
-    {a : Checked} {ys vs : List ℕ}
-    (l : Leaves (outcome text 1 0 128 8 8192 xs us) a xs ys us vs) where
+module _ (text out : List ℕ) (h : 256 ≤ length out) (xs us : List ℕ) (rows_long : length xs ≡ 768) (counts-long : length us ≡ 1024) where
   -- the outcome with slices of these lengths is the outcome within the program's limits
   reads : outcome text 1 0 128 8 8192 xs us ≡ read_by_program text
   unfolding read_by_program
   reads = rw (rows_long, counts-long)
 
   -- the report of a refusal
-  pub report_refused : {k place : ℕ} → a ≡ checked.Refused k place → {mid end : ℕ} {ts ws : List ℕ} →
-      (mid ≡ put_end out 0 refused_word) × (ts ≡ put_in out 0 refused_word) → (end ≡ mid + length (pair k place)) × (ws ≡ lay ts mid (pair k place)) →
+  pub report_refused : {e : refusal.Refused} {ys vs : List ℕ} → Leaves (outcome text 1 0 128 8 8192 xs us) (Err e) xs ys us vs → {mid end : ℕ} {ts ws : List ℕ} →
+      (mid ≡ put_end out 0 refused_word) × (ts ≡ put_in out 0 refused_word) →
+      (end ≡ mid + length (pair (number_of e.refusal) e.place)) × (ws ≡ lay ts mid (pair (number_of e.refusal) e.place)) →
       (end ≡ report_length text out) × ((ws ≡ report_in text out) × Front end ws)
-  report_refused {k} {place} e p q =
-      report_laid text out h (sym (refused-told (outcome text 1 0 128 8 8192 xs us) (sym e ∙ l.answered)) ∙ reads) (refusal-laid out h p k place q)
+  report_refused {e} l p q =
+      report_laid text out h (sym (no_trace text 1 0 128 8 8192 xs us l) ∙ reads) (refusal-laid out h p (number_of e.refusal) e.place q)
 
   -- the report of an accepted trace
-  pub report_accepted : {n : ℕ} → a ≡ checked.Accepted n → {end : ℕ} {ws : List ℕ} →
+  pub report_accepted : {n : ℕ} {ys vs : List ℕ} → Leaves (outcome text 1 0 128 8 8192 xs us) (Ok n) xs ys us vs → {end : ℕ} {ws : List ℕ} →
       (end ≡ length (report_of (accepted (rows_in n ys)))) × (ws ≡ lay out 0 (report_of (accepted (rows_in n ys)))) →
       (end ≡ report_length text out) × ((ws ≡ report_in text out) × Front end ws)
-  report_accepted e p =
+  report_accepted l p =
       report_laid text out h
-      (ap accepted (rows-again text 1 0 128 8 8192 xs us l e) ∙ sym (told text 1 0 128 8 8192 xs us l e).1 ∙ reads) p
+      (ap accepted (rows-again text 1 0 128 8 8192 xs us l) ∙ sym (told text 1 0 128 8 8192 xs us l).1 ∙ reads) p

@@ -7,15 +7,12 @@ use Rattle.trace.proofs.Laws.{accepted-passed, accepted-sound}
 use Rattle.trace.proofs.Refusals.{Bounded, refusal-bounded}
 use Rattle.races_meaning.specs.Races.{Verdict, free, racing, verdict_of}
 use Rattle.races_meaning.proofs.Verdicts.{racing-within}
-use Rattle.checker.specs.declared.Judged.{Judged}
-use Rattle.checker.specs.declared.Judged.TheVariants.{Free, Race, Refused}
-use Rattle.checker.specs.Judging.{judged_rows, judged_of}
+use Rattle.checker.specs.Judging.{Judged, Free, Race, Refused, judged_rows, judged_of}
 use Rattle.rows.specs.Refusals.{LIST_SPACE}
 use Rattle.races_meaning.specs.Lists.{race_pairs}
 use Rattle.races_meaning.proofs.Lists.{pairs-most}
-use Rattle.races.specs.declared.Listed.{Listed}
-use Rattle.races.specs.declared.Listed.TheVariants as listed
-use Rattle.races.specs.Listing.{has_room, room_answer}
+use Rattle.races.specs.Listing as listed
+use Rattle.races.specs.Listing.{Listed, has_room, room_answer}
 use Rattle.races.proofs.Whole.{square_most}
 use Rattle.checker.specs.Listing.{listed_of}
 

@@ -1,33 +1,32 @@
 -- The whole call and the list of races: an accepted trace passes the questions of the verdict, and the answer on its rows is the call's.
-use Rattle.std.proofs.Common.{ℕ, ◌*◌, ◌-◌, ◌≤◌, ◌<◌, arith, mul-le-mul_right, ◌≡◌, refl, sym, ap, ◌∙◌, List, ◌++◌, length, replicate}
+use Rattle.std.proofs.Common.{Option, None, Some, Result, Ok, Err, ℕ, ◌*◌, ◌-◌, ◌≤◌, ◌<◌, arith, mul-le-mul_right, ◌≡◌, refl, sym, ap, ◌∙◌, List, ◌++◌, length, replicate}
 use lib.ListN.{length-replicate}
 use Rattle.rows.specs.Limits.{MODELS, ROWS}
 use Rattle.csv_records.specs.Reading.{records}
 use Rattle.rows.specs.declared.row.Row.{Row}
-use Rattle.trace.specs.declared.Checked.{Checked}
-use Rattle.trace.specs.declared.Checked.TheVariants as checked
+use Rattle.std.specs.Result.{IsErrAnd}
+use Rattle.rows.specs.Refusals.{number_of}
+use Rattle.rows.specs.declared.refusal.Refusal.{Refusal}
+use Rattle.rows.specs.declared.refusal.Refused as refusal
 use Rattle.rows.specs.Rows.{numbers, rows_in, row_at}
-use Rattle.trace.specs.Questions.{Outcome, accepted, check_trace, rows_left, counts_left, Leaves}
+use Rattle.trace.specs.Questions.{Outcome, refused, accepted, check_trace, rows_left, counts_left, Leaves}
 use Rattle.rows.specs.Questions.{first_no}
 use Rattle.trace.proofs.Laws.{Legal, Sound, accepted-passed, accepted-sound}
 use Rattle.trace.proofs.Whole.{accepted-told, refused-told}
 use Rattle.happens_before.specs.Order.{counts_of}
 use Rattle.happens_before.specs.Filling.{fill_questions, filled_left}
 use Rattle.trace.proofs.Sounds.{sound_row}
-use Rattle.races.specs.declared.Found.{Found}
-use Rattle.races.specs.declared.Found.TheVariants as found
+use Rattle.races.specs.Answers as found
 use Rattle.races_meaning.specs.Races.{Verdict, free, racing, verdict_of}
-use Rattle.races.specs.Answers.{judge_questions, verdict_found, found_of}
+use Rattle.races.specs.declared.Race as race
+use Rattle.races.specs.Answers.{Found, told_found, judge_questions, verdict_found, found_of}
 use Rattle.races.proofs.Whole.{same_first}
 use Rattle.races.proofs.Held.{rows-held, held-passes, held_found, held-counts, held-listed, held-list}
 use Rattle.races_meaning.specs.Lists.{race_pairs}
-use Rattle.races.specs.declared.Listed.{Listed}
-use Rattle.races.specs.declared.Listed.TheVariants as listed
 use Rattle.races.specs.Listing as listing
-use Rattle.races.specs.Listing.{list_questions, list_left}
-use Rattle.checker.specs.declared.Judged.{Judged}
-use Rattle.checker.specs.declared.Judged.TheVariants.{Free, Race, Refused}
-use Rattle.checker.specs.Judging.{judged_rows, Decides}
+use Rattle.races.specs.Listing.{list_questions, list_left, told_listed}
+use Rattle.checker.specs.declared.Judged as judged
+use Rattle.checker.specs.Judging.{Refused, told_rows, judged_rows, Decides}
 use Rattle.checker.specs.Listing.{Lists}
 
 -- ---- The questions of the verdict
@@ -40,51 +39,56 @@ passes-other n P model model' xs {L} {L'} m m' e q =
 
 -- ---- What the whole call decides
 
--- the answer of the whole call, by the answer of the verdict and the row count
-abbrev pub judged_as : ℕ → Found → Judged
-judged_as n found.Free = Free n
-judged_as n (found.Race earlier later) = Race n earlier later
-judged_as n (found.Refused k) = Refused k 0
+-- no verdict is told by a refusal
+pub never_refused : (v : Verdict) {k : ℕ} → found.Refused k ≡ verdict_found v → ⊥
+never_refused free e = let z : ◌≡◌ {A = ℕ} 0 1 = cc in omega arith
+never_refused (racing earlier later) e = let z : ◌≡◌ {A = ℕ} 0 1 = cc in omega arith
 
--- the answer of the whole call, by the verdict
-judged-found : (n : ℕ) (v : Verdict) → judged_as n (verdict_found v) ≡ judged_rows n v
-judged-found n free = refl
-judged-found n (racing earlier later) = refl
+-- the first race with a row count says what the verdict says
+judged-found : (n : ℕ) (r : Option race.Race) (v : Verdict) → told_found (Ok r) ≡ verdict_found v → told_rows n r ≡ judged_rows n v
+judged-found n None free e = refl
+judged-found n None (racing earlier later) e = let z : ◌≡◌ {A = ℕ} 0 1 = cc in absurd (omega arith)
+judged-found n (Some r) free e = let z : ◌≡◌ {A = ℕ} 0 1 = cc in absurd (omega arith)
+judged-found n (Some r) (racing earlier later) e = cc
 
 module _ (text : List ℕ) (header model R P limit : ℕ) (xs us : List ℕ) where
   -- the outcome of the text
   abbrev pub outcome : Outcome
   outcome = check_trace text header model R P limit (length xs) (length us)
 
-  -- the whole call answers a refusal of the trace
-  pub decides-refused : {a : Checked} {ys vs : List ℕ} {k p : ℕ} → Leaves outcome a xs ys us vs → a ≡ checked.Refused k p →
-      Decides model P outcome (Refused k p) xs ys us vs
-  decides-refused l q =
-      let e = refused-told outcome (sym q ∙ l.answered) in
-      rw e
-      (record {
-        answered = refl;
-        rows_after = l.rows_after ∙ ap (λ (o : Outcome). rows_left o xs) e;
-        counts_after = l.counts_after ∙ ap (λ (o : Outcome). counts_left o us) e;
-      })
+  module _ {e : refusal.Refused} {ys vs : List ℕ} (l : Leaves outcome (Err e) xs ys us vs) where
+    -- the outcome is this refusal
+    pub no_trace : outcome ≡ refused (number_of e.refusal) e.place
+    no_trace = refused-told outcome l.answered
 
-  -- the call that lists every race answers a refusal of the trace
-  pub lists_refused : (list : List ℕ) {a : Checked} {ys vs : List ℕ} {k p : ℕ} → Leaves outcome a xs ys us vs → a ≡ checked.Refused k p →
-      Lists model P outcome (listed.Refused k p) xs ys us vs list list
-  lists_refused list l q =
-      let e = refused-told outcome (sym q ∙ l.answered) in
-      rw e
-      (record {
-        answered = refl;
-        rows_after = l.rows_after ∙ ap (λ (o : Outcome). rows_left o xs) e;
-        counts_after = l.counts_after ∙ ap (λ (o : Outcome). counts_left o us) e;
-        list_after = refl;
-      })
+    -- the whole call answers a refusal of the trace
+    pub decides-refused : (answer : Result judged.Judged refusal.Refused) → IsErrAnd answer (λ r. r ≡ e) → Decides model P outcome answer xs ys us vs
+    decides-refused (Ok j) q = absurd q
+    decides-refused (Err r) q =
+        rw no_trace
+        (record {
+          answered = ap (λ (r : refusal.Refused). Refused (number_of r.refusal) r.place) q;
+          rows_after = l.rows_after ∙ ap (λ (o : Outcome). rows_left o xs) no_trace;
+          counts_after = l.counts_after ∙ ap (λ (o : Outcome). counts_left o us) no_trace;
+        })
 
-  module _ {a : Checked} {ys vs : List ℕ} {n : ℕ} (l : Leaves outcome a xs ys us vs) (q : a ≡ checked.Accepted n) where
+    -- the call that lists every race answers a refusal of the trace
+    pub lists_refused : (list : List ℕ) (answer : Result ℕ refusal.Refused) → IsErrAnd answer (λ r. r ≡ e) →
+        Lists model P outcome answer xs ys us vs list list
+    lists_refused list (Ok n) q = absurd q
+    lists_refused list (Err r) q =
+        rw no_trace
+        (record {
+          answered = ap (λ (r : refusal.Refused). listing.Refused (number_of r.refusal) r.place) q;
+          rows_after = l.rows_after ∙ ap (λ (o : Outcome). rows_left o xs) no_trace;
+          counts_after = l.counts_after ∙ ap (λ (o : Outcome). counts_left o us) no_trace;
+          list_after = refl;
+        })
+
+  module _ {ys vs : List ℕ} {n : ℕ} (l : Leaves outcome (Ok n) xs ys us vs) where
     -- the accepted rows
     pub told : (rows : List Row) × (outcome ≡ accepted rows) × (n ≡ length rows)
-    told = accepted-told outcome (sym q ∙ l.answered)
+    told = accepted-told outcome l.answered
 
     -- what stands behind the accepted rows
     behind : List ℕ
@@ -128,29 +132,34 @@ module _ (text : List ℕ) (header model R P limit : ℕ) (xs us : List ℕ) whe
     passes-again =
         held-passes told.0 behind told.2 rows-there P model passed.known-model few room passed.some-processes passed.few-processes below
 
+    -- what the verdict answers is told by the verdict of the rows
+    pub answered_lem : {f : Found} → f ≡ found_of (first_no (judge_questions n P model ys (length vs))) ys n model → f ≡ verdict_found (verdict_of told.0 model)
+    answered_lem e =
+        held_found told.0 behind told.2 rows-there P model passed.known-model few room passed.some-processes passed.few-processes below e
+
     -- the whole call answers and leaves what the verdict answers and leaves
-    pub decides : {f g : Found} {ws : List ℕ} →
-        (f ≡ found_of (first_no (judge_questions n P model ys (length vs))) ys n model)
-        × (ws ≡ filled_left (first_no (judge_questions n P model ys (length vs))) n P ys vs) →
-        f ≡ g →
-        Decides model P outcome (judged_as n g) xs ys us ws
-    decides {f} {g} {ws} e h =
+    pub decides : (r : Option race.Race) {ws : List ℕ} →
+        told_found (Ok r) ≡ found_of (first_no (judge_questions n P model ys (length vs))) ys n model →
+        ws ≡ filled_left (first_no (judge_questions n P model ys (length vs))) n P ys vs →
+        Decides model P outcome (Ok (record { rows = n; race = r })) xs ys us ws
+    decides r {ws} e f =
         let rows = told.0 in
-        let answer : g ≡ verdict_found (verdict_of rows model) =
-        sym h
-        ∙ held_found rows behind told.2 rows-there P model passed.known-model few room passed.some-processes passed.few-processes below e.0 in
         rw told.1
         (record {
-          answered = (λ i. judged_as (told.2 i) (answer i)) ∙ judged-found (length rows) (verdict_of rows model);
+          answered = judged-found n r (verdict_of rows model) (answered_lem e) ∙ ap (λ (m : ℕ). judged_rows m (verdict_of rows model)) told.2;
           rows_after = l.rows_after ∙ ap (λ (o : Outcome). rows_left o xs) told.1;
           counts_after =
-              held-counts rows behind told.2 rows-there P model passed.known-model few room passed.some-processes passed.few-processes below vs e.1
+              held-counts rows behind told.2 rows-there P model passed.known-model few room passed.some-processes passed.few-processes below vs f
               ∙ ap (λ (m : ℕ). counts_of P rows ++ replicate (m - length rows * P) 0) counts-length;
         })
 
+    -- the verdict on accepted rows is not refused
+    pub judged_lem : (e : Refusal) → told_found (Err e) ≡ found_of (first_no (judge_questions n P model ys (length vs))) ys n model → ⊥
+    judged_lem e f = never_refused (verdict_of told.0 model) (answered_lem f)
+
     -- the call that lists every race answers and leaves what the list of the rows does
-    pub lists : (list : List ℕ) {f : Listed} {ws after : List ℕ} →
-        (f ≡ listing.listed_of (first_no (list_questions n P model ys (length vs) (length list))) (race_pairs (rows_in n ys) model))
+    pub lists : (list : List ℕ) {f : Result ℕ refusal.Refused} {ws after : List ℕ} →
+        (told_listed f ≡ listing.listed_of (first_no (list_questions n P model ys (length vs) (length list))) (race_pairs (rows_in n ys) model))
         × ((ws ≡ filled_left (first_no (judge_questions n P model ys (length vs))) n P ys vs)
         × (after ≡ list_left (first_no (list_questions n P model ys (length vs) (length list))) (race_pairs (rows_in n ys) model) list)) →
         Lists model P outcome f xs ys us ws list after

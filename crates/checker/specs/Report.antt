@@ -1,6 +1,9 @@
 -- What the program prints: CSV with CR LF, a line for each model, or one line for a refusal.
 use Rattle.std.specs.Prelude.{ℕ, ◌+◌, ◌*◌, cond, List, [], ◌∷◌, ◌++◌, length, drop, leb}
-use Rattle.models.specs.Models.{POSIX, COMMIT_MODEL, SESSION, MPI_IO}
+use Rattle.models.specs.declared.Model.{Model}
+use Rattle.models.specs.declared.Model.TheVariants.{Posix, Commit, Session, MpiIo}
+use Rattle.models.specs.Models.{POSIX, COMMIT_MODEL, SESSION, MPI_IO, model_number}
+use Rattle.rows.specs.declared.row.Row.{Row}
 use Rattle.print.specs.Decimal.{decimal_of}
 use Rattle.trace.specs.Questions.{Outcome, refused, accepted, check_trace}
 use Rattle.races_meaning.specs.Races.{Verdict, free, racing, verdict_of}
@@ -60,6 +63,17 @@ verdict_words (racing earlier later) = race_word ++ pair earlier later
 -- a model's line
 abbrev pub model_line : List ℕ → Verdict → List ℕ
 model_line name v = name ++ verdict_words v
+
+-- the word that stands for a model
+abbrev pub model_word : Model → List ℕ
+model_word Posix = posix
+model_word Commit = commit
+model_word Session = session
+model_word MpiIo = mpiio
+
+-- the line of a model for these rows
+abbrev pub line_of : List Row → Model → List ℕ
+line_of rows model = model_line (model_word model) (verdict_of rows (model_number model))
 
 -- a line for each model, or the refusal's line
 unfoldable pub report_of : Outcome → List ℕ

@@ -6,23 +6,16 @@ ghost use Rattle.rows.specs.Rows.{rows_in};
 ghost use Rattle.trace.specs.Questions.{check_trace, accepted};
 ghost use Rattle.rows.specs.Questions.{first_no};
 ghost use Rattle.print.specs.Puts.{lay};
-ghost use Rattle.races_meaning.specs.Races.{verdict_of};
+ghost use Rattle.models.specs.Models.{model_number};
 ghost use Rattle.races.specs.Answers.{judge_questions};
 ghost use Rattle.checker.specs.Judging.{Decides};
 ghost use Rattle.checker.specs.Listing.{Lists};
-ghost use Rattle.checker.specs.Report.{pair, model_line, report_of, report_length, report_in};
+ghost use Rattle.checker.specs.Report.{pair, model_word, line_of, report_of, report_length, report_in};
 
-use races::{Found, Listed};
-use trace::{Call, Checked};
-
-// The models' numbers.
-const POSIX: u32 = 0;
-
-const COMMIT: u32 = 1;
-
-const SESSION: u32 = 2;
-
-const MPI_IO: u32 = 3;
+use models::Model;
+use races::Race;
+use rows::refusal::Refused;
+use trace::Call;
 
 // The header word of a trace with header.
 const WITH_HEADER: u32 = 1;
@@ -46,35 +39,27 @@ const COUNT_SPACE: usize = 1024;
 // A slice of this length has room for every report.
 const ROOM: usize = 256;
 
-// The answer of the whole call: the row count of an accepted trace that is free; the row count with the numbers of the earlier and the
-// later row of the first race; or the number and place of a refusal.
-#[derive(Clone, Copy)]
-pub enum Judged {
-    Free(u32),
-    Race(u32, u32, u32),
-    Refused(u32, u32),
+// The row count of an accepted trace, and the first race of its rows, if they have one.
+#[derive(Clone, Copy, Debug, PartialEq, Eq, Hash)]
+pub struct Judged {
+    pub rows: u32,
+    pub race: Option<Race>,
 }
 
 // Checks a trace, puts its rows and their counts into the lent slices, and answers its verdict under the model.
-pub fn judge(text: &[u8], call: Call, rows: &mut [u32], counts: &mut [u16]) -> Judged
+pub fn judge(
+    text: &[u8],
+    call: Call,
+    rows: &mut [u32],
+    counts: &mut [u16],
+) -> Result<Judged, Refused>
     ensures { Decides call.model call.process_limit
         (check_trace text.now call.header call.model call.row_limit call.process_limit call.byte_limit (length rows.old) (length counts.old))
         result rows.old rows.new counts.old counts.new }
 {
-    match trace::check_trace(text, call, rows, counts) {
-        Checked::Refused(number, place) => Judged::Refused(number, place),
-        Checked::Accepted(n) => match races::verdict(
-            rows,
-            n,
-            call.process_limit,
-            call.model,
-            counts,
-        ) {
-            Found::Free => Judged::Free(n),
-            Found::Race(earlier, later) => Judged::Race(n, earlier, later),
-            Found::Refused(number) => Judged::Refused(number, 0),
-        },
-    }
+    let n = trace::check_trace(text, call, rows, counts)?;
+    let race = races::verdict(rows, n, call.process_limit, call.model, counts)?;
+    Ok(Judged { rows: n, race })
 }
 
 // Checks a trace, puts its rows and their counts into the lent slices, puts every race under the model into the list, and answers how many there are.
@@ -85,22 +70,13 @@ pub fn list_races(
     rows: &mut [u32],
     counts: &mut [u16],
     list: &mut [u32],
-) -> Listed
+) -> Result<u32, Refused>
     ensures { Lists call.model call.process_limit
         (check_trace text.now call.header call.model call.row_limit call.process_limit call.byte_limit (length rows.old) (length counts.old))
         result rows.old rows.new counts.old counts.new list.old list.new }
 {
-    match trace::check_trace(text, call, rows, counts) {
-        Checked::Refused(number, place) => Listed::Refused(number, place),
-        Checked::Accepted(n) => races::list_races(
-            rows,
-            n,
-            call.process_limit,
-            call.model,
-            counts,
-            list,
-        ),
-    }
+    let n = trace::check_trace(text, call, rows, counts)?;
+    races::list_races(rows, n, call.process_limit, call.model, counts, list)
 }
 
 // Puts what the program prints of a trace with header at the front of a slice, and answers the length. A slice of 256 bytes has room for
@@ -119,17 +95,17 @@ pub fn report(text: &[u8], out: &mut [u8]) -> usize
     let counts: &mut [u16] = &mut count_space;
     let call = Call {
         header: WITH_HEADER,
-        model: POSIX,
+        model: Model::Posix.number(),
         row_limit: REPORT_ROWS,
         process_limit: REPORT_PROCESSES,
         byte_limit: BYTES,
     };
     match trace::check_trace(text, call, rows, counts) {
-        Checked::Refused(number, place) => {
+        Ok(n) => put_models(out, rows, n, counts),
+        Err(refused) => {
             let at = print::put(out, 0, b"refused,");
-            put_pair(out, at, number, place)
+            put_pair(out, at, refused.refusal.number(), refused.place)
         }
-        Checked::Accepted(n) => put_models(out, rows, n, counts),
     }
 }
 
@@ -146,43 +122,54 @@ pub fn report_input(input: &[u8; INPUT], n: usize, out: &mut [u8]) -> usize
     report(text, out)
 }
 
-// Puts the heading and the four models' lines.
+// Puts the heading and a line for each model.
 fn put_models(out: &mut [u8], rows: &[u32], n: u32, counts: &mut [u16]) -> usize
     requires report_room { 256 ≤ length out.old }
     requires asked { first_no (judge_questions n 8 0 rows.now (length counts.old)) ≡ 0 }
     ensures answer { result ≡ length (report_of (accepted (rows_in n rows.now))) }
     ensures out_after { out.new ≡ lay out.old 0 (report_of (accepted (rows_in n rows.now))) }
 {
-    let first = print::put(out, 0, b"model,verdict,earlier,later\r\n");
-    let second = put_model(out, first, b"posix", rows, n, POSIX, counts);
-    let third = put_model(out, second, b"commit", rows, n, COMMIT, counts);
-    let fourth = put_model(out, third, b"session", rows, n, SESSION, counts);
-    put_model(out, fourth, b"mpiio", rows, n, MPI_IO, counts)
+    let mut at = print::put(out, 0, b"model,verdict,earlier,later\r\n");
+    for model in Model::ALL {
+        at = put_model(out, at, model, rows, n, counts);
+    }
+    at
+}
+
+// The word that stands for a model in the report.
+fn word(model: Model) -> &'static [u8]
+    ensures { result.now ≡ model_word model }
+{
+    match model {
+        Model::Posix => b"posix",
+        Model::Commit => b"commit",
+        Model::Session => b"session",
+        Model::MpiIo => b"mpiio",
+    }
 }
 
 // Puts a model's line at a place, and answers the place behind the line.
 fn put_model(
     out: &mut [u8],
     at: usize,
-    name: &[u8],
+    model: Model,
     rows: &[u32],
     n: u32,
-    model: u32,
     counts: &mut [u16],
 ) -> usize
-    requires line_room { (at + 40 ≤ length out.old) × (length name.now ≤ 8) }
-    requires asked { first_no (judge_questions n 8 model rows.now (length counts.old)) ≡ 0 }
-    ensures answer { result ≡ at + length (model_line name.now (verdict_of (rows_in n rows.now) model)) }
-    ensures out_after { out.new ≡ lay out.old at (model_line name.now (verdict_of (rows_in n rows.now) model)) }
+    requires line_room { at + 40 ≤ length out.old }
+    requires asked { first_no (judge_questions n 8 (model_number model) rows.now (length counts.old)) ≡ 0 }
+    ensures answer { result ≡ at + length (line_of (rows_in n rows.now) model) }
+    ensures out_after { out.new ≡ lay out.old at (line_of (rows_in n rows.now) model) }
 {
-    let behind = print::put(out, at, name);
-    match races::verdict(rows, n, REPORT_PROCESSES, model, counts) {
-        Found::Free => print::put(out, behind, b",free,,\r\n"),
-        Found::Race(earlier, later) => {
-            let word = print::put(out, behind, b",race,");
-            put_pair(out, word, earlier, later)
+    let behind = print::put(out, at, word(model));
+    match races::verdict(rows, n, REPORT_PROCESSES, model.number(), counts) {
+        Ok(None) => print::put(out, behind, b",free,,\r\n"),
+        Ok(Some(race)) => {
+            let words = print::put(out, behind, b",race,");
+            put_pair(out, words, race.earlier, race.later)
         }
-        Found::Refused(_) => behind,
+        Err(_) => behind,
     }
 }
 

@@ -1,21 +1,21 @@
 -- `checker::judge` meets its contract.
-use Rattle.checker.proofs.Verdicts.{decides}
+use Rattle.checker.proofs.Verdicts.{decides-refused, decides, judged_lem}
 use Rattle.checker.proofs.judge.Goals as goal
 
-pub returns-in-Free : goal.returns-in-Free
-returns-in-Free c =
+pub returns-in_err-n : goal.returns-in_err-n
+returns-in_err-n c =
     let a = c.args in
-    decides a.text.now a.call.header a.call.model a.call.row_limit a.call.process_limit a.call.byte_limit a.rows.now a.counts.now
-    c.check_trace.ensures c.in-Accepted.is (c.verdict.ensures.answer, c.verdict.ensures.left) c.in-Free.is
+    decides-refused a.text.now a.call.header a.call.model a.call.row_limit a.call.process_limit a.call.byte_limit a.rows.now a.counts.now
+    c.in_err-n.ensures _ c.from_residual.ensures.1
 
-pub returns-in-Race : goal.returns-in-Race
-returns-in-Race c =
+pub returns-in_err-race : goal.returns-in_err-race
+returns-in_err-race c =
     let a = c.args in
-    decides a.text.now a.call.header a.call.model a.call.row_limit a.call.process_limit a.call.byte_limit a.rows.now a.counts.now
-    c.check_trace.ensures c.in-Accepted.is (c.verdict.ensures.answer, c.verdict.ensures.left) c.in-Race.is
+    absurd (judged_lem a.text.now a.call.header a.call.model a.call.row_limit a.call.process_limit a.call.byte_limit a.rows.now a.counts.now
+    c.in_ok-n.ensures _ c.in_err-race.ensures.answer)
 
-pub returns-in-Refused-verdict : goal.returns-in-Refused-verdict
-returns-in-Refused-verdict c =
+pub returns : goal.returns
+returns c =
     let a = c.args in
     decides a.text.now a.call.header a.call.model a.call.row_limit a.call.process_limit a.call.byte_limit a.rows.now a.counts.now
-    c.check_trace.ensures c.in-Accepted.is (c.verdict.ensures.answer, c.verdict.ensures.left) c.in-Refused-verdict.is
+    c.in_ok-n.ensures c.in_ok-race.race c.in_ok-race.ensures.answer c.in_ok-race.ensures.left

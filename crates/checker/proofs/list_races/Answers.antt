@@ -1,6 +1,15 @@
 -- `checker::list_races` meets its contract.
-use Rattle.checker.proofs.Verdicts.{lists}
+use Rattle.checker.proofs.Verdicts.{lists_refused, lists}
 use Rattle.checker.proofs.list_races.Goals as goal
 
-pub returns-in-Accepted : goal.returns-in-Accepted
-returns-in-Accepted c = lists c.args.text.now c.args.call.header c.args.call.model c.args.call.row_limit c.args.call.process_limit c.args.call.byte_limit c.args.rows.now c.args.counts.now c.check_trace.ensures c.in-Accepted.is c.args.list.now (c.list_races.ensures.answer, (c.list_races.ensures.left, c.list_races.ensures.listed))
+pub returns-in_err-n : goal.returns-in_err-n
+returns-in_err-n c =
+    let a = c.args in
+    lists_refused a.text.now a.call.header a.call.model a.call.row_limit a.call.process_limit a.call.byte_limit a.rows.now a.counts.now
+    c.in_err-n.ensures a.list.now _ c.from_residual.ensures.1
+
+pub returns : goal.returns
+returns c =
+    let a = c.args in
+    lists a.text.now a.call.header a.call.model a.call.row_limit a.call.process_limit a.call.byte_limit a.rows.now a.counts.now
+    c.in_ok-n.ensures a.list.now (c.list_races.ensures.answer, (c.list_races.ensures.left, c.list_races.ensures.listed))
