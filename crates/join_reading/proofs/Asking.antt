@@ -38,6 +38,6 @@ module _ (header rowLimit processLimit rowsLength : ℕ) where
     pub first_three : k ≤ 3
     first_three = whole.first_three [] header 0 rowLimit processLimit 0 rowsLength counts (e ∙ sym as_trace)
 
-    -- A call on a file that passes has its limits and its slice within their ranges.
-    pub file-legal : k ≡ 0 → Legal header 0 rowLimit processLimit rowsLength (rowLimit * processLimit)
-    file-legal z = legal header 0 rowLimit processLimit rowsLength counts (as_trace ∙ sym e ∙ z)
+  -- A call on a file that passes has its limits and its slice within their ranges.
+  pub file-legal : first_of ≡ 0 → Legal header 0 rowLimit processLimit rowsLength (rowLimit * processLimit)
+  file-legal z = legal header 0 rowLimit processLimit rowsLength counts (as_trace ∙ z)

@@ -1,12 +1,11 @@
 -- What reading one file of a join by itself answers and leaves: the questions 1 to 3 of the call, then what join_meaning says of the text.
-use Rattle.std.specs.Prelude.{ℕ, suc, ◌*◌, ◌≡◌, cond, List, [], ◌∷◌, length, leb, eqb}
-use Rattle.csv_records.specs.Reading.{records_from}
+use Rattle.std.specs.Prelude.{ℕ, ◌*◌, ◌≡◌, cond, List, [], ◌∷◌, leb, eqb, Result}
 use Rattle.rows.specs.Limits.{FIELDS}
 use Rattle.rows.specs.Questions.{Question, first_no}
 use Rattle.rows.specs.Refusals.{SHORT_SLICE, LIMITS, HEADER_WORD}
-use Rattle.trace.specs.declared.Checked.{Checked}
-use Rattle.trace.specs.Questions.{in_limits, header_word, Outcome, refused, checked_of, rows_left}
-use Rattle.join_meaning.specs.Files.{file_rows, read_file}
+use Rattle.rows.specs.declared.refusal.Refused.{Refused}
+use Rattle.trace.specs.Questions.{in_limits, header_word, Outcome, refused, told, checked_of, rows_left}
+use Rattle.join_meaning.specs.Files.{read_file}
 
 -- The questions 1 to 3 of one file: is the rows' slice long enough, are both limits within their ranges, is the header word 0 or 1? A file has no
 -- model of its own; model 0 is one of the table.
@@ -21,13 +20,7 @@ check_file text header rowLimit processLimit rowsLength =
     let first = first_no (file_questions header rowLimit processLimit rowsLength) in
     cond (eqb first 0) (read_file header rowLimit processLimit text) (refused first 0)
 
--- The outcome of a file's rows from a place of its text on.
-unfoldable pub file_from : ℕ → ℕ → List ℕ → ℕ → Outcome
-file_from rowLimit processLimit text at =
-    let r = records_from (suc (length text)) text (length text) at in
-    file_rows rowLimit processLimit [] r.rows r.ending
-
 -- What the call answers, and what it leaves of the rows' slice.
-pub record ReadsFile (o : Outcome) (answer : Checked) (rows rows' : List ℕ) : Type 0 where
-  pub answered : answer ≡ checked_of o
+pub record ReadsFile (o : Outcome) (answer : Result ℕ Refused) (rows rows' : List ℕ) : Type 0 where
+  pub answered : told answer ≡ checked_of o
   pub rows_after : rows' ≡ rows_left o rows

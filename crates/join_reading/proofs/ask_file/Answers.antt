@@ -1,9 +1,6 @@
 -- `join_reading::ask_file` meets its contract.
-use Rattle.std.proofs.Common.{◌∙◌}
 use Rattle.join_reading.proofs.Asking.{as_trace}
 use Rattle.join_reading.proofs.ask_file.Goals as goal
 
 pub returns : goal.returns
-returns c =
-    let a = c.args in
-    c.ask_call.ensures ∙ as_trace a.header a.row_limit a.process_limit a.rows_len
+returns c = rw (c.requires, as_trace c.args.call.header c.args.call.row_limit c.args.call.process_limit c.args.rows_len) at c.ask_call.ensures

@@ -1,60 +1,45 @@
 -- `join_reading::read_file` meets its contract.
-use Rattle.std.proofs.Common.{arith, length}
+use Rattle.std.proofs.Common.{arith, length, refl}
+use Rattle.std.proofs.lemmas.Result.{err_from_is_err_and}
+use Rattle.trace.proofs.Refusing.{number_some}
 use Rattle.join_reading.proofs.Asking.{file-legal}
 use Rattle.join_reading.proofs.Laws.{reads_kept, reads_none, file-rows-in, reads-rows}
 use Rattle.join_reading.proofs.read_file.Goals as goal
 
-pub returns-then-no-ne0 : goal.returns-then-no-ne0
-returns-then-no-ne0 c =
-    let a = c.args in
-    let xs = a.rows.now in
-    reads_kept a.text.now a.header a.row_limit a.process_limit (length xs) c.ask_file-no.ensures xs c.if-no-ne0.true
+pub returns-in_err-ask_file : goal.returns-in_err-ask_file
+returns-in_err-ask_file c =
+    let p = err_from_is_err_and c.from_residual.result c.from_residual.ensures.1 in
+    reads_kept c.args.text.now c.args.header c.args.row_limit c.args.process_limit (length c.args.rows.now) c.args.rows.now (rw (p.1, p.2) refl)
+    c.in_err-ask_file.ensures (λ z. omega (arith, number_some c.in_err-ask_file.field-0.0))
 
-pub read_text-requires : goal.read_text-requires
-read_text-requires c =
-    let a = c.args in
-    let xs = a.rows.now in
-    let l = file-legal a.header a.row_limit a.process_limit (length xs) c.ask_file-no.ensures c.if-no-ne0.false in
-    (l.few-rows, l.rows_have_room)
+pub read_text-requires-clause-few : goal.read_text-requires-clause-few
+read_text-requires-clause-few c = (file-legal c.args.header c.args.row_limit c.args.process_limit (length c.args.rows.now) c.in_ok-ask_file.ensures).few-rows
 
-pub slice_bounds-clear-count : goal.slice_bounds-clear-count
-slice_bounds-clear-count c =
-    let a = c.args in
-    let xs = a.rows.now in
-    let asked = c.ask_file-no.ensures in
-    let passed = c.if-no-ne0.false in
-    let ys = c.read_text.new.rows in
-    let fits = file-rows-in a.text.now a.header a.row_limit a.process_limit (length xs) asked xs passed c.read_text.ensures.answer ys
-    c.read_text.ensures.held c.in-Accepted.is in
-    omega (arith, fits)
+pub read_text-requires-clause-room : goal.read_text-requires-clause-room
+read_text-requires-clause-room c = (file-legal c.args.header c.args.row_limit c.args.process_limit (length c.args.rows.now) c.in_ok-ask_file.ensures).rows_have_room
 
-pub slice_bounds-clear-start : goal.slice_bounds-clear-start
-slice_bounds-clear-start c =
-    let a = c.args in
-    let xs = a.rows.now in
-    let asked = c.ask_file-no.ensures in
-    let passed = c.if-no-ne0.false in
-    let ys = c.read_text.new.rows in
-    let fits = file-rows-in a.text.now a.header a.row_limit a.process_limit (length xs) asked xs passed c.read_text.ensures.answer ys
-    c.read_text.ensures.held c.in-Accepted.is in
-    omega (arith, fits)
+pub slice_bounds-fill-count : goal.slice_bounds-fill-count
+slice_bounds-fill-count c =
+    omega (
+      arith,
+      file-rows-in c.args.text.now c.args.header c.args.row_limit c.args.process_limit (length c.args.rows.now) c.in_ok-ask_file.ensures c.args.rows.now c.read_text.new.rows
+          c.in-Ok.ensures.held c.in-Ok.ensures.answer,
+    )
 
-pub returns-in-Accepted : goal.returns-in-Accepted
-returns-in-Accepted c =
-    let a = c.args in
-    let xs = a.rows.now in
-    let asked = c.ask_file-no.ensures in
-    let passed = c.if-no-ne0.false in
-    let ys = c.read_text.new.rows in
-    reads-rows a.text.now a.header a.row_limit a.process_limit (length xs) asked xs passed c.read_text.ensures.answer ys
-    c.read_text.ensures.held c.in-Accepted.is c.clear.ensures
+pub slice_bounds-fill-start : goal.slice_bounds-fill-start
+slice_bounds-fill-start c =
+    omega (
+      arith,
+      file-rows-in c.args.text.now c.args.header c.args.row_limit c.args.process_limit (length c.args.rows.now) c.in_ok-ask_file.ensures c.args.rows.now c.read_text.new.rows
+          c.in-Ok.ensures.held c.in-Ok.ensures.answer,
+    )
 
-pub returns-in-Refused : goal.returns-in-Refused
-returns-in-Refused c =
-    let a = c.args in
-    let xs = a.rows.now in
-    let asked = c.ask_file-no.ensures in
-    let passed = c.if-no-ne0.false in
-    let ys = c.read_text.new.rows in
-    reads_none a.text.now a.header a.row_limit a.process_limit (length xs) asked xs passed c.read_text.ensures.answer ys
-    c.in-Refused.is c.read_text.auto.rows c.clear-in-Refused.ensures
+pub returns-in-Ok : goal.returns-in-Ok
+returns-in-Ok c =
+    reads-rows c.args.text.now c.args.header c.args.row_limit c.args.process_limit (length c.args.rows.now) c.in_ok-ask_file.ensures c.args.rows.now c.read_text.new.rows
+    c.in-Ok.ensures.held c.in-Ok.ensures.answer (c.fill.ensures.after (λ y e. e))
+
+pub returns-in-Err : goal.returns-in-Err
+returns-in-Err c =
+    reads_none c.args.text.now c.args.header c.args.row_limit c.args.process_limit (length c.args.rows.now) c.in_ok-ask_file.ensures c.args.rows.now c.read_text.new.rows
+    c.in-Err.refused c.in-Err.ensures.answer c.read_text.auto.rows (c.fill-in-Err.ensures.after (λ y e. e))
