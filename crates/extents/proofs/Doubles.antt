@@ -15,8 +15,7 @@ use Rattle.extents_meaning.proofs.Points.{runs_by}
 use Rattle.extents_meaning.proofs.Overwrites.{over-before, over-behind}
 use Rattle.extents_meaning.proofs.Sides.{with_length, at_same, at_other, with_same, with_comm, with_over}
 use Rattle.extents.specs.Answers.{Done, Listed, Refused}
-use Rattle.extents_map.specs.Mixes.{mixed, mix}
-use Rattle.extents_map.specs.declared.scan.Mode.TheVariants.{Publish, MarkPublished, Refresh}
+use Rattle.extents_map.specs.Mixes.{Publish, MarkPublished, Refresh, mixed, mix}
 use Rattle.extents_meaning.specs.Pairs.{two_maps, view_of, below_of}
 use Rattle.extents.specs.Entries.{or_refused, or_kept, listed_count, both_maps, publish_refusal, published_maps, PublishEntry, refresh_refusal, refreshed_maps, RefreshEntry, sync_refusal, synced_maps, SyncEntry, write_through_refusal, written_through_maps, WriteThroughEntry, read_refusal, ReadEntry}
 use Rattle.extents.proofs.Entering.{accepted}

@@ -10,7 +10,7 @@ ghost use Rattle.extents.specs.LookupAnswers.{told_lookup};
 ghost use Rattle.extents.specs.Entries.{mark_bit, WriteEntry, ListEntry, PublishEntry, RefreshEntry, SyncEntry, WriteThroughEntry, ReadEntry, LookupEntry};
 
 use crate::Stretch;
-use extents_map::scan::{Mix, Mode};
+use extents_map::modes::{MarkPublished, Publish, Range, ReadMap, Refresh};
 use extents_pair::Pair;
 use rows::refusal::Refusal;
 
@@ -79,13 +79,7 @@ fn lacks(map: &[u32], from: u32, to: u32, room: usize) -> bool
     if extents_map::locate::runs_in(map) < room / 2 {
         return false;
     }
-    let pieces = Mix {
-        mode: Mode::ReadMap,
-        start: 0,
-        end: 0,
-        cell: 0,
-    };
-    room < extents_map::scan::count(map, map, pieces, from, to)
+    room < extents_map::scan::count::<ReadMap>(map, map, Range::NONE, from, to)
 }
 
 // Looks a byte up in a map. At 4,294,967,295 a range of length 1 ends past the offset range.
@@ -117,7 +111,7 @@ pub fn publish(maps: &mut [u32], space: usize, view: usize, below: usize) -> Res
         below: below,
         own: own,
     };
-    if !extents_pair::fits(maps, pair, Mode::Publish, 0, 0, 0) {
+    if !extents_pair::fits::<Publish>(maps, pair, Range::NONE) {
         return Err(Refusal::MapSpace);
     }
     extents_publish::share(maps, pair, 0, 0, 0);
@@ -137,7 +131,7 @@ pub fn refresh(maps: &mut [u32], space: usize, view: usize, below: usize) -> Res
         below: below,
         own: own,
     };
-    if !extents_pair::fits(maps, pair, Mode::Refresh, 0, 0, 0) {
+    if !extents_pair::fits::<Refresh>(maps, pair, Range::NONE) {
         return Err(Refusal::MapSpace);
     }
     extents_refresh::refresh(maps, pair);
@@ -156,7 +150,7 @@ pub fn sync(maps: &mut [u32], space: usize, view: usize, below: usize) -> Result
         below: below,
         own: own,
     };
-    if !extents_pair::fits(maps, pair, Mode::Publish, 0, 0, 0) {
+    if !extents_pair::fits::<Publish>(maps, pair, Range::NONE) {
         return Err(Refusal::MapSpace);
     }
     extents_publish::share(maps, pair, 0, 0, 0);
@@ -195,10 +189,11 @@ pub fn write_through(
         below: below,
         own: own,
     };
-    if !extents_pair::fits(maps, pair, Mode::Publish, start, end, cell) {
+    let range = Range { start, end, cell };
+    if !extents_pair::fits::<Publish>(maps, pair, range) {
         return Err(Refusal::MapSpace);
     }
-    if !extents_pair::fits(maps, pair, Mode::MarkPublished, start, end, cell) {
+    if !extents_pair::fits::<MarkPublished>(maps, pair, range) {
         return Err(Refusal::MapSpace);
     }
     extents_publish::share(maps, pair, start, end, number);
@@ -233,7 +228,7 @@ pub fn read(
         below: below,
         own: own,
     };
-    if !extents_pair::fits(maps, pair, Mode::Refresh, 0, 0, 0) {
+    if !extents_pair::fits::<Refresh>(maps, pair, Range::NONE) {
         return Err(Refusal::MapSpace);
     }
     if extents_pair::lacks(maps, pair, start, end, out.len() / 3) {

@@ -6,10 +6,10 @@ use Rattle.extents_meaning.specs.Runs.{runs_from}
 use Rattle.extents_meaning.specs.Maps.{bytes_of}
 use Rattle.extents_meaning.specs.Points.{starts}
 use Rattle.extents_meaning.proofs.Points.{begins, begins-same, begins-most, count-starts}
-use Rattle.extents_map.specs.Mixes.{mixed, mix_in}
+use Rattle.extents_map.specs.Mixes.{Mode, mix_for, mixed, mix_in}
 use Rattle.extents_map.specs.Cursors.{Passing, BothLooked}
 use Rattle.extents_map.specs.declared.scan.Both.{Both}
-use Rattle.extents_map.specs.declared.scan.Mix.{Mix}
+use Rattle.extents_map.specs.declared.modes.Range.{Range}
 use Rattle.extents_map.proofs.Looking.{passing-on, passing-then, both-on, both-cell, both-other, both-inside}
 
 -- ---- Starts
@@ -43,17 +43,17 @@ starts-on x y to c here f l m h =
 -- ---- The walk
 
 -- of the runs of the mix from byte `from` to byte `to`, n start before byte x, behind a byte of a cell; i and j are cursors into both maps
-pub record Counted (map below : List ℕ) (mix : Mix) (from to x n last i j : ℕ) : Type 0 where
+pub record Counted (map below : List ℕ) (mode : Mode) (range : Range) (from to x n last i j : ℕ) : Type 0 where
   pub sum :
-      starts (to - from) from 0 (mix_in mix (bytes_of map) (bytes_of below))
-      ≡ n + starts (to - x) x last (mix_in mix (bytes_of map) (bytes_of below))
+      starts (to - from) from 0 (mix_in (mix_for mode range) (bytes_of map) (bytes_of below))
+      ≡ n + starts (to - x) x last (mix_in (mix_for mode range) (bytes_of map) (bytes_of below))
   pub view : Passing map 0 x i
   pub under : Passing below 0 x j
 
-module _ {map below : List ℕ} {mix : Mix} {from to x n last i j : ℕ} (k : Counted map below mix from to x n last i j) where
+module _ {map below : List ℕ} {mode : Mode} {range : Range} {from to x n last i j : ℕ} (k : Counted map below mode range from to x n last i j) where
   -- what is counted
   abbrev mix_of : Bytes
-  mix_of = mix_in mix (bytes_of map) (bytes_of below)
+  mix_of = mix_in (mix_for mode range) (bytes_of map) (bytes_of below)
 
   -- no more runs than bytes: the count fits
   pub count_most : n ≤ to
@@ -64,23 +64,23 @@ module _ {map below : List ℕ} {mix : Mix} {from to x n last i j : ℕ} (k : Co
   count-end h = omega (arith, k.sum, starts-most (to - x) x last mix_of, count-starts (to - from) from mix_of)
 
   -- a turn goes to the nearest byte y at which a map or the range changes
-  module _ {s : Both} {y : ℕ} (h : x < to) (top : to ≤ OFFSET_MAX) (o : mix.start ≤ mix.end)
-      (p : BothLooked map i below j mix x s) (l : y ≡ min s.next to) where
+  module _ {s : Both} {y : ℕ} (h : x < to) (top : to ≤ OFFSET_MAX) (o : range.start ≤ range.end)
+      (p : BothLooked map i below j range x s) (l : y ≡ min s.next to) where
     -- y lies behind x
     pub further : x < y
     further = omega (arith, (both-on p (omega arith) o).0)
 
-    module _ {here new : ℕ} (m : here ≡ mixed mix.mode s.inside mix.cell s.cell s.other) (r : new ≡ begins here last) where
+    module _ {here new : ℕ} (m : here ≡ mixed mode s.inside range.cell s.cell s.other) (r : new ≡ begins here last) where
       -- up to there the mix has one cell
       same-there : (z : ℕ) → x ≤ z → z < y → mix_of z ≡ here
       same-there z a u =
           let below : x < OFFSET_MAX = omega arith in
           let f = sym (k.view.same z a) ∙ both-cell p below o z a (omega arith) in
           let g = sym (k.under.same z a) ∙ both-other p below o z a (omega arith) in
-          (λ t. mixed mix.mode (both-inside p below o z a (omega arith) t) mix.cell (f t) (g t)) ∙ sym m
+          (λ t. mixed mode (both-inside p below o z a (omega arith) t) range.cell (f t) (g t)) ∙ sym m
 
       -- The turn counts the runs before y.
-      pub count_next : Counted map below mix from to y (n + new) here s.i s.j
+      pub count_next : Counted map below mode range from to y (n + new) here s.i s.j
       count_next =
           let f : x ≤ y = omega (arith, further) in
           record {

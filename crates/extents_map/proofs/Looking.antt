@@ -14,7 +14,7 @@ use Rattle.extents_map.specs.Beside.{end_of, run_before}
 use Rattle.extents_map.specs.Cursors.{ahead, Part, Passing, Looked, edge_of, BothLooked}
 use Rattle.extents_map.specs.declared.scan.Look.{Look}
 use Rattle.extents_map.specs.declared.scan.Both.{Both}
-use Rattle.extents_map.specs.declared.scan.Mix.{Mix}
+use Rattle.extents_map.specs.declared.modes.Range.{Range}
 use Rattle.extents_map.proofs.Parted.{rising-at}
 
 -- ---- The part of a map from a run on
@@ -201,8 +201,8 @@ edge-next start end x o below = go (dec_lt x start) (dec_lt x end)
         rw (le-ltb x start (omega arith), le-ltb x end (omega arith))
         (below, λ b l k. range-behind start n b (omega arith) ∙ sym (range-behind start n x (omega arith)))
 
-module _ {xs : List ℕ} {i : ℕ} {os : List ℕ} {j : ℕ} {mix : Mix} {x : ℕ} {r : Both} (p : BothLooked xs i os j mix x r) (below : x < OFFSET_MAX)
-    (order : mix.start ≤ mix.end) where
+module _ {xs : List ℕ} {i : ℕ} {os : List ℕ} {j : ℕ} {range : Range} {x : ℕ} {r : Both} (p : BothLooked xs i os j range x r) (below : x < OFFSET_MAX)
+    (order : range.start ≤ range.end) where
   -- the bytes of both maps
   abbrev g : Bytes
   g = bytes_of (drop (4 * i) xs)
@@ -216,7 +216,7 @@ module _ {xs : List ℕ} {i : ℕ} {os : List ℕ} {j : ℕ} {mix : Mix} {x : �
   both-on =
       let a = (change_iff g x (change_of g x) below).0 refl in
       let b = (change_iff o x (change_of o x) below).0 refl in
-      (omega (arith, p.next, a.0, b.0, (edge-next mix.start mix.end x order below).0), omega (arith, p.next, a.1))
+      (omega (arith, p.next, a.0, b.0, (edge-next range.start range.end x order below).0), omega (arith, p.next, a.1))
 
   -- up to it the map has one cell
   pub both-cell : (b : ℕ) → x ≤ b → b < r.next → g b ≡ r.cell
@@ -227,5 +227,5 @@ module _ {xs : List ℕ} {i : ℕ} {os : List ℕ} {j : ℕ} {mix : Mix} {x : �
   both-other b l h = before-change o x b below l (omega (arith, p.next)) ∙ sym p.other
 
   -- Up to it all bytes lie in the range, or none.
-  pub both-inside : (b : ℕ) → x ≤ b → b < r.next → in_range mix.start (mix.end - mix.start) b ≡ r.inside
-  both-inside b l h = (edge-next mix.start mix.end x order below).1 b l (omega (arith, p.next)) ∙ sym p.inside
+  pub both-inside : (b : ℕ) → x ≤ b → b < r.next → in_range range.start (range.end - range.start) b ≡ r.inside
+  both-inside b l h = (edge-next range.start range.end x order below).1 b l (omega (arith, p.next)) ∙ sym p.inside

@@ -7,7 +7,7 @@ use Rattle.extents_meaning.specs.Maps.{runs, bytes_of, lawful}
 use Rattle.extents_meaning.specs.Lookups.{change_of}
 use Rattle.extents_map.specs.declared.scan.Look.{Look}
 use Rattle.extents_map.specs.declared.scan.Both.{Both}
-use Rattle.extents_map.specs.declared.scan.Mix.{Mix}
+use Rattle.extents_map.specs.declared.modes.Range.{Range}
 
 -- The runs of a slice from run i on.
 abbrev pub ahead : List ℕ → ℕ → List Run
@@ -37,16 +37,16 @@ pub record Looked (xs : List ℕ) (from x : ℕ) (r : Look) : Type 0 where
 abbrev pub edge_of : ℕ → ℕ → ℕ → ℕ
 edge_of start end x = cond (ltb x start) start (cond (ltb x end) end OFFSET_MAX)
 
--- What a map from run i on, another one from run j on and the range of a mix have at byte x, and the next byte at which one of them changes.
-pub record BothLooked (xs : List ℕ) (i : ℕ) (os : List ℕ) (j : ℕ) (mix : Mix) (x : ℕ) (r : Both) : Type 0 where
+-- What a map from run i on, another one from run j on and a range have at byte x, and the next byte at which one of them changes.
+pub record BothLooked (xs : List ℕ) (i : ℕ) (os : List ℕ) (j : ℕ) (range : Range) (x : ℕ) (r : Both) : Type 0 where
   pub mine : Passing xs i x r.i
   pub first : Open x (ahead xs r.i)
   pub theirs : Passing os j x r.j
   pub cell : r.cell ≡ bytes_of (drop (4 * i) xs) x
   pub other : r.other ≡ bytes_of (drop (4 * j) os) x
-  pub inside : r.inside ≡ in_range mix.start (mix.end - mix.start) x
+  pub inside : r.inside ≡ in_range range.start (range.end - range.start) x
   pub next :
-      r.next ≡ min (min (change_of (bytes_of (drop (4 * i) xs)) x) (change_of (bytes_of (drop (4 * j) os)) x)) (edge_of mix.start mix.end x)
+      r.next ≡ min (min (change_of (bytes_of (drop (4 * i) xs)) x) (change_of (bytes_of (drop (4 * j) os)) x)) (edge_of range.start range.end x)
 
 -- ---- Runs put into a map
 

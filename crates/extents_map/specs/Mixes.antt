@@ -1,13 +1,30 @@
 -- What an entry makes of a byte, from the cells of a view and of the published map and from a range with a cell of its own.
 use Rattle.std.specs.Prelude.{ℕ, suc, ◌-◌, Bool, true, false, cond}
 use Rattle.extents_meaning.specs.Cells.{Bytes, number_in, unpublished, cleared, in_range}
-use Rattle.extents_map.specs.declared.scan.Mode.{Mode}
-use Rattle.extents_map.specs.declared.scan.Mode.TheVariants.{Publish, MarkPublished, Refresh, ReadMap, ReadFresh}
-use Rattle.extents_map.specs.declared.scan.Mix.{Mix}
+use Rattle.extents_map.specs.declared.modes.Range.{Range}
 
--- One byte of a mix: c is the range's cell, v the view's, w the published map's. Publish is the published map after publishing the view and
--- the range, MarkPublished the view then, Refresh the view after a refresh. ReadMap and ReadFresh are a piece's value, its row number and one:
--- in the view, and in the view after a refresh.
+-- What a mix makes of the cells of two maps, a view and the published map: Publish is the published map after publishing the view and a range,
+-- MarkPublished the view then, Refresh the view after a refresh. ReadMap and ReadFresh are a piece's value, its row number and one: in the view,
+-- and in the view after a refresh.
+pub data Mode : Type 0 where
+  Publish : Mode
+  MarkPublished : Mode
+  Refresh : Mode
+  ReadMap : Mode
+  ReadFresh : Mode
+
+-- A mix of two maps and a range that has a cell of its own.
+pub record Mix : Type 0 where
+  pub mode : Mode
+  pub start : ℕ
+  pub end : ℕ
+  pub cell : ℕ
+
+-- The mix of a mode and a range.
+abbrev pub mix_for : Mode → Range → Mix
+mix_for mode range = record { mode = mode; start = range.start; end = range.end; cell = range.cell }
+
+-- One byte of a mix: c is the range's cell, v the view's, w the published map's.
 unfoldable pub mixed : Mode → Bool → ℕ → ℕ → ℕ → ℕ
 mixed Publish inside c v w = cond inside c (cond (unpublished v) (cleared v) w)
 mixed MarkPublished inside c v w = cond inside c (cleared v)

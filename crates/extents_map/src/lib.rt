@@ -3,4 +3,5 @@
 
 pub mod list;
 pub mod locate;
+pub mod modes;
 pub mod scan;

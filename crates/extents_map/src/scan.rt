@@ -3,11 +3,12 @@ ghost use Rattle.std.specs.Prelude.{◌+◌, ◌*◌, ◌-◌, ◌≤◌, ◌<�
 ghost use Rattle.extents_meaning.specs.Cells.{number_in, mark_in, in_range};
 ghost use Rattle.extents_meaning.specs.Runs.{runs_from};
 ghost use Rattle.extents_meaning.specs.Maps.{runs, bytes_of, all_zero, follows, lawful, no_marks, lawful_published};
-ghost use Rattle.extents_map.specs.Mixes.{mixed as Mixes·mixed, mix_in};
+ghost use Rattle.extents_map.specs.Mixes.{mix_in, mix_for};
 ghost use Rattle.extents_map.specs.Cursors.{Part, Passing, Looked, edge_of, BothLooked};
 
 use crate::locate;
 use crate::locate::Run;
+use crate::modes::{Mode, Range};
 
 // The cell of a byte, the next byte that has another, and the run to go on from: the first that does not end at the byte or before.
 #[derive(Clone, Copy, Debug, PartialEq, Eq, Hash)]
@@ -150,25 +151,6 @@ pub fn mark_in(cell: u32) -> u32
     cell % 2
 }
 
-// What a mix makes of the cells of two maps, a view and the published map.
-#[derive(Clone, Copy, Debug, PartialEq, Eq, Hash)]
-pub enum Mode {
-    Publish,
-    MarkPublished,
-    Refresh,
-    ReadMap,
-    ReadFresh,
-}
-
-// A mix of two maps and a range that has a cell of its own.
-#[derive(Clone, Copy, Debug, PartialEq, Eq, Hash)]
-pub struct Mix {
-    pub mode: Mode,
-    pub start: u32,
-    pub end: u32,
-    pub cell: u32,
-}
-
 // What two maps and a range have at a byte, the next byte at which one of them changes, and the runs to go on from.
 #[derive(Clone, Copy, Debug, PartialEq, Eq, Hash)]
 pub struct Both {
@@ -180,30 +162,28 @@ pub struct Both {
     pub j: usize,
 }
 
-// What a map from run i on, another one from run j on and the range of a mix have at byte x. Every walk over two maps goes by it.
-pub fn see_both(map: &[u32], i: usize, other: &[u32], j: usize, mix: Mix, x: u32) -> Both
-    requires { Part map.now i x × Part other.now j x × (mix.start ≤ mix.end) }
-    ensures { BothLooked map.now i other.now j mix x result }
+// What a map from run i on, another one from run j on and a range have at byte x. Every walk over two maps goes by it.
+pub fn see_both(map: &[u32], i: usize, other: &[u32], j: usize, range: Range, x: u32) -> Both
+    requires { Part map.now i x × Part other.now j x × (range.start ≤ range.end) }
+    ensures { BothLooked map.now i other.now j range x result }
 {
     let v = see(map, i, x);
     let w = see(other, j, x);
-    let start = mix.start;
-    let end = mix.end;
     Both {
         cell: v.cell,
         other: w.cell,
-        inside: is_inside(start, end, x),
-        next: v.next.min(w.next).min(edge(start, end, x)),
+        inside: is_inside(range.start, range.end, x),
+        next: v.next.min(w.next).min(edge(range.start, range.end, x)),
         i: v.at,
         j: w.at,
     }
 }
 
 // How many runs a mix of two maps has from one byte to another.
-pub fn count(map: &[u32], below: &[u32], mix: Mix, from: u32, to: u32) -> usize
+pub fn count<M: Mode>(map: &[u32], below: &[u32], range: Range, from: u32, to: u32) -> usize
     requires lawful_map { (lawful map.now ≡ true) × (lawful below.now ≡ true) }
-    requires rising { (from ≤ to) × (mix.start ≤ mix.end) }
-    ensures { result ≡ length (runs_from (to - from) from (mix_in mix (bytes_of map.now) (bytes_of below.now))) }
+    requires rising { (from ≤ to) × (range.start ≤ range.end) }
+    ensures { result ≡ length (runs_from (to - from) from (mix_in (mix_for M.meaning range) (bytes_of map.now) (bytes_of below.now))) }
 {
     let mut x = from;
     let mut n = 0;
@@ -211,8 +191,8 @@ pub fn count(map: &[u32], below: &[u32], mix: Mix, from: u32, to: u32) -> usize
     let mut i = seek(map, from);
     let mut j = seek(below, from);
     while x < to {
-        let s = see_both(map, i, below, j, mix, x);
-        let here = mixed(mix, s.inside, s.cell, s.other);
+        let s = see_both(map, i, below, j, range, x);
+        let here = M::mixed(s.inside, range.cell, s.cell, s.other);
         n += begins(here, last);
         last = here;
         i = s.i;
@@ -220,43 +200,6 @@ pub fn count(map: &[u32], below: &[u32], mix: Mix, from: u32, to: u32) -> usize
         x = s.next.min(to);
     }
     n
-}
-
-// What a mix makes of one byte, in its range or not, where the two maps have cells v and w.
-pub fn mixed(mix: Mix, inside: bool, v: u32, w: u32) -> u32
-    ensures { result ≡ Mixes·mixed mix.mode inside mix.cell v w }
-{
-    let mode = mix.mode;
-    match mode {
-        Mode::Publish => {
-            if inside {
-                return mix.cell;
-            }
-            if v % 2 == 1 {
-                return v / 2 * 2;
-            }
-            w
-        }
-        Mode::MarkPublished => {
-            if inside {
-                return mix.cell;
-            }
-            v / 2 * 2
-        }
-        Mode::Refresh => {
-            if v % 2 == 1 {
-                return v;
-            }
-            w
-        }
-        Mode::ReadMap => v / 2 + 1,
-        Mode::ReadFresh => {
-            if v % 2 == 1 {
-                return v / 2 + 1;
-            }
-            w / 2 + 1
-        }
-    }
 }
 
 // 1 where a cell is neither 0 nor the cell of the byte before, else 0.

@@ -13,9 +13,7 @@ use Rattle.extents_meaning.proofs.Longest.{mean-before, runs_same}
 use Rattle.extents_meaning.proofs.Trips.{lawful-map}
 use Rattle.extents_meaning.proofs.Points.{begins, begins-same, begins-most, count-starts, runs_by}
 use Rattle.extents_meaning.proofs.Overwrites.{over-in, over-before, over-behind}
-use Rattle.extents_map.specs.Mixes.{mixed, mix, makes_map, is_mark_published}
-use Rattle.extents_map.specs.declared.scan.Mode.{Mode}
-use Rattle.extents_map.specs.declared.scan.Mode.TheVariants.{Publish, MarkPublished, Refresh, ReadMap, ReadFresh}
+use Rattle.extents_map.specs.Mixes.{Mode, Publish, MarkPublished, Refresh, ReadMap, ReadFresh, mixed, mix, makes_map, is_mark_published}
 use Rattle.extents_meaning.specs.Pairs.{two_maps}
 use Rattle.extents_pair.specs.Marks.{marked}
 use Rattle.extents_pair.proofs.Gathering.{marked-fewer}

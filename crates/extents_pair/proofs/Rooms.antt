@@ -8,8 +8,7 @@ use Rattle.extents_meaning.specs.Runs.{Run, runs_from, runs_of, pieces_of}
 use Rattle.extents_meaning.specs.Maps.{runs, bytes_of, lawful}
 use Rattle.extents_meaning.specs.Points.{starts}
 use Rattle.extents_meaning.proofs.Points.{begins, begins-same, begins-one, begins-most, count-starts}
-use Rattle.extents_map.specs.Mixes.{mixed, mix}
-use Rattle.extents_map.specs.declared.scan.Mode.TheVariants.{ReadMap}
+use Rattle.extents_map.specs.Mixes.{ReadMap, mixed, mix}
 use Rattle.extents_pair.proofs.Parts.{bytes_count}
 
 -- the pieces of the same range, said by its end

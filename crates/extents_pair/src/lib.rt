@@ -5,16 +5,17 @@ ghost use Rattle.std.specs.Prelude.{ℕ, ◌+◌, ◌*◌, ◌-◌, ◌≤◌, �
 ghost use Rattle.extents_meaning.specs.Cells.{number_in, overwrite, as_published, refreshed};
 ghost use Rattle.extents_meaning.specs.Runs.{runs_from, runs_of, pieces_of};
 ghost use Rattle.extents_meaning.specs.Maps.{map_for, runs, bytes_of, lawful, map_at, with_map, listed_in};
-ghost use Rattle.extents_map.specs.Mixes.{mix, mix_in, makes_map, is_mark_published};
+ghost use Rattle.extents_map.specs.Mixes.{mix, mix_in, mix_for, makes_map};
 ghost use Rattle.extents_meaning.specs.Pairs.{two_maps};
 ghost use Rattle.extents_pair.specs.InPairs.{two_maps_in, view_in, below_in, OwnCounted};
 ghost use Rattle.extents_pair.specs.Marks.{marked};
 ghost use Rattle.rows.specs.Limits.{OFFSET_MAX, ROWS};
 
-use extents_map::scan::{Mix, Mode};
+use extents_map::modes::{Mode, Range, ReadFresh, Refresh};
+use extents_map::{locate, scan};
 
 // A view and the published map: two maps of one space by their numbers in a slice, and how many runs of the view are unpublished.
-#[derive(Clone, Copy)]
+#[derive(Clone, Copy, Debug, PartialEq, Eq, Hash)]
 pub struct Pair {
     pub space: usize,
     pub view: usize,
@@ -35,10 +36,10 @@ pub fn two_maps(maps: &[u32], space: usize, view: usize, below: usize) -> bool
     if !has_map(maps, space, below) {
         return false;
     }
-    if !extents_map::scan::is_lawful(map_at(maps, space, view)) {
+    if !scan::is_lawful(map_at(maps, space, view)) {
         return false;
     }
-    extents_map::scan::is_published(map_at(maps, space, below))
+    scan::is_published(map_at(maps, space, below))
 }
 
 // Is the slice long enough for map k?
@@ -65,14 +66,14 @@ fn map_at(maps: &[u32], space: usize, k: usize) -> &[u32]
 }
 
 // How many runs a mix of a view, the published map and a range has from one byte to another.
-fn count(maps: &[u32], pair: Pair, mix: Mix, from: u32, to: u32) -> usize
+fn count<M: Mode>(maps: &[u32], pair: Pair, range: Range, from: u32, to: u32) -> usize
     requires lawful_maps { two_maps_in pair maps.now ≡ true }
-    requires rising { (from ≤ to) × (mix.start ≤ mix.end) }
-    ensures { result ≡ length (runs_from (to - from) from (mix_in mix (view_in pair maps.now) (below_in pair maps.now))) }
+    requires rising { (from ≤ to) × (range.start ≤ range.end) }
+    ensures { result ≡ length (runs_from (to - from) from (mix_in (mix_for M.meaning range) (view_in pair maps.now) (below_in pair maps.now))) }
 {
     let view = map_at(maps, pair.space, pair.view);
     let below = map_at(maps, pair.space, pair.below);
-    extents_map::scan::count(view, below, mix, from, to)
+    scan::count::<M>(view, below, range, from, to)
 }
 
 // How many runs of map k are unpublished.
@@ -86,63 +87,38 @@ pub fn own_runs(maps: &[u32], space: usize, k: usize) -> usize
 
 // Does a mix of a view, the published map and a range fit a map's space? The walk counts its runs only where the most that there can be are too
 // many.
-pub fn fits(maps: &[u32], pair: Pair, mode: Mode, start: u32, end: u32, cell: u32) -> bool
+pub fn fits<M: Mode>(maps: &[u32], pair: Pair, range: Range) -> bool
     requires lawful_maps { two_maps_in pair maps.now ≡ true }
-    requires known_mode { (makes_map mode ≡ true) × (start ≤ end) × OwnCounted pair maps.now }
-    ensures { result ≡ leb (length (runs_from (OFFSET_MAX - 0) 0 (mix mode start (end - start) cell
+    requires known_mode { (makes_map M.meaning ≡ true) × (range.start ≤ range.end) × OwnCounted pair maps.now }
+    ensures { result ≡ leb (length (runs_from (OFFSET_MAX - 0) 0 (mix_in (mix_for M.meaning range)
         (view_in pair maps.now) (below_in pair maps.now)))) pair.space }
 {
-    let space = pair.space;
-    if most_runs(maps, pair, mode) <= space {
+    if most_runs::<M>(maps, pair) <= pair.space {
         return true;
     }
-    let made = Mix {
-        mode: mode,
-        start: start,
-        end: end,
-        cell: cell,
-    };
-    count(maps, pair, made, 0, rows::OFFSET_MAX) <= space
+    count::<M>(maps, pair, range, 0, rows::OFFSET_MAX) <= pair.space
 }
 
 // Room for the runs of a mix of a view, the published map and any range that fits a map's space: no more than the most that there can be.
-pub fn room(maps: &[u32], pair: Pair, mode: Mode) -> usize
-    requires { (two_maps_in pair maps.now ≡ true) × (makes_map mode ≡ true) × OwnCounted pair maps.now }
+pub fn room<M: Mode>(maps: &[u32], pair: Pair) -> usize
+    requires { (two_maps_in pair maps.now ≡ true) × (makes_map M.meaning ≡ true) × OwnCounted pair maps.now }
     ensures within { result ≤ pair.space }
-    ensures fitting_runs { (start n cell : ℕ) → (let runs = length (runs_of (mix mode start n cell
+    ensures fitting_runs { (start n cell : ℕ) → (let runs = length (runs_of (mix M.meaning start n cell
         (view_in pair maps.now) (below_in pair maps.now))) in runs ≤ pair.space → runs ≤ result) }
 {
-    let space = pair.space;
-    let most = most_runs(maps, pair, mode);
-    if most < space {
-        return most;
-    }
-    space
+    most_runs::<M>(maps, pair).min(pair.space)
 }
 
 // The most runs that a mix of a view, the published map and any range can have.
-fn most_runs(maps: &[u32], pair: Pair, mode: Mode) -> usize
-    requires { (two_maps_in pair maps.now ≡ true) × (makes_map mode ≡ true) × OwnCounted pair maps.now }
-    ensures { (start n cell : ℕ) → length (runs_of (mix mode start n cell
+fn most_runs<M: Mode>(maps: &[u32], pair: Pair) -> usize
+    requires { (two_maps_in pair maps.now ≡ true) × (makes_map M.meaning ≡ true) × OwnCounted pair maps.now }
+    ensures { (start n cell : ℕ) → length (runs_of (mix M.meaning start n cell
         (view_in pair maps.now) (below_in pair maps.now))) ≤ result }
 {
-    if is_mark_published(mode) {
-        return extents_map::locate::runs_in(map_at(maps, pair.space, pair.view)) + 2;
+    if M::NEEDS_VIEW_ALONE {
+        return locate::runs_in(map_at(maps, pair.space, pair.view)) + 2;
     }
-    extents_map::locate::runs_in(map_at(maps, pair.space, pair.below)) + 2 * pair.own + 2
-}
-
-// Does the mode mark the view published?
-fn is_mark_published(mode: Mode) -> bool
-    ensures { result ≡ is_mark_published mode }
-{
-    match mode {
-        Mode::Publish => false,
-        Mode::MarkPublished => true,
-        Mode::Refresh => false,
-        Mode::ReadMap => false,
-        Mode::ReadFresh => false,
-    }
+    locate::runs_in(map_at(maps, pair.space, pair.below)) + 2 * pair.own + 2
 }
 
 // Has a range of a view more pieces after a refresh than there is room for? A range has at most two for each run, and one more: the walk counts
@@ -153,16 +129,10 @@ pub fn lacks(maps: &[u32], pair: Pair, from: u32, to: u32, room: usize) -> bool
     ensures { result ≡ ltb room (length (pieces_of (refreshed
         (view_in pair maps.now) (below_in pair maps.now)) from (to - from))) }
 {
-    if most_runs(maps, pair, Mode::Refresh) < room / 2 {
+    if most_runs::<Refresh>(maps, pair) < room / 2 {
         return false;
     }
-    let pieces = Mix {
-        mode: Mode::ReadFresh,
-        start: 0,
-        end: 0,
-        cell: 0,
-    };
-    room < count(maps, pair, pieces, from, to)
+    room < count::<ReadFresh>(maps, pair, Range::NONE, from, to)
 }
 
 // How many runs of a map are unpublished.
@@ -170,12 +140,10 @@ fn marked_in(map: &[u32]) -> usize
     requires { lawful map.now ≡ true }
     ensures { result ≡ length (marked (runs map.now)) }
 {
-    let all = extents_map::locate::runs_in(map);
+    let all = locate::runs_in(map);
     let mut n = 0;
-    let mut i = 0;
-    while i < all {
+    for i in 0..all {
         n += map[i * 4 + 3] as usize;
-        i += 1;
     }
     n
 }

@@ -8,9 +8,7 @@ use Rattle.extents_meaning.specs.Runs.{runs_of}
 use Rattle.extents_meaning.specs.Maps.{map_for, space_in, runs, bytes_of, lawful, lawful_published, map_at, with_map}
 use Rattle.extents_meaning.proofs.Longest.{Fine}
 use Rattle.extents_meaning.proofs.Trips.{lawful-map, no_marks-in, no_marks-out}
-use Rattle.extents_map.specs.Mixes.{mixed, mix, mix_in}
-use Rattle.extents_map.specs.declared.scan.Mix.{Mix}
-use Rattle.extents_map.specs.declared.scan.Mode.TheVariants.{Publish}
+use Rattle.extents_map.specs.Mixes.{Publish, Mix, mixed, mix, mix_in}
 use Rattle.extents_pair.specs.declared.Pair.{Pair}
 use Rattle.extents_pair.specs.InPairs.{two_maps_in, view_in, below_in, OwnCounted}
 use Rattle.extents_pair.specs.Marks.{marked}

@@ -8,17 +8,17 @@ ghost use Rattle.extents_meaning.specs.Cells.{number_in, cell_of, overwrite};
 ghost use Rattle.extents_meaning.specs.Runs.{runs_of};
 ghost use Rattle.extents_meaning.specs.Maps.{map_for, runs, bytes_of, lawful, with_map, part_at};
 ghost use Rattle.extents_map.specs.Beside.{run_no};
+ghost use Rattle.extents_map.specs.Mixes as modes;
 ghost use Rattle.extents_map.specs.Mixes.{mix};
-ghost use Rattle.extents_map.specs.declared.scan.Mode.TheVariants.{Publish};
 ghost use Rattle.extents_pair.specs.InPairs.{two_maps_in, view_in, below_in, OwnCounted};
 ghost use Rattle.extents_publish.specs.Publishing.{Below, published_in, Taken, Layable};
 
 use extents_map::locate;
-use extents_map::scan::{Mix, Mode};
+use extents_map::modes::{Publish, Range};
 use extents_pair::Pair;
 
 // What is laid of a run of a view: its range, empty where the run is published, its cell without the mark, and its mark.
-#[derive(Clone, Copy)]
+#[derive(Clone, Copy, Debug, PartialEq, Eq, Hash)]
 struct Own {
     from: u32,
     to: u32,
@@ -31,33 +31,28 @@ struct Own {
 pub fn share(maps: &mut [u32], pair: Pair, start: u32, end: u32, number: u32)
     requires lawful_maps { two_maps_in pair maps.old ≡ true }
     requires range_and_number { (start ≤ end) × (start < end → 1 ≤ number) × (number ≤ ROWS) × OwnCounted pair maps.old }
-    requires runs_fit { length (runs_of (mix Publish start (end - start) (cell_of number 0) (view_in pair maps.old) (below_in pair maps.old))) ≤ pair.space }
+    requires runs_fit { length (runs_of (mix modes.Publish start (end - start) (cell_of number 0) (view_in pair maps.old) (below_in pair maps.old))) ≤ pair.space }
     ensures maps_after { maps.new ≡ with_map pair.space pair.below
-        (map_for pair.space (mix Publish start (end - start) (cell_of number 0) (view_in pair maps.old) (below_in pair maps.old))) maps.old }
+        (map_for pair.space (mix modes.Publish start (end - start) (cell_of number 0) (view_in pair maps.old) (below_in pair maps.old))) maps.old }
     ensures lawful_after { (two_maps_in pair maps.new ≡ true) × OwnCounted pair maps.new }
 {
-    let space = pair.space;
-    let view = pair.view;
-    let below = pair.below;
-    let own = pair.own;
-    let size = 4 * space;
-    let v = view * size;
-    let w = below * size;
-    let all = Mix {
-        mode: Mode::Publish,
-        start: start,
-        end: end,
+    let size = 4 * pair.space;
+    let v = pair.view * size;
+    let w = pair.below * size;
+    let range = Range {
+        start,
+        end,
         cell: number * 2,
     };
-    if lay_all(maps, size, v, w, own, all) {
+    if lay_all(maps, size, v, w, pair.own, range) {
         return;
     }
-    extents_weave::weave(maps, pair, all);
+    extents_weave::weave::<Publish>(maps, pair, range);
 }
 
 // Lays the unpublished runs of a view and then a range on the published map, as long as the map fits. Answers whether all are laid; else each byte
 // is as it was or has the view's cell. The loop has laid the unpublished runs before run i, and `left` are left.
-fn lay_all(maps: &mut [u32], size: usize, v: usize, w: usize, own: usize, range: Mix) -> bool
+fn lay_all(maps: &mut [u32], size: usize, v: usize, w: usize, own: usize, range: Range) -> bool
     requires { Layable size v w own range.cell maps.old }
     ensures below { result ≡ true → Below size w (λ b c. c ≡ overwrite range.start (range.end - range.start) range.cell
         (published_in size v w maps.old) b) maps.old maps.new }

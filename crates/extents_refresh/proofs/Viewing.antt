@@ -10,8 +10,7 @@ use Rattle.extents_meaning.proofs.Longest.{range-behind, runs_same}
 use Rattle.extents_meaning.proofs.Points.{runs_by}
 use Rattle.extents_meaning.proofs.Trips.{lawful-map, length-map}
 use Rattle.extents_meaning.proofs.Sides.{with_length, at_same, at_other, with_over}
-use Rattle.extents_map.specs.Mixes.{mixed, mix}
-use Rattle.extents_map.specs.declared.scan.Mode.TheVariants.{MarkPublished}
+use Rattle.extents_map.specs.Mixes.{MarkPublished, mixed, mix}
 use Rattle.extents_pair.specs.Marks.{marked}
 use Rattle.extents_pair.proofs.Parts.{home, bytes_fit}
 use Rattle.extents_pair.proofs.Pairing.{Told, two-told, two-apart, last-law, lent_map, map_lent, map_length, map_space, map_whole, made-home}

@@ -1,7 +1,7 @@
 // Refreshing a view from the published map, both maps in one slice, and marking the runs of a view published.
 #![tactic(auto)]
 
-ghost use Rattle.std.specs.Prelude.{◌+◌, ◌*◌, ◌≤◌, ◌<◌, max, ◌≡◌, true, false, length};
+ghost use Rattle.std.specs.Prelude.{◌+◌, ◌*◌, ◌≤◌, ◌<◌, ◌≡◌, true, false, length};
 ghost use Rattle.extents_meaning.specs.Cells.{as_published, refreshed};
 ghost use Rattle.extents_meaning.specs.Runs.{run_of, runs_of};
 ghost use Rattle.extents_meaning.specs.Maps.{map_for, runs, lawful, map_at, with_map};
@@ -10,7 +10,7 @@ ghost use Rattle.extents_pair.specs.InPairs.{two_maps_in, view_in, below_in, Own
 ghost use Rattle.extents_refresh.specs.Clearing.{Apart, Cleared};
 
 use extents_map::locate;
-use extents_map::scan::{Mix, Mode};
+use extents_map::modes::{MarkPublished, Range, Refresh};
 use extents_pair::Pair;
 
 // Refreshes a view that fits then. Without an unpublished run the published map is copied.
@@ -20,21 +20,11 @@ pub fn refresh(maps: &mut [u32], pair: Pair)
     ensures { maps.new ≡ with_map pair.space pair.view
         (map_for pair.space (refreshed (view_in pair maps.old) (below_in pair maps.old))) maps.old }
 {
-    let space = pair.space;
-    let view = pair.view;
-    let below = pair.below;
-    let own = pair.own;
-    if own == 0 {
-        copy(maps, space, below, view);
+    if pair.own == 0 {
+        copy(maps, pair.space, pair.below, pair.view);
         return;
     }
-    let fresh = Mix {
-        mode: Mode::Refresh,
-        start: 0,
-        end: 0,
-        cell: 0,
-    };
-    extents_weave::weave(maps, pair, fresh);
+    extents_weave::weave::<Refresh>(maps, pair, Range::NONE);
 }
 
 // Marks a view published: marks are cleared in place as long as no neighbour joins, then the map is rewritten.
@@ -43,29 +33,14 @@ pub fn mark_published(maps: &mut [u32], pair: Pair)
     ensures { maps.new ≡ with_map pair.space pair.view
         (map_for pair.space (as_published (view_in pair maps.old))) maps.old }
 {
-    let space = pair.space;
-    let view = pair.view;
-    let below = pair.below;
-    let own = pair.own;
-    let size = 4 * space;
-    let v = view * size;
-    let left = clear_marks(&mut maps[v..v + size], own);
+    let size = 4 * pair.space;
+    let v = pair.view * size;
+    let left = clear_marks(&mut maps[v..v + size], pair.own);
     if left == 0 {
         return;
     }
-    let rest = Pair {
-        space: space,
-        view: view,
-        below: below,
-        own: left,
-    };
-    let marks = Mix {
-        mode: Mode::MarkPublished,
-        start: 0,
-        end: 0,
-        cell: 0,
-    };
-    extents_weave::weave(maps, rest, marks);
+    let rest = Pair { own: left, ..pair };
+    extents_weave::weave::<MarkPublished>(maps, rest, Range::NONE);
 }
 
 // Clears the marks of the `own` unpublished runs of a map from the front, up to the first that would join a neighbour, and answers how many are left.
@@ -122,17 +97,10 @@ pub fn copy(maps: &mut [u32], space: usize, j: usize, k: usize)
     let to = k * size;
     let there = locate::runs_in(&maps[from..from + size]);
     let here = locate::runs_in(&maps[to..to + size]);
-    let end = larger(there, here) * 4;
+    let end = there.max(here) * 4;
     let mut i = 0;
     while i < end {
         maps[to + i] = maps[from + i];
         i += 1;
     }
-}
-
-// The larger of two numbers.
-fn larger(a: usize, b: usize) -> usize
-    ensures { result ≡ max a b }
-{
-    if a < b { b } else { a }
 }

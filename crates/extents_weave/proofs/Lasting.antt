@@ -1,10 +1,7 @@
 -- The results of every mode last: what a byte needs of the target is not lost where another byte has the same result.
 use Rattle.std.proofs.Common.{ℕ, suc, ◌-◌, arith, ◌≡◌, refl, Bool, true, false, cond, eqb-true}
 use Rattle.extents_meaning.specs.Cells.{Bytes, unpublished, cleared, number_in, mark_in, in_range}
-use Rattle.extents_map.specs.Mixes.{mixed, becomes, becomes_in}
-use Rattle.extents_map.specs.declared.scan.Mode.{Mode}
-use Rattle.extents_map.specs.declared.scan.Mode.TheVariants.{Publish, MarkPublished, Refresh, ReadMap, ReadFresh}
-use Rattle.extents_map.specs.declared.scan.Mix.{Mix}
+use Rattle.extents_map.specs.Mixes.{Mode, Publish, MarkPublished, Refresh, ReadMap, ReadFresh, Mix, mixed, becomes, becomes_in}
 use Rattle.extents_weave_meaning.specs.Kept.{Lasting}
 
 -- a result that 0 does not give is not 0

@@ -4,8 +4,7 @@ use Rattle.extents_meaning.specs.Cells.{Bytes}
 use Rattle.extents_meaning.specs.Runs.{runs_of}
 use Rattle.extents_meaning.specs.Maps.{map_of, map_for, lawful, part_at, with_map, with_part}
 use Rattle.extents_meaning.proofs.Longest.{runs_same}
-use Rattle.extents_map.specs.Mixes.{view_is_target, mix_in}
-use Rattle.extents_map.specs.declared.scan.Mix.{Mix}
+use Rattle.extents_map.specs.Mixes.{Mix, view_is_target, mix_in}
 use Rattle.extents_pair.specs.InPairs.{two_maps_in, view_in, below_in}
 use Rattle.extents_pair.specs.declared.Pair.{Pair}
 use Rattle.extents_pair.proofs.Pairing.{rows_apart, two-told, two-apart}

@@ -9,8 +9,7 @@ use Rattle.extents_meaning.specs.Runs.{run_of, runs_of, Open}
 use Rattle.extents_meaning.specs.Maps.{bytes_of, space_in, map_of, part_at}
 use Rattle.extents_meaning.proofs.Trips.{lawful-map}
 use Rattle.extents_map.specs.Cursors.{ahead, Part, Passing}
-use Rattle.extents_map.specs.Mixes.{becomes, becomes_in}
-use Rattle.extents_map.specs.declared.scan.Mix.{Mix}
+use Rattle.extents_map.specs.Mixes.{Mix, becomes, becomes_in}
 use Rattle.extents_map.proofs.Looking.{passing-on, passing-then, passing-part}
 use Rattle.extents_pair.proofs.Parts.{lent, part_length}
 use Rattle.extents_weave_meaning.specs.Walks.{last, Needed}

@@ -12,8 +12,7 @@ use Rattle.extents_meaning.proofs.Longest.{Fine, runs-mean, runs-back, runs-lawf
 use Rattle.extents_meaning.proofs.Points.{count-starts}
 use Rattle.extents_meaning.proofs.Trips.{Map, lawful-map, map_lawful, map_back}
 use Rattle.extents_map.specs.Cursors.{ahead}
-use Rattle.extents_map.specs.Mixes.{becomes_in}
-use Rattle.extents_map.specs.declared.scan.Mix.{Mix}
+use Rattle.extents_map.specs.Mixes.{Mix, becomes_in}
 use Rattle.extents_pair.proofs.Parts.{lent, part_length}
 use Rattle.extents_weave_meaning.specs.Kept.{Results, held, kept, Lasting}
 use Rattle.extents_weave_meaning.proofs.Kept.{pack_room}

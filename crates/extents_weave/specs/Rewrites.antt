@@ -6,8 +6,7 @@ use Rattle.extents_meaning.specs.Cells.{Bytes}
 use Rattle.extents_meaning.specs.Runs.{Run, runs_of}
 use Rattle.extents_meaning.specs.Maps.{fours, bytes_of, lawful, part_at, with_part}
 use Rattle.extents_map.specs.Cursors.{ahead}
-use Rattle.extents_map.specs.Mixes.{view_is_target, becomes_in}
-use Rattle.extents_map.specs.declared.scan.Mix.{Mix}
+use Rattle.extents_map.specs.Mixes.{Mix, view_is_target, becomes_in}
 use Rattle.extents_pair.specs.declared.Pair.{Pair}
 use Rattle.extents_weave_meaning.specs.Walks.{trimmed}
 use Rattle.extents_weave_meaning.specs.Kept.{Results, result, held, needs, Roomy}

@@ -4,8 +4,7 @@ use Rattle.rows.specs.Limits.{OFFSET_MAX}
 use Rattle.extents_meaning.specs.Maps.{bytes_of}
 use Rattle.extents_meaning.specs.Runs.{Open}
 use Rattle.extents_map.specs.Cursors.{ahead, Passing}
-use Rattle.extents_map.specs.Mixes.{becomes_in}
-use Rattle.extents_map.specs.declared.scan.Mix.{Mix}
+use Rattle.extents_map.specs.Mixes.{Mix, becomes_in}
 use Rattle.extents_weave.specs.declared.Step.{Step}
 
 -- The cell to write, where `to c` is what a cell c of the target becomes and t is the target's: the result, or, of the cell in hand, 0 and t, the

@@ -3,22 +3,22 @@
 // reads them there and writes the result's runs from the front.
 #![tactic(auto)]
 
-ghost use Rattle.std.specs.Prelude.{◌+◌, ◌*◌, ◌/◌, ◌≤◌, max, ◌≡◌, true, length};
+ghost use Rattle.std.specs.Prelude.{◌+◌, ◌*◌, ◌/◌, ◌≤◌, ◌≡◌, true, length};
 ghost use Rattle.extents_meaning.specs.Runs.{runs_of};
 ghost use Rattle.extents_meaning.specs.Maps.{map_for, with_part, with_map};
 ghost use Rattle.extents_map.specs.Cursors.{Part};
-ghost use Rattle.extents_map.specs.Mixes.{makes_map, mix_in, view_is_target as Mixes·viewIsTarget, becomes as Mixes·becomes};
+ghost use Rattle.extents_map.specs.Mixes.{makes_map, mix_in, mix_for, becomes as Mixes·becomes};
 ghost use Rattle.extents_pair.specs.InPairs.{two_maps_in, view_in, below_in, OwnCounted};
 ghost use Rattle.extents_weave.specs.Turns.{Turned, turned_map};
 ghost use Rattle.extents_weave.specs.Steps.{Stepped};
 ghost use Rattle.extents_weave.specs.Rewrites.{Ready, Rewritten, Weavable, woven_in, target_in};
 
+use extents_map::modes::{Mode, Range};
 use extents_map::scan;
-use extents_map::scan::{Mix, Mode};
 use extents_pair::Pair;
 
 // The runs written so far, and a run in hand: from a start to an end, of a cell, none where the cell is 0.
-#[derive(Clone, Copy)]
+#[derive(Clone, Copy, Debug, PartialEq, Eq, Hash)]
 struct Hand {
     written: usize,
     start: u32,
@@ -27,7 +27,7 @@ struct Hand {
 }
 
 // What a walk writes at a byte, whether the byte needs it, the next byte at which that changes, and the runs to go on from.
-#[derive(Clone, Copy)]
+#[derive(Clone, Copy, Debug, PartialEq, Eq, Hash)]
 struct Step {
     cell: u32,
     need: bool,
@@ -37,55 +37,51 @@ struct Step {
 }
 
 // Gives every byte of the view, or of the published map where the mode is Publish, the cell that a mix makes of it, where the result fits.
-pub fn weave(maps: &mut [u32], pair: Pair, mix: Mix)
+pub fn weave<M: Mode>(maps: &mut [u32], pair: Pair, range: Range)
     requires lawful_maps { (two_maps_in pair maps.old ≡ true) × OwnCounted pair maps.old }
-    requires known_mode { (makes_map mix.mode ≡ true) × (mix.start ≤ mix.end) }
-    requires runs_fit { length (runs_of (mix_in mix (view_in pair maps.old) (below_in pair maps.old))) ≤ pair.space }
-    ensures { maps.new ≡ with_map pair.space (target_in mix pair)
-        (map_for pair.space (mix_in mix (view_in pair maps.old) (below_in pair maps.old))) maps.old }
+    requires known_mode { (makes_map M.meaning ≡ true) × (range.start ≤ range.end) }
+    requires runs_fit { length (runs_of (mix_in (mix_for M.meaning range) (view_in pair maps.old) (below_in pair maps.old))) ≤ pair.space }
+    ensures { maps.new ≡ with_map pair.space (target_in (mix_for M.meaning range) pair)
+        (map_for pair.space (mix_in (mix_for M.meaning range) (view_in pair maps.old) (below_in pair maps.old))) maps.old }
 {
-    let mode = mix.mode;
-    let room = extents_pair::room(maps, pair, mode);
-    let space = pair.space;
-    let view = pair.view;
-    let below = pair.below;
-    let size = 4 * space;
-    let v = view * size;
-    let w = below * size;
-    if view_is_target(mode) {
-        weave_map(maps, size, v, w, mix, room);
+    let room = extents_pair::room::<M>(maps, pair);
+    let size = 4 * pair.space;
+    let v = pair.view * size;
+    let w = pair.below * size;
+    if M::WRITES_VIEW {
+        weave_map::<M>(maps, size, v, w, range, room);
     } else {
-        weave_map(maps, size, w, v, mix, room);
+        weave_map::<M>(maps, size, w, v, range, room);
     }
 }
 
 // Gives every byte of the map at t the cell that a mix makes of it, where the result has at most `room` runs.
-fn weave_map(maps: &mut [u32], size: usize, t: usize, o: usize, mix: Mix, room: usize)
-    requires { Weavable size t o mix room maps.old }
-    ensures { maps.new ≡ with_part t size (map_for (size / 4) (woven_in size t o mix maps.old)) maps.old }
+fn weave_map<M: Mode>(maps: &mut [u32], size: usize, t: usize, o: usize, range: Range, room: usize)
+    requires { Weavable size t o (mix_for M.meaning range) room maps.old }
+    ensures { maps.new ≡ with_part t size (map_for (size / 4) (woven_in size t o (mix_for M.meaning range) maps.old)) maps.old }
 {
     let all = extents_map::locate::runs_in(&maps[t..t + size]);
-    let place = larger(all, room);
-    let kept = rewrite(maps, size, t, o, 0, mix, true);
+    let place = all.max(room);
+    let kept = rewrite::<M>(maps, size, t, o, 0, range, true);
     let from = place - kept;
     extents_lay::move_up(&mut maps[t..t + size], 0, kept * 4, from * 4);
-    let n = rewrite(maps, size, t, o, from, mix, false);
+    let n = rewrite::<M>(maps, size, t, o, from, range, false);
     extents_lay::clear_between(&mut maps[t..t + size], n * 4, place * 4);
 }
 
 // Writes runs into the front of the map at t, from its runs from run `from` on and from the map at o: the cells to keep, or the results. The loop
 // reads a run before it writes the run's place.
-fn rewrite(
+fn rewrite<M: Mode>(
     maps: &mut [u32],
     size: usize,
     t: usize,
     o: usize,
     from: usize,
-    mix: Mix,
+    range: Range,
     keep: bool,
 ) -> usize
-    requires { Ready size t o from mix keep maps.old }
-    ensures { Rewritten size t o from mix keep maps.old result maps.new }
+    requires { Ready size t o from (mix_for M.meaning range) keep maps.old }
+    ensures { Rewritten size t o from (mix_for M.meaning range) keep maps.old result maps.new }
 {
     let mut h = Hand {
         written: 0,
@@ -97,12 +93,12 @@ fn rewrite(
     let mut j = 0;
     let mut x = 0;
     while x < rows::OFFSET_MAX {
-        let s = step_at(
+        let s = step_at::<M>(
             &maps[t..t + size],
             i,
             &maps[o..o + size],
             j,
-            mix,
+            range,
             h.cell,
             keep,
             x,
@@ -117,21 +113,21 @@ fn rewrite(
 }
 
 // What a walk writes at byte x: the result, or, of the cell in hand, 0 and the target's cell, the first that gives the result.
-fn step_at(
+fn step_at<M: Mode>(
     map: &[u32],
     i: usize,
     other: &[u32],
     j: usize,
-    mix: Mix,
+    range: Range,
     hand: u32,
     keep: bool,
     x: u32,
 ) -> Step
-    requires { Part map.now i x × Part other.now j x × (mix.start ≤ mix.end) }
-    ensures { Stepped map.now i other.now j mix hand keep x result }
+    requires { Part map.now i x × Part other.now j x × (range.start ≤ range.end) }
+    ensures { Stepped map.now i other.now j (mix_for M.meaning range) hand keep x result }
 {
-    let s = scan::see_both(map, i, other, j, mix, x);
-    let here = becomes(mix, s.inside, s.cell, s.other);
+    let s = scan::see_both(map, i, other, j, range, x);
+    let here = becomes::<M>(s.inside, range.cell, s.cell, s.other);
     if !keep {
         return Step {
             cell: here,
@@ -141,8 +137,8 @@ fn step_at(
             j: s.j,
         };
     }
-    let bare = becomes(mix, s.inside, 0, s.other);
-    if becomes(mix, s.inside, hand, s.other) == here {
+    let bare = becomes::<M>(s.inside, range.cell, 0, s.other);
+    if becomes::<M>(s.inside, range.cell, hand, s.other) == here {
         return Step {
             cell: hand,
             need: bare != here,
@@ -169,27 +165,14 @@ fn step_at(
     }
 }
 
-// The cell that a byte of the target becomes, in the range or not, from its cell and the other map's.
-fn becomes(mix: Mix, inside: bool, cell: u32, other: u32) -> u32
-    ensures { result ≡ Mixes·becomes mix.mode inside mix.cell cell other }
+// The cell that a byte of the target becomes, in the range or not, from the range's cell, its own and the other map's.
+fn becomes<M: Mode>(inside: bool, range_cell: u32, cell: u32, other: u32) -> u32
+    ensures { result ≡ Mixes·becomes M.meaning inside range_cell cell other }
 {
-    let mode = mix.mode;
-    if view_is_target(mode) {
-        return scan::mixed(mix, inside, cell, other);
-    }
-    scan::mixed(mix, inside, other, cell)
-}
-
-// Is the view the map that the mode writes? Publish writes the published map.
-fn view_is_target(mode: Mode) -> bool
-    ensures { result ≡ Mixes·viewIsTarget mode }
-{
-    match mode {
-        Mode::Publish => false,
-        Mode::MarkPublished => true,
-        Mode::Refresh => true,
-        Mode::ReadMap => true,
-        Mode::ReadFresh => true,
+    if M::WRITES_VIEW {
+        M::mixed(inside, range_cell, cell, other)
+    } else {
+        M::mixed(inside, range_cell, other, cell)
     }
 }
 
@@ -229,11 +212,4 @@ fn turn(map: &mut [u32], h: Hand, x: u32, y: u32, cell: u32, need: bool) -> Hand
         end: y,
         cell: cell,
     }
-}
-
-// The larger of two numbers.
-fn larger(a: usize, b: usize) -> usize
-    ensures { result ≡ max a b }
-{
-    if a < b { b } else { a }
 }

@@ -8,8 +8,8 @@ use Rattle.extents_pair.proofs.fits.Goals as goal
 within : {n k limit : ℕ} → n ≤ k → k ≤ limit → true ≡ leb n limit
 within {n} {k} {limit} h l = sym (le-leb n limit (omega arith))
 
-pub returns-then-most_runs-space : goal.returns-then-most_runs-space
+pub returns-then-most_runs-pair : goal.returns-then-most_runs-pair
 unfolding runs_of
-returns-then-most_runs-space c =
+returns-then-most_runs-pair g c =
     let a = c.args in
-    within (c.most_runs.ensures a.start (a.end - a.start) a.cell) c.if-most_runs-space.true
+    within (c.most_runs.ensures a.range.start (a.range.end - a.range.start) a.range.cell) c.if-most_runs-pair.true

@@ -1,5 +1,5 @@
 -- `extents_pair::marked_in` meets its contract.
-use Rattle.std.proofs.Common.{◌+◌, ◌*◌, ◌-◌, ◌≤◌, ◌≡◌, length, drop}
+use Rattle.std.proofs.Common.{◌+◌, ◌*◌, ◌≤◌, ◌≡◌, length, drop}
 use Rattle.extents_meaning.specs.Maps.{runs}
 use Rattle.extents_pair.specs.Marks.{marked}
 use Rattle.extents_pair.proofs.marked_in.Given as goal
@@ -7,6 +7,3 @@ use Rattle.extents_pair.proofs.marked_in.Given as goal
 -- The slice has four numbers for each run, and the unpublished runs are the n found so far and those from run i on.
 abbrev pub invariant-loop-i : goal.invariant-loop-i
 invariant-loop-i l = (4 * l.all ≤ length l.map) × (l.n + length (marked (drop l.i (runs l.map))) ≡ length (marked (runs l.map)))
-
-abbrev pub decreases-loop-i : goal.decreases-loop-i
-decreases-loop-i l = l.all - l.i

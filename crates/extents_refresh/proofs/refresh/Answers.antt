@@ -4,10 +4,10 @@ use Rattle.extents_map.specs.Mixes.{mixed}
 use Rattle.extents_refresh.proofs.Viewing.{view-copied}
 use Rattle.extents_refresh.proofs.refresh.Goals as goal
 
-pub returns-then-own-eq0 : goal.returns-then-own-eq0
-returns-then-own-eq0 c =
+pub returns-then-pair-eq0 : goal.returns-then-pair-eq0
+returns-then-pair-eq0 c =
     let p = c.args.pair in
-    view-copied p.space p.view p.below c.args.maps.now c.requires.lawful_maps.0 c.requires.lawful_maps.1 c.if-own-eq0.true c.copy.ensures
+    view-copied p.space p.view p.below c.args.maps.now c.requires.lawful_maps.0 c.requires.lawful_maps.1 c.if-pair-eq0.true c.copy.ensures
 
 pub weave-requires : goal.weave-requires
 unfolding mixed

@@ -4,19 +4,19 @@ use Rattle.extents_weave.proofs.Walking.{walk_start, walk-parts, walk-place, wal
 use Rattle.extents_weave.proofs.rewrite.Goals as goal
 
 pub loop-x-init : goal.loop-x-init
-loop-x-init c = walk_start c.requires
+loop-x-init g c = walk_start c.requires
 
 pub step_at-s-requires : goal.step_at-s-requires
-step_at-s-requires c = walk-parts c.requires c.loop-x.invariant (omega arith)
+step_at-s-requires g c = walk-parts c.requires c.loop-x.invariant (omega arith)
 
 pub turn-h-requires : goal.turn-h-requires
-turn-h-requires c = (c.loop-x.invariant.walk.low, walk-place c.requires c.loop-x.invariant c.step_at-s.ensures)
+turn-h-requires g c = (c.loop-x.invariant.walk.low, walk-place c.requires c.loop-x.invariant c.step_at-s.ensures)
 
 pub loop-x-preserved : goal.loop-x-preserved
-loop-x-preserved c = walk-next c.requires c.loop-x.invariant c.step_at-s.ensures c.turn-h.ensures.0 c.turn-h.ensures.1
+loop-x-preserved g c = walk-next c.requires c.loop-x.invariant c.step_at-s.ensures c.turn-h.ensures.0 c.turn-h.ensures.1
 
 pub turn-end-requires : goal.turn-end-requires
-turn-end-requires c = (c.loop-x.invariant.walk.low, end-place c.requires c.loop-x.invariant (omega arith))
+turn-end-requires g c = (c.loop-x.invariant.walk.low, end-place c.requires c.loop-x.invariant (omega arith))
 
 pub returns : goal.returns
-returns c = walk_end c.requires c.loop-x.invariant (omega (arith, c.loop-x-test.false)) c.turn-end.ensures.0 c.turn-end.ensures.1
+returns g c = walk_end c.requires c.loop-x.invariant (omega (arith, c.loop-x-test.false)) c.turn-end.ensures.0 c.turn-end.ensures.1

@@ -5,15 +5,15 @@ use Rattle.extents_map.proofs.Counting.{count_most, count-end, further, count_ne
 use Rattle.extents_map.proofs.scan.count.Goals as goal
 
 pub overflow_add-n : goal.overflow_add-n
-overflow_add-n c = omega (arith, count_most c.loop-x.invariant, begins-most c.mixed-here.result c.loop-x.last, c.begins-n.ensures)
+overflow_add-n g c = omega (arith, count_most c.loop-x.invariant, begins-most c.mixed-here.result c.loop-x.last, c.begins-n.ensures)
 
 pub loop-x-smaller : goal.loop-x-smaller
-loop-x-smaller c = omega (arith, further c.loop-x.invariant c.loop-x-test.true (omega arith) c.requires.rising.1 c.see_both-s.ensures c.min-x.ensures)
+loop-x-smaller g c = omega (arith, further c.loop-x.invariant c.loop-x-test.true (omega arith) c.requires.rising.1 c.see_both-s.ensures c.min-x.ensures)
 
 pub loop-x-preserved : goal.loop-x-preserved
-loop-x-preserved c =
+loop-x-preserved g c =
     count_next c.loop-x.invariant c.loop-x-test.true (omega arith) c.requires.rising.1 c.see_both-s.ensures c.min-x.ensures
     c.mixed-here.ensures c.begins-n.ensures
 
 pub returns : goal.returns
-returns c = count-end c.loop-x.invariant c.loop-x-test.false
+returns g c = count-end c.loop-x.invariant c.loop-x-test.false
