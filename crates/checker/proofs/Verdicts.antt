@@ -133,8 +133,8 @@ module _ (text : List ℕ) (header model R P limit : ℕ) (xs us : List ℕ) whe
         held-passes told.0 behind told.2 rows-there P model passed.known-model few room passed.some-processes passed.few-processes below
 
     -- what the verdict answers is told by the verdict of the rows
-    pub answered_lem : {f : Found} → f ≡ found_of (first_no (judge_questions n P model ys (length vs))) ys n model → f ≡ verdict_found (verdict_of told.0 model)
-    answered_lem e =
+    pub found-told : {f : Found} → f ≡ found_of (first_no (judge_questions n P model ys (length vs))) ys n model → f ≡ verdict_found (verdict_of told.0 model)
+    found-told e =
         held_found told.0 behind told.2 rows-there P model passed.known-model few room passed.some-processes passed.few-processes below e
 
     -- the whole call answers and leaves what the verdict answers and leaves
@@ -146,7 +146,7 @@ module _ (text : List ℕ) (header model R P limit : ℕ) (xs us : List ℕ) whe
         let rows = told.0 in
         rw told.1
         (record {
-          answered = judged-found n r (verdict_of rows model) (answered_lem e) ∙ ap (λ (m : ℕ). judged_rows m (verdict_of rows model)) told.2;
+          answered = judged-found n r (verdict_of rows model) (found-told e) ∙ ap (λ (m : ℕ). judged_rows m (verdict_of rows model)) told.2;
           rows_after = l.rows_after ∙ ap (λ (o : Outcome). rows_left o xs) told.1;
           counts_after =
               held-counts rows behind told.2 rows-there P model passed.known-model few room passed.some-processes passed.few-processes below vs f
@@ -154,8 +154,8 @@ module _ (text : List ℕ) (header model R P limit : ℕ) (xs us : List ℕ) whe
         })
 
     -- the verdict on accepted rows is not refused
-    pub judged_lem : (e : Refusal) → told_found (Err e) ≡ found_of (first_no (judge_questions n P model ys (length vs))) ys n model → ⊥
-    judged_lem e f = never_refused (verdict_of told.0 model) (answered_lem f)
+    pub never_err : (e : Refusal) → told_found (Err e) ≡ found_of (first_no (judge_questions n P model ys (length vs))) ys n model → ⊥
+    never_err e f = never_refused (verdict_of told.0 model) (found-told f)
 
     -- the call that lists every race answers and leaves what the list of the rows does
     pub lists : (list : List ℕ) {f : Result ℕ refusal.Refused} {ws after : List ℕ} →

@@ -109,7 +109,8 @@ pub fn report(text: &[u8], out: &mut [u8]) -> usize
     }
 }
 
-// Puts the report of what the program has read: the first n bytes of its input buffer, or all bytes where n is larger.
+// Puts the report of what the program has read: the first n bytes of its input buffer, or all bytes where n is larger. The buffer comes whole, with
+// the count beside it, since the program reads into one of a fixed size.
 pub fn report_input(input: &[u8; INPUT], n: usize, out: &mut [u8]) -> usize
     ensures answer { result ≡ report_length (take n input.now) out.old }
     ensures left { out.new ≡ report_in (take n input.now) out.old }

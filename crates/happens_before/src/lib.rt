@@ -17,7 +17,8 @@ use rows::refusal::Refusal;
 const CHAINS: usize = 4096;
 
 // Fills the counts of the first n rows, each for the processes below the limit, and clears what lies behind them. A refusal changes nothing:
-// 1 for a slice that is too short, 2 for a limit out of its range, 10 for a row whose process is not below the process limit.
+// 1 for a slice that is too short, 2 for a limit out of its range, 10 for a row whose process is not below the process limit. The rows come as a slice
+// and a count, and the counts as numbers side by side, as C lends them.
 pub fn fill_counts(
     rows: &[u32],
     n: u32,
@@ -97,7 +98,8 @@ fn is_chained(kind: u32) -> bool
 }
 
 // A pass over the rows: the row that it has come to, and the tables of the rows before, by which they are found. A table names a row by its index
-// plus one, and 0 stands for none: 16 bits an entry keep the tables small.
+// plus one, and 0 stands for none: 16 bits an entry keep the tables small. The counts are lent to each method: a struct that held them would need a
+// clause in each, that it still lends the same slice.
 #[derive(Drop)]
 struct Pass<'a> {
     rows: &'a [u32],

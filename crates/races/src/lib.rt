@@ -34,7 +34,8 @@ pub struct Race {
 }
 
 // Answers the first race of the first n rows under a model, if they have one, and fills their counts. A refusal changes nothing: 1 for a slice that is
-// too short, 2 for the model or a limit out of its range, 10 for a row whose process is not below the process limit.
+// too short, 2 for the model or a limit out of its range, 10 for a row whose process is not below the process limit. The rows come as a slice and a
+// count, as C lends them.
 pub fn verdict(
     rows: &[u32],
     n: u32,

@@ -1,5 +1,5 @@
 -- `checker::judge` meets its contract.
-use Rattle.checker.proofs.Verdicts.{decides-refused, decides, judged_lem}
+use Rattle.checker.proofs.Verdicts.{decides-refused, decides, never_err}
 use Rattle.checker.proofs.judge.Goals as goal
 
 pub returns-in_err-n : goal.returns-in_err-n
@@ -11,7 +11,7 @@ returns-in_err-n c =
 pub returns-in_err-race : goal.returns-in_err-race
 returns-in_err-race c =
     let a = c.args in
-    absurd (judged_lem a.text.now a.call.header a.call.model a.call.row_limit a.call.process_limit a.call.byte_limit a.rows.now a.counts.now
+    absurd (never_err a.text.now a.call.header a.call.model a.call.row_limit a.call.process_limit a.call.byte_limit a.rows.now a.counts.now
     c.in_ok-n.ensures _ c.in_err-race.ensures.answer)
 
 pub returns : goal.returns
