@@ -1,10 +1,10 @@
 -- What the functions put and count, part by part.
-use Rattle.std.proofs.Common.{ℕ, ◌+◌, ◌≤◌, arith, ◌≡◌, sym, subst, ◌∙◌, Bool, true, false, List, [], ◌∷◌, length}
+use Rattle.std.proofs.Common.{ℕ, ◌+◌, ◌≤◌, arith, ◌≡◌, subst, ◌∙◌, Bool, true, false, List, [], ◌∷◌, length}
 use lib.ListN.{get_or}
 use Rattle.csv_field.specs.FieldGrammar.{COMMA, CRLF}
-use Rattle.print.specs.Decimal.{decimal_of, width_of}
+use Rattle.print.specs.Decimal.{decimal_of}
 use Rattle.print.specs.Puts.{lay, put_in, put_end}
-use Rattle.print.proofs.Laying.{number-length, put-lay}
+use Rattle.print.proofs.Laying.{put-lay}
 use Rattle.print.proofs.Parts.{Laid, put-laid, laid-length, then}
 use Rattle.rows.specs.declared.row.Row.{Row}
 use Rattle.trace_numbers.specs.declared.Used.{Used}
@@ -12,17 +12,6 @@ use Rattle.rows.specs.Kinds.{kind_words}
 use Rattle.trace_fields.specs.Rows.{used_by}
 use Rattle.writer_line.specs.Lines.{number_field, record_of}
 use Rattle.writer_line.proofs.Contents.{comma, record-size, parts_using}
-
--- ---- Lengths of fields
-
--- A used field has as many bytes as its number has digits.
-pub field-used : (n : ℕ) {used : Bool} {width : ℕ} → used ≡ true → width ≡ width_of n → width ≤ 10 →
-    (width ≡ length (number_field used n)) × (width ≤ 10)
-field-used n u e h = (rw u (e ∙ sym (number-length n)), h)
-
--- A field that is not used has no byte.
-pub field-unused : (n : ℕ) {used : Bool} → used ≡ false → (0 ≡ length (number_field used n)) × (0 ≤ 10)
-field-unused n u = (rw u, omega arith)
 
 -- ---- Fields
 

@@ -4,7 +4,7 @@
 ghost use Rattle.std.specs.Prelude.{◌≡◌, [], ◌∷◌, ◌+◌, ◌≤◌, length, get_or};
 ghost use Rattle.csv_field.specs.FieldGrammar.{COMMA};
 ghost use Rattle.print.specs.Puts.{lay, put_in, put_end};
-ghost use Rattle.trace_fields.specs.Rows.{kind_words};
+ghost use Rattle.rows.specs.Kinds.{kind_words};
 ghost use Rattle.writer_line.specs.Lines.{number_field, record_of};
 
 use rows::Row;
@@ -42,8 +42,10 @@ fn word_of(kind: u32) -> &'static [u8]
 }
 
 // Answers how many bytes a number's field has: none where the field is not used.
+#[tactic(auto, using(print::proofs::Laying::number_lengths))]
 fn field_length(n: u32, used: bool) -> usize
-    ensures { (result ≡ length (number_field used n)) × (result ≤ 10) }
+    ensures length { result ≡ length (number_field used n) }
+    ensures few { result ≤ 10 }
 {
     if used { print::width_of(n) } else { 0 }
 }
@@ -61,6 +63,7 @@ pub fn put_record(out: &mut [u8], row: Row) -> usize
 }
 
 // Puts a row's line and its line end as put_record does, and asks for the room that this line takes.
+#[tactic(auto, unfolding(print::specs::Puts::put_in, print::specs::Puts::put_end))]
 fn put_near_end(out: &mut [u8], row: Row) -> usize
     ensures answer { result ≡ put_end out.old 0 (record_of row) }
     ensures left { out.new ≡ put_in out.old 0 (record_of row) }
