@@ -1,23 +1,11 @@
 -- The program's input buffer: the report of a text is the report of the bytes that the buffer holds.
-use Rattle.std.proofs.Common.{ℕ, ◌*◌, ◌≤◌, ◌<◌, arith, ◌≡◌, sym, ap, subst, cond, List, length, take, length-take-le, take_all, lit<}
+use Rattle.std.proofs.Common.{ℕ, ◌*◌, ◌<◌, ◌≡◌, ap, cond, List, take, lit<}
 use lib.Dec.{eqb}
 use Rattle.csv_records.proofs.Cutting.{records-cut}
 use Rattle.models.specs.Models.{POSIX}
 use Rattle.trace.specs.Questions.{call_questions, read_trace, check_trace, refused}
 use Rattle.rows.specs.Questions.{first_no}
-use Rattle.checker.specs.Report.{BYTES, INPUT, REPORT_ROWS, REPORT_PROCESSES, read_by_program, report_length, report_in}
-use Rattle.checker.proofs.Reports.{Front}
-
--- a part of the buffer has as many bytes as were asked for
-pub part_length : (n : ℕ) (input : List ℕ) → n < length input → n ≡ length (take n input)
-part_length n input h = sym (length-take-le n input (omega arith))
-
--- the first n bytes of a buffer with no more bytes are the whole buffer
-pub whole-report : (n : ℕ) (input out out' : List ℕ) (r : ℕ) → length input ≤ n →
-    (r ≡ report_length input out) × ((out' ≡ report_in input out) × Front r out') →
-    (r ≡ report_length (take n input) out) × ((out' ≡ report_in (take n input) out) × Front r out')
-whole-report n input out out' r h p =
-    subst (λ text. (r ≡ report_length text out) × ((out' ≡ report_in text out) × Front r out')) (sym (take_all n input h)) p
+use Rattle.checker.specs.Report.{BYTES, INPUT, REPORT_ROWS, REPORT_PROCESSES, read_by_program}
 
 -- a text has the outcome of its first m bytes where m is more than the byte limit
 checked_cut : (text : List ℕ) (header model rowLimit processLimit byteLimit rowsLength countsLength m : ℕ) → byteLimit < m →

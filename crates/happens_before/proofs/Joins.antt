@@ -6,7 +6,6 @@ use mathlib.Core.Bool.{and-false, or-true, or-false, false≢true}
 use lib.ListN.{get_or, set}
 use lib.Seq.{take-set-le}
 use lib.Dec.{eqb}
-use Rattle.rows.specs.declared.row.Row.{Row}
 use Rattle.rows.specs.Kinds.{SEND, ARRIVAL, BARRIER}
 use Rattle.rows.specs.Rows.{row_here, row_in}
 use Rattle.rows.specs.Counting.{values, last_below}
@@ -64,15 +63,6 @@ module _ (one other : ℕ) (xs : List ℕ) (k t : ℕ) where
         message-in xs t,
       )
 
-module _ (r s : Row) where
-  -- A send and the row at which its message arrives belong together.
-  pub by_send : delivers r s ≡ true → true ≡ pairs r s
-  by_send e = rw e
-
-  -- Of other rows, those of one barrier belong together.
-  pub by_barrier : {b : Bool} → delivers r s ≡ false → b ≡ same_barrier r s → b ≡ pairs r s
-  by_barrier e q = rw e q
-
 -- ---- Values joined with those of the rows that lead to a row
 
 -- Tests, values and starts that agree join to the same value.
@@ -127,10 +117,6 @@ module _ (P : ℕ) (l : List ℕ) (j : ℕ) (fits : j * P + P ≤ length l) wher
       q ∙ ap (λ (y : List ℕ). joined_row P y j k p) e
       ∙ ap₂ max (put-behind (j * P) p l f m) (put-before (j * P) p l f m (k * P + p) (omega (arith, block_before P h))) in
       (λ i. set (e i) (j * P + p) (v i)) ∙ put_next (j * P) p l f m (omega arith)
-
-  -- Where there is a last row, its counts are joined.
-  pub last_some : {last : ℕ} → 0 < last → with_counts P l j (joined_row P l j (last - 1)) ≡ with_counts P l j (joined_last P l j last)
-  last_some {last} h = let e : suc (last - 1) ≡ last = omega arith in λ i. with_counts P l j (joined_last P l j (e i))
 
   -- Where there is no last row, the slice stays.
   pub last_none : {last : ℕ} → last ≤ 0 → l ≡ with_counts P l j (joined_last P l j last)

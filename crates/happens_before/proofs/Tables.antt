@@ -44,10 +44,6 @@ module _ (xs : List ℕ) (j : ℕ) where
     head-found =
         c.heads_hold.last_at (chain_of (get_or xs (t * 6 + 5) 0)) (omega arith) ∙ ap (λ (m : ℕ). last_chained xs (chain_of m) j) (sym (message-in xs t))
 
-    -- That head is at most row j's index.
-    pub head-low : get_or heads (chain_of (get_or xs (t * 6 + 5) 0)) 0 ≤ j
-    head-low = rw head-found (last-most j _)
-
     module _ (P : ℕ) (l : List ℕ) (fits : j * P + P ≤ length l) {x : List ℕ} {next : ℕ} (g : Joining P xs l t j x next) (h : 0 < next) where
       -- The row that comes next is row `next` - 1.
       pub next_row_lem : next ≡ suc (next - 1)

@@ -74,11 +74,6 @@ module _ {n P model : ℕ} {xs counts : List ℕ} (g : Given n P model xs counts
       ap (λ (x : List ℕ). cell_in P x k p) g.counted
       ∙ cell-done P (λ k p. count rows p k) (length rows) k p (drop (n * P) counts) (omega (arith, length-rows n xs)) l
 
-  -- All that a comparison of counts asks for holds.
-  pub asked : {k i j : ℕ} → k < n → i < n → j < n →
-      (get_or xs (k * 6) 0 < P) × (i * P + P ≤ length counts) × (j * P + P ≤ length counts) × (P ≤ PROCESSES)
-  asked h a b = (process-low h, room a, room b, g.few-processes)
-
   -- A comparison of counts in the slice is one of the rows' counts.
   pub compared : {k i j : ℕ} {b : Bool} → k < n → i < n → j < n →
       b ≡ leb (cell_in P counts i (get_or xs (k * 6) 0)) (cell_in P counts j (get_or xs (k * 6) 0)) →
@@ -193,10 +188,6 @@ noting_start rows model y e =
     record { low = omega arith; refreshed = e; many = length-replicate {A = ℕ} PROCESSES 0; held = λ l q. lasts_none (noted_of rows model y (_ - 1)) PROCESSES }
 
 module _ {rows : List Row} {model y refresh : ℕ} {last : List ℕ} {c : ℕ} (k : Noting rows model y refresh last c) where
-  -- The refresh lies within the rows.
-  pub refresh_in : {n : ℕ} → y < n → refresh ≤ n
-  refresh_in h = omega (arith, k.refreshed, refresh_most rows model y)
-
   -- Row c is stored for its process, or is not noted.
   pub noting_next : {after : List ℕ} {b : Bool} {q : ℕ} → c < y → q < PROCESSES → (row_at rows c).process ≡ q →
       (0 < refresh → publishes model WRITE ≡ false → b ≡ noted rows model y (refresh - 1) c) →

@@ -2,7 +2,6 @@
 use Rattle.std.proofs.Common.{Result, Ok, Err, drop_at, ℕ, suc, ◌+◌, ◌*◌, ◌-◌, ◌≤◌, ◌<◌, mul-le-mul, add-one, arith, ◌≡◌, refl, sym, ap, ◌∙◌, Bool, true, false, cond, List, [], ◌∷◌, ◌++◌, length, drop, replicate, leb-true, ltb-true, lt-ltb, le-ltb, le-leb, ne_eqb}
 use lib.ListN.{get_or}
 use lib.Dec.{leb, ltb}
-use borrow.Author.Tests.{lt-leb}
 use Rattle.rows.specs.Limits.{MODELS, ROWS}
 use Rattle.std.specs.Result.{IsErrAnd}
 use Rattle.rows.specs.Refusals.{SHORT_SLICE, LIMITS, LIST_SPACE, number_of, refused_at}
@@ -94,10 +93,6 @@ module _ (pairs : List RowPair) (list : List ℕ) where
   pub room_in : 2 * length pairs ≤ length list → {found : ℕ} {after : List ℕ} → found ≡ length pairs → after ≡ with_pairs 0 pairs list →
       (listed.Pairs found ≡ room_answer pairs (length list)) × (after ≡ room_left pairs list)
   room_in h e w = rw (le-leb (2 * length pairs) (length list) h) (ap listed.Pairs e, w ∙ put_all pairs list h)
-
-  -- Where there is not, the answer is 23 and the list stays.
-  pub room_out : length list < 2 * length pairs → (listed.Refused LIST_SPACE 0 ≡ room_answer pairs (length list)) × (list ≡ room_left pairs list)
-  room_out h = rw (lt-leb (2 * length pairs) (length list) h) (refl, refl)
 
 module _ (n P model : ℕ) (xs : List ℕ) where
   -- The counts of the rows are one for each row and process.
