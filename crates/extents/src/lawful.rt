@@ -10,6 +10,7 @@ ghost use Rattle.extents.specs.LookupAnswers.{told_lookup};
 ghost use Rattle.extents.specs.Entries.{mark_bit, WriteEntry, ListEntry, PublishEntry, RefreshEntry, SyncEntry, WriteThroughEntry, ReadEntry, LookupEntry};
 
 use crate::Stretch;
+use extents_map::locate::LawfulMap;
 use extents_map::modes::{MarkPublished, Publish, Range, ReadMap, Refresh};
 use extents_pair::Pair;
 use rows::refusal::Refusal;
@@ -63,6 +64,7 @@ pub fn list_range(map: &[u32], start: u32, length: u32, out: &mut [u32]) -> Resu
     if rows::OFFSET_MAX - start < length {
         return Err(Refusal::RangeEnd);
     }
+    let map = LawfulMap { numbers: map };
     if lacks(map, start, start + length, out.len() / 3) {
         return Err(Refusal::AnswerSpace);
     }
@@ -72,11 +74,11 @@ pub fn list_range(map: &[u32], start: u32, length: u32, out: &mut [u32]) -> Resu
 
 // Has a range of a map more pieces than there is room for? A range has at most two for each run of the map, and one more: the walk counts them
 // only where the room may lack.
-fn lacks(map: &[u32], from: u32, to: u32, room: usize) -> bool
-    requires { (lawful map.now ≡ true) × (from ≤ to) }
-    ensures { result ≡ ltb room (length (pieces_of (bytes_of map.now) from (to - from))) }
+fn lacks(map: LawfulMap<'_>, from: u32, to: u32, room: usize) -> bool
+    requires { from ≤ to }
+    ensures { result ≡ ltb room (length (pieces_of (bytes_of map.entry.numbers.now) from (to - from))) }
 {
-    if extents_map::locate::runs_in(map) < room / 2 {
+    if map.runs_in() < room / 2 {
         return false;
     }
     room < extents_map::scan::count::<ReadMap>(map, map, Range::NONE, from, to)
@@ -90,7 +92,7 @@ pub fn lookup(map: &[u32], byte: u32) -> Result<Stretch, Refusal>
     if byte == rows::OFFSET_MAX {
         return Err(Refusal::RangeEnd);
     }
-    let from = extents_map::scan::seek(map, byte);
+    let from = LawfulMap { numbers: map }.seek(byte);
     let seen = extents_map::scan::see(map, from, byte);
     Ok(Stretch {
         number: extents_map::scan::number_in(seen.cell),

@@ -10,8 +10,7 @@ ghost use Rattle.extents_map.specs.Cursors.{part_of};
 ghost use Rattle.extents_map.specs.Beside.{end_of, run_before, side_of, Met, Behind, Front, Back};
 ghost use Rattle.rows.specs.Limits.{ROWS};
 
-use extents_map::locate;
-use extents_map::locate::Side;
+use extents_map::locate::{LawfulMap, Side};
 
 // Gives a range a cell, 0 to clear the range, where the new map fits its space. Answers whether the new map fits.
 pub fn lay(map: &mut [u32], start: u32, end: u32, cell: u32) -> bool
@@ -20,11 +19,12 @@ pub fn lay(map: &mut [u32], start: u32, end: u32, cell: u32) -> bool
     ensures answer { result ≡ leb (length (runs_of (overwrite start (end - start) cell (bytes_of map.old)))) (space_in map.old) }
     ensures map_after { map.new ≡ cond result (map_for (space_in map.old) (overwrite start (end - start) cell (bytes_of map.old))) map.old }
 {
-    let all = locate::runs_in(map);
-    let first = first_met(map, all, start, cell);
-    let behind = first_behind(map, all, first, end, cell);
-    let left = left_side(map, all, first, start, cell);
-    let right = right_side(map, first, behind, end, cell);
+    let read = LawfulMap { numbers: &*map };
+    let all = read.runs_in();
+    let first = first_met(read, start, cell);
+    let behind = first_behind(read, all, first, end, cell);
+    let left = left_side(read, all, first, start, cell);
+    let right = right_side(read, first, behind, end, cell);
     let middle = middle_length(left.bound, right.bound, cell);
     let to = first + count_parts(left, middle, right);
     if map.len() / 4 < to + (all - behind) {
@@ -38,32 +38,31 @@ pub fn lay(map: &mut [u32], start: u32, end: u32, cell: u32) -> bool
 }
 
 // The first run that a range from `start` on meets: a run that ends behind the start, or at the start with the range's cell.
-fn first_met(map: &[u32], all: usize, start: u32, cell: u32) -> usize
-    requires { (lawful map.now ≡ true) × (all ≡ length (runs map.now)) }
-    ensures { Met (runs map.now) start cell result }
+fn first_met(map: LawfulMap<'_>, start: u32, cell: u32) -> usize
+    ensures { Met (runs map.entry.numbers.now) start cell result }
 {
-    let i = locate::first_past(map, all, start);
+    let i = map.first_past(start);
     if i == 0 {
         return 0;
     }
     let last = i - 1;
-    if locate::end_at(map, last) == start && locate::cell_at(map, last) == cell {
+    if map.end_at(last) == start && map.cell_at(last) == cell {
         return last;
     }
     i
 }
 
 // The first run from `first` on that a range up to `end` does not meet.
-fn first_behind(map: &[u32], all: usize, first: usize, end: u32, cell: u32) -> usize
-    requires { (lawful map.now ≡ true) × (all ≡ length (runs map.now)) × (first ≤ all) }
-    ensures { Behind (runs map.now) first end cell result }
+fn first_behind(map: LawfulMap<'_>, all: usize, first: usize, end: u32, cell: u32) -> usize
+    requires { (all ≡ length (runs map.numbers.now)) × (first ≤ all) }
+    ensures { Behind (runs map.entry.numbers.now) first end cell result }
 {
     for i in first..all {
-        let start = locate::start_at(map, i);
+        let start = map.start_at(i);
         if end < start {
             return i;
         }
-        if end == start && locate::cell_at(map, i) != cell {
+        if end == start && map.cell_at(i) != cell {
             return i;
         }
     }
@@ -71,9 +70,9 @@ fn first_behind(map: &[u32], all: usize, first: usize, end: u32, cell: u32) -> u
 }
 
 // What stays of the first run met, before the range; a part of the same cell joins the range.
-fn left_side(map: &[u32], all: usize, first: usize, start: u32, cell: u32) -> Side
-    requires { (lawful map.now ≡ true) × (all ≡ length (runs map.now)) × Met (runs map.now) start cell first }
-    ensures { Front (runs map.now) start cell (take first (runs map.now) ++ side_of result) result.bound }
+fn left_side(map: LawfulMap<'_>, all: usize, first: usize, start: u32, cell: u32) -> Side
+    requires { (all ≡ length (runs map.numbers.now)) × Met (runs map.numbers.now) start cell first }
+    ensures { Front (runs map.entry.numbers.now) start cell (take first (runs map.entry.numbers.now) ++ side_of result) result.bound }
 {
     if first == all {
         return Side {
@@ -81,14 +80,14 @@ fn left_side(map: &[u32], all: usize, first: usize, start: u32, cell: u32) -> Si
             ..Side::NONE
         };
     }
-    let from = locate::start_at(map, first);
+    let from = map.start_at(first);
     if start <= from {
         return Side {
             bound: start,
             ..Side::NONE
         };
     }
-    let value = locate::cell_at(map, first);
+    let value = map.cell_at(first);
     if value == cell {
         return Side {
             bound: from,
@@ -104,9 +103,9 @@ fn left_side(map: &[u32], all: usize, first: usize, start: u32, cell: u32) -> Si
 }
 
 // What stays of the last run met, behind the range.
-fn right_side(map: &[u32], first: usize, behind: usize, end: u32, cell: u32) -> Side
-    requires { (lawful map.now ≡ true) × Behind (runs map.now) first end cell behind × (end_of (run_before (runs map.now) first) ≤ end) }
-    ensures { Back (runs map.now) end cell (side_of result ++ drop behind (runs map.now)) result.bound }
+fn right_side(map: LawfulMap<'_>, first: usize, behind: usize, end: u32, cell: u32) -> Side
+    requires { Behind (runs map.numbers.now) first end cell behind × (end_of (run_before (runs map.numbers.now) first) ≤ end) }
+    ensures { Back (runs map.entry.numbers.now) end cell (side_of result ++ drop behind (runs map.entry.numbers.now)) result.bound }
 {
     if behind <= first {
         return Side {
@@ -115,14 +114,14 @@ fn right_side(map: &[u32], first: usize, behind: usize, end: u32, cell: u32) -> 
         };
     }
     let last = behind - 1;
-    let to = locate::end_at(map, last);
+    let to = map.end_at(last);
     if to <= end {
         return Side {
             bound: end,
             ..Side::NONE
         };
     }
-    let value = locate::cell_at(map, last);
+    let value = map.cell_at(last);
     if value == cell {
         return Side {
             bound: to,

@@ -1,5 +1,5 @@
 -- The runs of a map as arrays of four numbers: a binary search over them.
-use Rattle.std.proofs.Common.{ℕ, zero, suc, ◌+◌, ◌*◌, ◌-◌, ◌/◌, ◌≤◌, ◌<◌, arith, ◌≡◌, refl, sym, ap, ◌∙◌, Bool, true, false, true≢false, not, List, [], length, take, drop, get_or-drop, drop-drop, length-take-le, leb-true, leb-false, le-leb, ne_eqb}
+use Rattle.std.proofs.Common.{ℕ, zero, suc, ◌+◌, ◌*◌, ◌-◌, ◌/◌, ◌≤◌, ◌<◌, arith, ◌≡◌, refl, sym, ap, ◌∙◌, Bool, true, false, true≢false, not, ◌&&◌, List, [], length, take, drop, get_or-drop, drop-drop, leb-true, leb-false, le-leb, ne_eqb}
 use lib.Dec.{leb, eqb}
 use lib.ListN.{get_or}
 use native.Mathlib.Decide.{dec_lt}
@@ -89,7 +89,12 @@ module _ (xs : List ℕ) (e : lawful xs ≡ true) where
 
 -- Four numbers are a run that ends at byte x or before.
 abbrev pub is_passed : ℕ → List ℕ → Bool
-is_passed x run = leb (get_or run 0 0 + get_or run 1 0) x
+is_passed x run = has_length run && leb (get_or run 0 0 + get_or run 1 0) x
+
+-- both tests pass, so the first does
+and-first : (a b : Bool) → a && b ≡ true → a ≡ true
+and-first true b e = refl
+and-first false b e = e
 
 -- ends rise
 ends-rise : (rs : List Run) → Rising OFFSET_MAX 0 0 rs → (i k : ℕ) → i + k < length rs → end_of (run_no rs i) ≤ end_of (run_no rs (i + k))
@@ -114,43 +119,50 @@ module _ (xs : List ℕ) (e : lawful xs ≡ true) (x : ℕ) where
       let b = quad_number i 1 xs d (omega arith) (omega arith) in
       omega (arith, a, b, ap (λ (j : ℕ). get_or xs j 0) z, h0.end)
 
-  module _ (all : ℕ) (n : all ≡ length (runs xs)) where
-    -- the arrays that are runs
-    abbrev pub those : List (List ℕ)
-    those = take all (quads xs)
+  -- what the test says of run i
+  passed_there : (i : ℕ) (d : List ℕ) → i < length (runs xs) → is_passed x (get_or (quads xs) i d) ≡ leb (end_of (run_no (runs xs) i)) x
+  passed_there i d h = rw (run_has_length xs e i d h) (ap (λ (n : ℕ). leb n x) (end_there i d h))
 
-    -- They are as many as the runs.
-    pub length_those : all ≡ length those
-    length_those = sym (length-take-le all (quads xs) (omega (arith, length_quads (length xs / 4) xs, (lawful-map xs e).fit)))
+  -- what passes it is a run
+  passed_some : (i : ℕ) (d : List ℕ) → i < length xs / 4 → is_passed x (get_or (quads xs) i d) ≡ true → i < length (runs xs)
+  passed_some i d h t = length_some xs e i d h (and-first _ _ t)
 
-    -- what the test says of one of them
-    passed_there : (i : ℕ) (d : List ℕ) → i < length (runs xs) → is_passed x (get_or those i d) ≡ leb (end_of (run_no (runs xs) i)) x
-    passed_there i d h = ap (is_passed x) (get_or-take all (quads xs) i d (omega arith)) ∙ ap (λ (n : ℕ). leb n x) (end_there i d h)
+  -- Runs that end at the byte or before stand before all else.
+  pub passed_parted : IsPartitionedBy (is_passed x) (quads xs)
+  passed_parted i j d h k t =
+      let n = length_quads (length xs / 4) xs in
+      let l = passed_some j d (omega arith) t in
+      let g = (lawful-map xs e).lawful-runs.in_order in
+      let q : i + (j - i) ≡ j = omega arith in
+      let o : end_of (run_no (runs xs) i) ≤ end_of (run_no (runs xs) j) = rw q at (ends-rise (runs xs) g i (j - i) (omega (arith, l))) in
+      let p = leb-true _ _ (sym (passed_there j d l) ∙ t) in
+      passed_there i d (omega (arith, l)) ∙ le-leb _ x (omega (arith, o, p))
 
-    -- Runs that end at the byte or before stand before those that end behind it.
-    pub passed_parted : IsPartitionedBy (is_passed x) those
-    passed_parted i j d h k t =
-        let w = length_those in
-        let g = (lawful-map xs e).lawful-runs.in_order in
-        let q : i + (j - i) ≡ j = omega arith in
-        let o : end_of (run_no (runs xs) i) ≤ end_of (run_no (runs xs) j) = rw q at (ends-rise (runs xs) g i (j - i) (omega arith)) in
-        let p = leb-true _ _ (sym (passed_there j d (omega arith)) ∙ t) in
-        passed_there i d (omega arith) ∙ le-leb _ x (omega (arith, o, p))
+  module _ (r : ℕ) (h : r ≤ length (quads xs))
+      (p : IsPartitionPoint (λ run. is_passed x run ≡ true) (λ run. is_passed x run ≡ false) (quads xs) r) where
+    -- The first array that does not pass is a run, or the first behind the last run.
+    pub past_within : r ≤ length (runs xs)
+    past_within = go (dec_lt (length (runs xs)) r)
+      where
+        go : Dec (length (runs xs) < r) → r ≤ length (runs xs)
+        go (yes l) =
+            let n = length_quads (length xs / 4) xs in
+            let k = passed_some (length (runs xs)) [] (omega (arith, n)) (p.0 (length (runs xs)) [] (omega arith) l) in absurd (omega (arith, k))
+        go (no l) = omega arith
 
-    module _ (r : ℕ) (h : r ≤ length those)
-        (p : IsPartitionPoint (λ run. is_passed x run ≡ true) (λ run. is_passed x run ≡ false) those r) where
-      -- The run before the first that ends behind the byte ends at the byte or before.
-      pub before-past : end_of (run_before (runs xs) r) ≤ x
-      before-past = go (dec_lt 0 r)
-        where
-          go : Dec (0 < r) → end_of (run_before (runs xs) r) ≤ x
-          go (yes l) =
-              let w = length_those in
-              rw (before_last (runs xs) r l) (leb-true _ x (sym (passed_there (r - 1) [] (omega arith)) ∙ p.0 (r - 1) [] (omega arith) (omega arith)))
-          go (no l) = let z : r ≡ 0 = omega arith in rw z (omega arith)
+    -- The run before the first that ends behind the byte ends at the byte or before.
+    pub before-past : end_of (run_before (runs xs) r) ≤ x
+    before-past = go (dec_lt 0 r)
+      where
+        go : Dec (0 < r) → end_of (run_before (runs xs) r) ≤ x
+        go (yes l) =
+            let w = past_within in
+            rw (before_last (runs xs) r l) (leb-true _ x (sym (passed_there (r - 1) [] (omega arith)) ∙ p.0 (r - 1) [] (omega arith) (omega arith)))
+        go (no l) = let z : r ≡ 0 = omega arith in rw z (omega arith)
 
-      -- The first run that ends behind the byte does.
-      pub at-past : r < length (runs xs) → x < end_of (run_no (runs xs) r)
-      at-past l =
-          let w = length_those in
-          leb-false _ x (sym (passed_there r [] l) ∙ p.1 r [] (omega arith) (omega arith))
+    -- The first run that ends behind the byte does.
+    pub at-past : r < length (runs xs) → x < end_of (run_no (runs xs) r)
+    at-past l =
+        let n = length_quads (length xs / 4) xs in
+        let m = (lawful-map xs e).fit in
+        leb-false _ x (sym (passed_there r [] l) ∙ p.1 r [] (omega arith) (omega (arith, n, m, l)))

@@ -4,6 +4,7 @@ ghost use Rattle.extents_meaning.specs.Runs.{pieces_of};
 ghost use Rattle.extents_meaning.specs.Maps.{bytes_of, lawful, listed_in};
 ghost use Rattle.extents_map.specs.Pieces.{Room, Turned};
 
+use crate::locate::LawfulMap;
 use crate::scan;
 
 // How many pieces are put, and the one in hand, whose bytes from `start` on have the value; none is in hand where the value is 0.
@@ -15,21 +16,21 @@ struct Piece {
 }
 
 // Puts the pieces of a range of a map into a slice that has room for them, and answers their count.
-pub fn list(map: &[u32], from: u32, to: u32, out: &mut [u32]) -> usize
-    requires lawful_map { (lawful map.now ≡ true) × (from ≤ to) }
-    requires list_room { 3 * length (pieces_of (bytes_of map.now) from (to - from)) ≤ length out.old }
-    ensures answer { result ≡ length (pieces_of (bytes_of map.now) from (to - from)) }
-    ensures out_after { out.new ≡ listed_in (pieces_of (bytes_of map.now) from (to - from)) out.old }
+pub fn list(map: LawfulMap<'_>, from: u32, to: u32, out: &mut [u32]) -> usize
+    requires rising { from ≤ to }
+    requires list_room { 3 * length (pieces_of (bytes_of map.numbers.now) from (to - from)) ≤ length out.old }
+    ensures answer { result ≡ length (pieces_of (bytes_of map.entry.numbers.now) from (to - from)) }
+    ensures out_after { out.new ≡ listed_in (pieces_of (bytes_of map.entry.numbers.now) from (to - from)) out.old }
 {
     let mut x = from;
-    let mut i = scan::seek(map, from);
+    let mut i = map.seek(from);
     let mut hand = Piece {
         count: 0,
         start: from,
         value: 0,
     };
     while x < to {
-        let s = scan::see(map, i, x);
+        let s = scan::see(map.numbers, i, x);
         hand = turn(out, hand, x, s.cell / 2 + 1);
         i = s.at;
         x = s.next.min(to);

@@ -1,9 +1,12 @@
 // Places of the runs of a map: how many runs there are, the numbers of one, and the first that ends behind a byte.
-ghost use Rattle.std.specs.Prelude.{◌+◌, ◌*◌, ◌-◌, ◌≤◌, ◌<◌, ◌≡◌, true, length, get_or};
+ghost use Rattle.std.specs.Prelude.{◌+◌, ◌*◌, ◌≤◌, ◌<◌, ◌≡◌, ◌↔◌, true, length, get_or, IsSome, IfSome};
 ghost use Rattle.rows.specs.Limits.{OFFSET_MAX};
 ghost use Rattle.extents_meaning.specs.Cells.{cell_of};
 ghost use Rattle.extents_meaning.specs.Maps.{runs, lawful};
 ghost use Rattle.extents_map.specs.Beside.{end_of, run_no, run_before};
+ghost use Rattle.extents_map.specs.Cursors.{Passing};
+
+use crate::scan;
 
 // The part of a run that stays beside a range: its start, its length, which may be 0, and its cell; and where the range then ends on this side.
 #[derive(Clone, Copy, Debug, PartialEq, Eq, Hash)]
@@ -68,46 +71,77 @@ pub(crate) fn run_at(map: &[u32], i: usize) -> Run
     }
 }
 
-// How many runs a map has.
-pub fn runs_in(map: &[u32]) -> usize
-    requires { lawful map.now ≡ true }
-    ensures { result ≡ length (runs map.now) }
-{
-    let (quads, _) = map.as_chunks::<4>();
-    quads.partition_point(|run| run[1] != 0)
+// A lawful map that is lent to be read.
+#[derive(Clone, Copy)]
+pub struct LawfulMap<'a> {
+    pub numbers: &'a [u32],
+    ghost lawful: { lawful numbers.now ≡ true },
 }
 
-// Where run i starts.
-pub fn start_at(map: &[u32], i: usize) -> u32
-    requires { (lawful map.now ≡ true) × (i < length (runs map.now)) }
-    ensures { result ≡ (run_no (runs map.now) i).start }
-{
-    run_at(map, i).start
-}
+impl<'a> LawfulMap<'a> {
+    // The map that a slice holds, none where it holds no lawful one.
+    pub fn of(numbers: &'a [u32]) -> Option<LawfulMap<'a>>
+        ensures tested { IsSome result ↔ (lawful numbers.now ≡ true) }
+        ensures same { IfSome result (λ map. map.numbers.now ≡ numbers.now) }
+    {
+        if scan::is_lawful(numbers) {
+            Some(LawfulMap { numbers })
+        } else {
+            None
+        }
+    }
 
-// Where run i ends.
-pub fn end_at(map: &[u32], i: usize) -> u32
-    requires { (lawful map.now ≡ true) × (i < length (runs map.now)) }
-    ensures { result ≡ end_of (run_no (runs map.now) i) }
-{
-    run_at(map, i).end()
-}
+    // How many runs the map has.
+    pub fn runs_in(self) -> usize
+        ensures { result ≡ length (runs self.entry.numbers.now) }
+    {
+        let numbers = self.numbers;
+        let (quads, _) = numbers.as_chunks::<4>();
+        quads.partition_point(|run| run[1] != 0)
+    }
 
-// The cell of run i.
-pub fn cell_at(map: &[u32], i: usize) -> u32
-    requires { (lawful map.now ≡ true) × (i < length (runs map.now)) }
-    ensures { result ≡ (run_no (runs map.now) i).cell }
-{
-    run_at(map, i).cell()
-}
+    // Where run i starts.
+    pub fn start_at(self, i: usize) -> u32
+        requires { i < length (runs self.numbers.now) }
+        ensures { result ≡ (run_no (runs self.entry.numbers.now) i).start }
+    {
+        run_at(self.numbers, i).start
+    }
 
-// The first run that ends behind byte x.
-pub fn first_past(map: &[u32], all: usize, x: u32) -> usize
-    requires { (lawful map.now ≡ true) × (all ≡ length (runs map.now)) }
-    ensures within { result ≤ all }
-    ensures passed { end_of (run_before (runs map.now) result) ≤ x }
-    ensures not_passed { result < all → x < end_of (run_no (runs map.now) result) }
-{
-    let (quads, _) = map.as_chunks::<4>();
-    quads[..all].partition_point(|run| u64::from(run[0]) + u64::from(run[1]) <= u64::from(x))
+    // Where run i ends.
+    pub fn end_at(self, i: usize) -> u32
+        requires { i < length (runs self.numbers.now) }
+        ensures { result ≡ end_of (run_no (runs self.entry.numbers.now) i) }
+    {
+        run_at(self.numbers, i).end()
+    }
+
+    // The cell of run i.
+    pub fn cell_at(self, i: usize) -> u32
+        requires { i < length (runs self.numbers.now) }
+        ensures { result ≡ (run_no (runs self.entry.numbers.now) i).cell }
+    {
+        run_at(self.numbers, i).cell()
+    }
+
+    // The first run that ends behind byte x.
+    pub fn first_past(self, x: u32) -> usize
+        ensures within { result ≤ length (runs self.entry.numbers.now) }
+        ensures passed { end_of (run_before (runs self.entry.numbers.now) result) ≤ x }
+        ensures not_passed { result < length (runs self.entry.numbers.now)
+            → x < end_of (run_no (runs self.entry.numbers.now) result) }
+    {
+        let numbers = self.numbers;
+        let (quads, _) = numbers.as_chunks::<4>();
+        quads.partition_point(|run| {
+            run[1] != 0 && u64::from(run[0]) + u64::from(run[1]) <= u64::from(x)
+        })
+    }
+
+    // A run from which `scan::see` may look for byte x: all runs before it end at x or before.
+    pub fn seek(self, x: u32) -> usize
+        ensures { Passing self.entry.numbers.now 0 x result }
+    {
+        self.first_past(x)
+    }
 }

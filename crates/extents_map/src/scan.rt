@@ -7,7 +7,7 @@ ghost use Rattle.extents_map.specs.Mixes.{mix_in, mix_for};
 ghost use Rattle.extents_map.specs.Cursors.{Part, Passing, Looked, edge_of, BothLooked};
 
 use crate::locate;
-use crate::locate::Run;
+use crate::locate::{LawfulMap, Run};
 use crate::modes::{Mode, Range};
 
 // The cell of a byte, the next byte that has another, and the run to go on from: the first that does not end at the byte or before.
@@ -128,15 +128,6 @@ pub fn see(map: &[u32], from: usize, x: u32) -> Look
     }
 }
 
-// A run from which `see` may look for byte x: all runs before it end at x or before.
-pub fn seek(map: &[u32], x: u32) -> usize
-    requires { lawful map.now ≡ true }
-    ensures { Passing map.now 0 x result }
-{
-    let all = locate::runs_in(map);
-    locate::first_past(map, all, x)
-}
-
 // The row number of a cell.
 pub fn number_in(cell: u32) -> u32
     ensures { result ≡ number_in cell }
@@ -180,18 +171,23 @@ pub fn see_both(map: &[u32], i: usize, other: &[u32], j: usize, range: Range, x:
 }
 
 // How many runs a mix of two maps has from one byte to another.
-pub fn count<M: Mode>(map: &[u32], below: &[u32], range: Range, from: u32, to: u32) -> usize
-    requires lawful_map { (lawful map.now ≡ true) × (lawful below.now ≡ true) }
+pub fn count<M: Mode>(
+    map: LawfulMap<'_>,
+    below: LawfulMap<'_>,
+    range: Range,
+    from: u32,
+    to: u32,
+) -> usize
     requires rising { (from ≤ to) × (range.start ≤ range.end) }
-    ensures { result ≡ length (runs_from (to - from) from (mix_in (mix_for M.meaning range) (bytes_of map.now) (bytes_of below.now))) }
+    ensures { result ≡ length (runs_from (to - from) from (mix_in (mix_for M.meaning range) (bytes_of map.entry.numbers.now) (bytes_of below.entry.numbers.now))) }
 {
     let mut x = from;
     let mut n = 0;
     let mut last = 0;
-    let mut i = seek(map, from);
-    let mut j = seek(below, from);
+    let mut i = map.seek(from);
+    let mut j = below.seek(from);
     while x < to {
-        let s = see_both(map, i, below, j, range, x);
+        let s = see_both(map.numbers, i, below.numbers, j, range, x);
         let here = M::mixed(s.inside, range.cell, s.cell, s.other);
         n += begins(here, last);
         last = here;

@@ -11,8 +11,9 @@ ghost use Rattle.extents_pair.specs.InPairs.{two_maps_in, view_in, below_in, Own
 ghost use Rattle.extents_pair.specs.Marks.{marked};
 ghost use Rattle.rows.specs.Limits.{OFFSET_MAX, ROWS};
 
+use extents_map::locate::LawfulMap;
 use extents_map::modes::{Mode, Range, ReadFresh, Refresh};
-use extents_map::{locate, scan};
+use extents_map::scan;
 
 // A view and the published map: two maps of one space by their numbers in a slice, and how many runs of the view are unpublished.
 #[derive(Clone, Copy, Debug, PartialEq, Eq, Hash)]
@@ -71,8 +72,12 @@ fn count<M: Mode>(maps: &[u32], pair: Pair, range: Range, from: u32, to: u32) ->
     requires rising { (from ≤ to) × (range.start ≤ range.end) }
     ensures { result ≡ length (runs_from (to - from) from (mix_in (mix_for M.meaning range) (view_in pair maps.now) (below_in pair maps.now))) }
 {
-    let view = map_at(maps, pair.space, pair.view);
-    let below = map_at(maps, pair.space, pair.below);
+    let view = LawfulMap {
+        numbers: map_at(maps, pair.space, pair.view),
+    };
+    let below = LawfulMap {
+        numbers: map_at(maps, pair.space, pair.below),
+    };
     scan::count::<M>(view, below, range, from, to)
 }
 
@@ -82,7 +87,10 @@ pub fn own_runs(maps: &[u32], space: usize, k: usize) -> usize
     requires lawful_maps { lawful (map_at space k maps.now) ≡ true }
     ensures { result ≡ length (marked (runs (map_at space k maps.now))) }
 {
-    marked_in(map_at(maps, space, k))
+    let map = LawfulMap {
+        numbers: map_at(maps, space, k),
+    };
+    marked_in(map)
 }
 
 // Does a mix of a view, the published map and a range fit a map's space? The walk counts its runs only where the most that there can be are too
@@ -116,9 +124,15 @@ fn most_runs<M: Mode>(maps: &[u32], pair: Pair) -> usize
         (view_in pair maps.now) (below_in pair maps.now))) ≤ result }
 {
     if M::NEEDS_VIEW_ALONE {
-        return locate::runs_in(map_at(maps, pair.space, pair.view)) + 2;
+        let view = LawfulMap {
+            numbers: map_at(maps, pair.space, pair.view),
+        };
+        return view.runs_in() + 2;
     }
-    locate::runs_in(map_at(maps, pair.space, pair.below)) + 2 * pair.own + 2
+    let below = LawfulMap {
+        numbers: map_at(maps, pair.space, pair.below),
+    };
+    below.runs_in() + 2 * pair.own + 2
 }
 
 // Has a range of a view more pieces after a refresh than there is room for? A range has at most two for each run, and one more: the walk counts
@@ -136,14 +150,14 @@ pub fn lacks(maps: &[u32], pair: Pair, from: u32, to: u32, room: usize) -> bool
 }
 
 // How many runs of a map are unpublished.
-fn marked_in(map: &[u32]) -> usize
-    requires { lawful map.now ≡ true }
-    ensures { result ≡ length (marked (runs map.now)) }
+fn marked_in(map: LawfulMap<'_>) -> usize
+    ensures { result ≡ length (marked (runs map.entry.numbers.now)) }
 {
-    let all = locate::runs_in(map);
+    let numbers = map.numbers;
+    let all = map.runs_in();
     let mut n = 0;
     for i in 0..all {
-        n += map[i * 4 + 3] as usize;
+        n += numbers[i * 4 + 3] as usize;
     }
     n
 }
@@ -169,5 +183,8 @@ pub fn list(maps: &[u32], space: usize, k: usize, from: u32, to: u32, out: &mut 
     ensures answer { result ≡ length (pieces_of (bytes_of (map_at space k maps.now)) from (to - from)) }
     ensures out_after { out.new ≡ listed_in (pieces_of (bytes_of (map_at space k maps.now)) from (to - from)) out.old }
 {
-    extents_map::list::list(map_at(maps, space, k), from, to, out)
+    let map = LawfulMap {
+        numbers: map_at(maps, space, k),
+    };
+    extents_map::list::list(map, from, to, out)
 }

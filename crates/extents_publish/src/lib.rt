@@ -13,7 +13,7 @@ ghost use Rattle.extents_map.specs.Mixes.{mix};
 ghost use Rattle.extents_pair.specs.InPairs.{two_maps_in, view_in, below_in, OwnCounted};
 ghost use Rattle.extents_publish.specs.Publishing.{Below, published_in, Taken, Layable};
 
-use extents_map::locate;
+use extents_map::locate::LawfulMap;
 use extents_map::modes::{Publish, Range};
 use extents_pair::Pair;
 
@@ -62,7 +62,10 @@ fn lay_all(maps: &mut [u32], size: usize, v: usize, w: usize, own: usize, range:
     let mut left = own;
     let mut i = 0;
     while 0 < left {
-        let s = own_at(&maps[v..v + size], i);
+        let view = LawfulMap {
+            numbers: &maps[v..v + size],
+        };
+        let s = own_at(view, i);
         if !put(maps, size, w, s.from, s.to, s.cell) {
             return false;
         }
@@ -73,11 +76,11 @@ fn lay_all(maps: &mut [u32], size: usize, v: usize, w: usize, own: usize, range:
 }
 
 // What is laid of run i: nothing where it is published.
-fn own_at(map: &[u32], i: usize) -> Own
-    requires { (lawful map.now ≡ true) × (i < length (runs map.now)) }
-    ensures { Taken (run_no (runs map.now) i) result }
+fn own_at(map: LawfulMap<'_>, i: usize) -> Own
+    requires { i < length (runs map.numbers.now) }
+    ensures { Taken (run_no (runs map.entry.numbers.now) i) result }
 {
-    let cell = locate::cell_at(map, i);
+    let cell = map.cell_at(i);
     if cell % 2 == 0 {
         return Own {
             from: 0,
@@ -87,8 +90,8 @@ fn own_at(map: &[u32], i: usize) -> Own
         };
     }
     Own {
-        from: locate::start_at(map, i),
-        to: locate::end_at(map, i),
+        from: map.start_at(i),
+        to: map.end_at(i),
         cell: cell - 1,
         mark: 1,
     }

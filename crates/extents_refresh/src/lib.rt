@@ -9,7 +9,7 @@ ghost use Rattle.extents_pair.specs.Marks.{marked};
 ghost use Rattle.extents_pair.specs.InPairs.{two_maps_in, view_in, below_in, OwnCounted};
 ghost use Rattle.extents_refresh.specs.Clearing.{Apart, Cleared};
 
-use extents_map::locate;
+use extents_map::locate::LawfulMap;
 use extents_map::modes::{MarkPublished, Range, Refresh};
 use extents_pair::Pair;
 
@@ -54,7 +54,8 @@ fn clear_marks(map: &mut [u32], own: usize) -> usize
         let at = i * 4 + 3;
         let next = i + 1;
         if map[at] == 1 {
-            if meets(map, i) || meets(map, next) {
+            let read = LawfulMap { numbers: &*map };
+            if meets(read, i) || meets(read, next) {
                 return left;
             }
             map[at] = 0;
@@ -66,24 +67,24 @@ fn clear_marks(map: &mut [u32], own: usize) -> usize
 }
 
 // Does run i, if there is one, follow the run before it at once, with the same row?
-fn meets(map: &[u32], i: usize) -> bool
-    requires { lawful map.now ≡ true }
-    ensures { result ≡ false → i < length (runs map.now) → Apart (run_of 0 0 0) (runs map.now) i }
+fn meets(map: LawfulMap<'_>, i: usize) -> bool
+    ensures { result ≡ false → i < length (runs map.entry.numbers.now) → Apart (run_of 0 0 0) (runs map.entry.numbers.now) i }
 {
+    let numbers = map.numbers;
     if i == 0 {
         return false;
     }
-    if map.len() / 4 <= i {
+    if numbers.len() / 4 <= i {
         return false;
     }
-    if map[i * 4 + 1] == 0 {
+    if numbers[i * 4 + 1] == 0 {
         return false;
     }
     let last = i - 1;
-    if locate::end_at(map, last) != locate::start_at(map, i) {
+    if map.end_at(last) != map.start_at(i) {
         return false;
     }
-    locate::cell_at(map, last) / 2 == locate::cell_at(map, i) / 2
+    map.cell_at(last) / 2 == map.cell_at(i) / 2
 }
 
 // Copies map j to the place of map k, as far as one of them has runs.
@@ -95,8 +96,14 @@ pub fn copy(maps: &mut [u32], space: usize, j: usize, k: usize)
     let size = 4 * space;
     let from = j * size;
     let to = k * size;
-    let there = locate::runs_in(&maps[from..from + size]);
-    let here = locate::runs_in(&maps[to..to + size]);
+    let source = LawfulMap {
+        numbers: &maps[from..from + size],
+    };
+    let target = LawfulMap {
+        numbers: &maps[to..to + size],
+    };
+    let there = source.runs_in();
+    let here = target.runs_in();
     let end = there.max(here) * 4;
     let mut i = 0;
     while i < end {

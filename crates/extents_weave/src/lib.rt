@@ -13,6 +13,7 @@ ghost use Rattle.extents_weave.specs.Turns.{Turned, turned_map};
 ghost use Rattle.extents_weave.specs.Steps.{Stepped};
 ghost use Rattle.extents_weave.specs.Rewrites.{Ready, Rewritten, Weavable, woven_in, target_in};
 
+use extents_map::locate::LawfulMap;
 use extents_map::modes::{Mode, Range};
 use extents_map::scan;
 use extents_pair::Pair;
@@ -60,7 +61,10 @@ fn weave_map<M: Mode>(maps: &mut [u32], size: usize, t: usize, o: usize, range: 
     requires { Weavable size t o (mix_for M.meaning range) room maps.old }
     ensures { maps.new ≡ with_part t size (map_for (size / 4) (woven_in size t o (mix_for M.meaning range) maps.old)) maps.old }
 {
-    let all = extents_map::locate::runs_in(&maps[t..t + size]);
+    let target = LawfulMap {
+        numbers: &maps[t..t + size],
+    };
+    let all = target.runs_in();
     let place = all.max(room);
     let kept = rewrite::<M>(maps, size, t, o, 0, range, true);
     let from = place - kept;

@@ -5,4 +5,4 @@ use Rattle.extents_lay.proofs.first_behind.Given as goal
 
 -- The range meets the runs from run `first` to run i.
 abbrev pub invariant-loop-i : goal.invariant-loop-i
-invariant-loop-i l = Reaching (runs l.map) l.first l.end l.i
+invariant-loop-i l = Reaching (runs l.map.numbers.now) l.first l.end l.i

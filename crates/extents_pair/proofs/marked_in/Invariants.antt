@@ -6,4 +6,4 @@ use Rattle.extents_pair.proofs.marked_in.Given as goal
 
 -- The slice has four numbers for each run, and the unpublished runs are the n found so far and those from run i on.
 abbrev pub invariant-loop-i : goal.invariant-loop-i
-invariant-loop-i l = (4 * l.all ≤ length l.map) × (l.n + length (marked (drop l.i (runs l.map))) ≡ length (marked (runs l.map)))
+invariant-loop-i l = (4 * l.all ≤ length l.numbers) × (l.n + length (marked (drop l.i (runs l.numbers))) ≡ length (marked (runs l.numbers)))

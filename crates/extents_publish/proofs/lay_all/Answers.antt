@@ -15,7 +15,10 @@ pub loop-left-init : goal.loop-left-init
 loop-left-init c = lay-start c.requires
 
 pub own_at-s-requires : goal.own_at-s-requires
-own_at-s-requires c = lay-here c.loop-left.i c.loop-left.invariant c.loop-left-test.true
+own_at-s-requires c = (lay-here c.loop-left.i c.loop-left.invariant c.loop-left-test.true).1
+
+pub invariant_of-view : goal.invariant_of-view
+invariant_of-view c = record { lawful = (lay-here c.loop-left.i c.loop-left.invariant c.loop-left-test.true).0 }
 
 pub put-requires : goal.put-requires
 put-requires c = record { part_inside = lay-in c.loop-left.invariant; legal_cell = (turn (goal.at.put-requires c).After-own_at-s).fine }

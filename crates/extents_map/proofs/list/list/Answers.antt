@@ -8,7 +8,7 @@ pub loop-x-init : goal.loop-x-init
 unfolding pieces_of
 loop-x-init c =
     let a = c.args in
-    (list_start (values_of a.map.now) a.from a.to a.out.now c.requires.lawful_map.1 c.requires.list_room, c.seek-i.ensures)
+    (list_start (values_of a.map.numbers.now) a.from a.to a.out.now c.requires.rising c.requires.list_room, c.seek-i.ensures)
 
 pub turn-hand-requires : goal.turn-hand-requires
 turn-hand-requires c = look_room c.loop-x.invariant c.loop-x-test.true (omega arith) c.see-s.ensures
