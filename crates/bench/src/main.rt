@@ -25,10 +25,10 @@
 ghost use Rattle.std.specs.Prelude.{◌≤◌, ◌<◌, length};
 
 use checker::Judged;
-use extents::Answer;
-use machine::Made;
 use machine_state::Machine;
+use races::Race;
 use rows::Row;
+use rows::refusal::{Refusal, Refused};
 use std::io::{self, Write};
 use trace::Call;
 
@@ -77,10 +77,10 @@ fn put_before<W: Write>(out: &mut W, place: usize) -> io::Result<()> {
 fn put_groups<W: Write>(out: &mut W, numbers: &[u32], width: usize) -> io::Result<()>
     requires { 0 < width }
 {
-    for i in 0..numbers.len() {
+    for (i, n) in numbers.iter().enumerate() {
         let place = i % width;
         put_before(out, place)?;
-        put_number(out, numbers[i])?;
+        put_number(out, *n)?;
         if place == width - 1 {
             put(out, b")")?;
         }
@@ -98,66 +98,84 @@ fn put_two<W: Write>(out: &mut W, word: &[u8], n: u32, second: &[u8], m: u32) ->
 }
 
 // Writes what the whole call answers to a text.
-fn put_judged<W: Write>(out: &mut W, judged: Judged) -> io::Result<()> {
-    match judged {
-        Judged::Free(n) => {
-            put_number(out, n)?;
+fn put_judged<W: Write>(out: &mut W, answer: Result<Judged, Refused>) -> io::Result<()> {
+    match answer {
+        Ok(Judged { rows, race: None }) => {
+            put_number(out, rows)?;
             put(out, b" rows: free\n")
         }
-        Judged::Race(n, earlier, later) => {
-            put_number(out, n)?;
+        Ok(
+            Judged {
+                rows,
+                race: Some(Race { earlier, later }),
+            },
+        ) => {
+            put_number(out, rows)?;
             put_two(out, b" rows: race ", earlier, b" ", later)
         }
-        Judged::Refused(number, place) => put_two(out, b"refused ", number, b" at ", place),
+        Err(refused) => put_two(
+            out,
+            b"refused ",
+            refused.refusal.number(),
+            b" at ",
+            refused.place,
+        ),
     }
 }
 
-// Writes what an entry of the map of pieces answers.
-fn put_answer<W: Write>(out: &mut W, answer: Answer) -> io::Result<()> {
+// Writes that there was a refusal, and its number.
+fn put_refusal<W: Write>(out: &mut W, refusal: Refusal) -> io::Result<()> {
+    put(out, b"refused ")?;
+    put_number(out, refusal.number())
+}
+
+// Writes what an entry of the map of pieces answers: how many pieces a list has, or that it was done.
+fn put_answer<W: Write>(out: &mut W, answer: Result<Option<u32>, Refusal>) -> io::Result<()> {
     match answer {
-        Answer::Done => put(out, b"done:"),
-        Answer::Listed(n) => {
+        Ok(None) => put(out, b"done:"),
+        Ok(Some(n)) => {
             put_number(out, n)?;
             put(out, b" pieces:")
         }
-        Answer::Refused(n) => {
-            put(out, b"refused ")?;
-            put_number(out, n)?;
+        Err(refusal) => {
+            put_refusal(out, refusal)?;
             put(out, b":")
         }
     }
 }
 
 // Writes whether a machine or a plain file was made.
-fn put_made<W: Write>(out: &mut W, made: Made) -> io::Result<()> {
+fn put_made<W: Write>(out: &mut W, made: Result<(), Refusal>) -> io::Result<()> {
+    put(out, b" ")?;
     match made {
-        Made::Made => put(out, b" made\n"),
-        Made::Refused(n) => {
-            put(out, b" refused ")?;
-            put_number(out, n)?;
-            put(out, b"\n")
-        }
+        Ok(()) => put(out, b"made")?,
+        Err(refusal) => put_refusal(out, refusal)?,
     }
+    put(out, b"\n")
 }
 
 // As many numbers as are asked for, and at most all.
 fn within(n: usize, numbers: &[u32]) -> usize
     ensures { result ≤ length numbers.now }
 {
-    if n < numbers.len() { n } else { numbers.len() }
+    n.min(numbers.len())
 }
 
 // Writes what a step answers, and the pieces of a read.
-fn put_step<W: Write>(out: &mut W, answer: Answer, pieces: &[u32]) -> io::Result<()> {
+fn put_step<W: Write>(
+    out: &mut W,
+    answer: Result<Option<u32>, Refusal>,
+    pieces: &[u32],
+) -> io::Result<()> {
     match answer {
-        Answer::Done => put(out, b" done"),
-        Answer::Listed(n) => {
+        Ok(None) => put(out, b" done"),
+        Ok(Some(n)) => {
             let end = within(n as usize * PIECE, pieces);
             put_groups(out, &pieces[..end], PIECE)
         }
-        Answer::Refused(n) => {
-            put(out, b" refused ")?;
-            put_number(out, n)
+        Err(refusal) => {
+            put(out, b" ")?;
+            put_refusal(out, refusal)
         }
     }
 }
@@ -175,30 +193,27 @@ fn with_digit(value: u32, here: bool, byte: u8) -> u32 {
 
 // The place behind a byte: a space leads to the next one, up to the last place.
 fn with_space(place: u32, byte: u8) -> u32 {
-    if byte != b' ' {
-        return place;
+    if byte == b' ' && place < LAST_PLACE {
+        place + 1
+    } else {
+        place
     }
-    if LAST_PLACE <= place {
-        return place;
-    }
-    place + 1
 }
 
 // The number at a place of a line, and 0 where there is none. Places count from 1, and a space stands before each number.
 fn number(line: &[u8], place: u32) -> u32 {
     let mut at = 0;
     let mut value = 0;
-    for i in 0..line.len() {
-        let byte = line[i];
-        at = with_space(at, byte);
-        value = with_digit(value, at == place, byte);
+    for byte in line {
+        at = with_space(at, *byte);
+        value = with_digit(value, at == place, *byte);
     }
     value
 }
 
 // The byte at a place of a line, and 0 behind its end.
 fn byte_at(line: &[u8], at: usize) -> u8 {
-    if at < line.len() { line[at] } else { 0 }
+    line.get(at).copied().unwrap_or(0)
 }
 
 // The byte that a byte of the table stands for.
@@ -214,15 +229,10 @@ fn text_byte(byte: u8) -> u8 {
 fn decode(line: &[u8], from: usize, text: &mut [u8]) -> usize
     ensures { result ≤ length text.new }
 {
-    let mut at = from;
-    let mut count = 0;
-    while at < line.len() {
-        if text.len() <= count {
-            return count;
-        }
-        text[count] = text_byte(line[at]);
-        count += 1;
-        at += 1;
+    let source = line.get(from..).unwrap_or(&[]);
+    let count = source.len().min(text.len());
+    for i in 0..count {
+        text[i] = text_byte(source[i]);
     }
     count
 }
@@ -248,8 +258,8 @@ fn run_judge<W: Write>(out: &mut W, line: &[u8]) -> io::Result<()> {
 }
 
 fn store(maps: &mut [u32], at: usize, value: u32) {
-    if at < maps.len() {
-        maps[at] = value;
+    if let Some(here) = maps.get_mut(at) {
+        *here = value;
     }
 }
 
@@ -264,27 +274,27 @@ fn run_set(line: &[u8], maps: &mut [u32]) {
 
 // Writes to the first map, and shows it.
 fn run_write<W: Write>(out: &mut W, line: &[u8], map: &mut [u32]) -> io::Result<()> {
-    put_answer(
-        out,
-        extents::write(
-            map,
-            number(line, 1),
-            number(line, 2),
-            number(line, 3),
-            number(line, 4) == 1,
-        ),
-    )?;
+    let answer = extents::write(
+        map,
+        number(line, 1),
+        number(line, 2),
+        number(line, 3),
+        number(line, 4) == 1,
+    );
+    put_answer(out, answer.map(|()| None))?;
     put_groups(out, map, RUN)?;
     put(out, b"\n")
 }
 
 // Shows the numbers of a listing as they stand in the answer slice, four by four.
-fn put_listed<W: Write>(out: &mut W, answer: Answer, pieces: &[u32]) -> io::Result<()> {
-    put_answer(out, answer)?;
-    match answer {
-        Answer::Listed(_) => put_groups(out, pieces, RUN)?,
-        Answer::Done => {}
-        Answer::Refused(_) => {}
+fn put_listed<W: Write>(
+    out: &mut W,
+    answer: Result<u32, Refusal>,
+    pieces: &[u32],
+) -> io::Result<()> {
+    put_answer(out, answer.map(Some))?;
+    if answer.is_ok() {
+        put_groups(out, pieces, RUN)?;
     }
     put(out, b"\n")
 }
@@ -299,7 +309,7 @@ fn run_list<W: Write>(out: &mut W, line: &[u8], map: &[u32]) -> io::Result<()> {
 }
 
 // What an entry that serves a view and the published map does.
-fn share(line: &[u8], maps: &mut [u32]) -> Answer {
+fn share(line: &[u8], maps: &mut [u32]) -> Result<(), Refusal> {
     let space = number(line, 1) as usize;
     let view = number(line, 2) as usize;
     let below = number(line, 3) as usize;
@@ -331,7 +341,7 @@ fn put_pair<W: Write>(out: &mut W, maps: &[u32]) -> io::Result<()> {
 
 // Publishes, refreshes, syncs or writes through, and shows both maps.
 fn run_share<W: Write>(out: &mut W, line: &[u8], maps: &mut [u32]) -> io::Result<()> {
-    put_answer(out, share(line, maps))?;
+    put_answer(out, share(line, maps).map(|()| None))?;
     put_pair(out, maps)
 }
 
@@ -426,10 +436,7 @@ fn put_words<W: Write>(out: &mut W, line: &[u8], anew: bool) -> io::Result<()> {
     if anew {
         put(out, b"\n")?;
     }
-    if 0 < line.len() {
-        put(out, &line[1..])?;
-    }
-    Ok(())
+    put(out, line.get(1..).unwrap_or(&[]))
 }
 
 // Writes the first runs of the maps.
@@ -458,7 +465,7 @@ fn run_line<W: Write>(
         b'\'' | b'.' => put_words(out, line, kind == b'.'),
         b'j' => run_judge(out, line),
         b'z' => {
-            rows::clear(maps);
+            maps.fill(0);
             Ok(())
         }
         b'u' => {
@@ -471,30 +478,11 @@ fn run_line<W: Write>(
     }
 }
 
-// The place of the next line feed, or the end.
-fn line_end(input: &[u8], from: usize) -> usize
-    requires { from ≤ length input.now }
-    ensures { (from ≤ result) × (result ≤ length input.now) }
-{
-    let mut at = from;
-    while at < input.len() {
-        if input[at] == b'\n' {
-            return at;
-        }
-        at += 1;
-    }
-    at
-}
-
 fn run_lines<W: Write>(out: &mut W, input: &[u8], maps: &mut [u32]) -> io::Result<()> {
     let mut header = Machine::fresh(0, PROCESSES, FILE, 0);
-    let mut at = 0;
-    while at < input.len() {
-        let end = line_end(input, at);
-        let line = &input[at..end];
+    for line in input.split(|byte| *byte == b'\n') {
         header = header_after(line, header);
         run_line(out, line, header, maps)?;
-        at = end + 1;
     }
     Ok(())
 }
