@@ -11,7 +11,7 @@ use Rattle.join_meaning.specs.Joining.{Joining, refused, joined, ask_joined, joi
 use Rattle.join_meaning.proofs.Ahead.{file-rows, file-well_formed}
 use Rattle.join_meaning.proofs.Merging.{rows-length, merged_rows, merged_every}
 use Rattle.join_meaning.proofs.Taking.{join-rows}
-use Rattle.join.specs.declared.Joined.TheVariants.{Accepted, Refused}
+use Rattle.join.specs.Answers.{Accepted, Refused}
 use Rattle.join.specs.Leaving.{joined_of, ReadAs, Holds}
 use Rattle.join.proofs.Whole.{no_told, yes-told}
 
@@ -35,27 +35,23 @@ module _ (o : Joining) (xs xs' ps ps' : List ℕ) {n : ℕ} (e : Accepted n ≡ 
       let many : n ≡ length (rows_of t.0) = t.2 ∙ sym (rows-length t.0) in
       (λ i. rows_in (many i) (held.0 i)) ∙ rows_back (rows_of t.0) (drop (6 * length t.0) xs)
 
-  module _ {p : ℕ} (q : p ≡ barrier_place (rows_in n xs')) where
-    -- The place by the entries.
-    place_is : p ≡ barrier_place (rows_of taken.0)
-    place_is = q ∙ ap barrier_place rows-there
+  -- A No gets 22.
+  pub asked-no : {p : ℕ} → p ≡ barrier_place (rows_in n xs') → 0 < p → (Refused BARRIER_ORDER p 0 ≡ joined_of (ask_joined o)) × Holds (ask_joined o) xs xs' ps ps'
+  unfolding ask_joined
+  asked-no {p} q z =
+      let place_is : p ≡ barrier_place (rows_of taken.0) = q ∙ ap barrier_place rows-there in
+      let no : barrier_place (rows_of taken.0) ≡ 0 → ⊥ = λ y. omega (arith, place_is, y) in
+      let r : ask_joined o ≡ refused BARRIER_ORDER p 0 =
+      ap ask_joined taken.1 ∙ rw (ne_eqb (barrier_place (rows_of taken.0)) 0 no) (ap (λ (k : ℕ). refused BARRIER_ORDER k 0) (sym place_is)) in
+      (sym (ap joined_of r), rw r tt)
 
-    -- A No gets 22.
-    pub asked-no : (p ≡ 0 → ⊥) → (Refused BARRIER_ORDER p 0 ≡ joined_of (ask_joined o)) × Holds (ask_joined o) xs xs' ps ps'
-    unfolding ask_joined
-    asked-no z =
-        let no : barrier_place (rows_of taken.0) ≡ 0 → ⊥ = λ y. z (place_is ∙ y) in
-        let r : ask_joined o ≡ refused BARRIER_ORDER p 0 =
-        ap ask_joined taken.1 ∙ rw (ne_eqb (barrier_place (rows_of taken.0)) 0 no) (ap (λ (k : ℕ). refused BARRIER_ORDER k 0) (sym place_is)) in
-        (sym (ap joined_of r), rw r tt)
-
-    -- A Yes accepts the join.
-    pub asked-yes : p ≡ 0 → (Accepted n ≡ joined_of (ask_joined o)) × Holds (ask_joined o) xs xs' ps ps'
-    unfolding ask_joined
-    asked-yes z =
-        let yes : barrier_place (rows_of taken.0) ≡ 0 = sym place_is ∙ z in
-        let r : ask_joined o ≡ o = ap ask_joined taken.1 ∙ rw (eq-eqb (barrier_place (rows_of taken.0)) 0 yes) (sym taken.1) in
-        (e ∙ sym (ap joined_of r), rw r h)
+  -- A Yes accepts the join.
+  pub asked-yes : barrier_place (rows_in n xs') ≡ 0 → (Accepted n ≡ joined_of (ask_joined o)) × Holds (ask_joined o) xs xs' ps ps'
+  unfolding ask_joined
+  asked-yes z =
+      let none : barrier_place (rows_of taken.0) ≡ 0 = sym (ap barrier_place rows-there) ∙ z in
+      let r : ask_joined o ≡ o = ap ask_joined taken.1 ∙ rw (eq-eqb (barrier_place (rows_of taken.0)) 0 none) (sym taken.1) in
+      (e ∙ sym (ap joined_of r), rw r h)
 
 -- The processes and messages of the joined rows are in range.
 pub joined-fit : (R P h₁ h₂ : ℕ) (first second : List ℕ) → P ≤ PROCESSES → ReadAs h₁ R P first → ReadAs h₂ R P second → (xs xs' ps ps' : List ℕ) {n : ℕ} →

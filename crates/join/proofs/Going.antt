@@ -4,7 +4,9 @@ use lib.Dec.{eqb, ltb}
 use Rattle.rows.specs.declared.row.Row.{Row}
 use Rattle.rows.specs.Limits.{PROCESSES, MESSAGES}
 use Rattle.rows.specs.Questions.{first_no}
-use Rattle.rows.specs.Refusals.{ROW_LIMIT, STUCK}
+use Rattle.rows.specs.declared.refusal.Refusal.{Refusal}
+use Rattle.rows.specs.Refusals.{ROW_LIMIT, STUCK, number_of}
+use Rattle.messages.proofs.Asks.{refusal-number}
 use Rattle.rows.specs.Rows.{row_at, numbers, with_row}
 use Rattle.rows.specs.Tests.{any}
 use Rattle.rows.proofs.Bools.{or_right}
@@ -25,11 +27,11 @@ use Rattle.join_meaning.proofs.Ahead.{file-ahead, file-rows, file-well_formed}
 use Rattle.join_meaning.proofs.Merging.{rows_append, rows-length, merged_every}
 use Rattle.join_meaning.proofs.Taking.{taken-ready}
 use Rattle.join_meaning.proofs.Tests.{held_out}
-use Rattle.join.specs.declared.Joined.TheVariants.{Accepted, Refused}
-use Rattle.join.specs.declared.choosing.Next.{Next}
-use Rattle.join.specs.declared.choosing.Choice.{Choice}
-use Rattle.join.specs.declared.choosing.Turn.{Turn}
-use Rattle.join.specs.declared.choosing.Turn.TheVariants.{Over, Stuck, Take}
+use Rattle.join.specs.Answers.{Accepted, Refused}
+use Rattle.join.specs.Choosing.{Next}
+use Rattle.join.specs.Choosing.{Choice}
+use Rattle.join.specs.Choosing.{Turn}
+use Rattle.join.specs.Choosing.{Over, Stuck, Take}
 use Rattle.join.specs.Choosing.{FIRST, SECOND, next_in, stepped, turn_by, part_named}
 use Rattle.join.specs.Taking.{table_takes, table_taken, three, with_part, part_numbers}
 use Rattle.join.specs.Leaving.{joined_of, Fits, ReadAs, Holds}
@@ -215,6 +217,13 @@ module _ {R P : ℕ} {first second : List ℕ} {both : List Row} {o : Joining} {
     -- A row with a No is refused at its place in the join.
     pub row-refused : (no ≡ 0 → ⊥) → o ≡ refused no (n + 1) 0
     row-refused z = on_row false (ne_eqb no 0 z) ∙ ap (λ (m : ℕ). refused no (m + 1) 0) (sym g.many)
+
+    -- A row with a No is refused by its number.
+    pub row-no : (r : Refusal) → number_of r ≡ no → (Refused (number_of r) (n + 1) 0 ≡ joined_of o) × Holds o xs₀ xs ps₀ ps
+    row-no r is =
+        let low : 1 ≤ number_of r = refusal-number r in
+        let refuses : o ≡ refused (number_of r) (n + 1) 0 = row-refused (λ z. omega (arith, is)) ∙ ap (λ (m : ℕ). refused m (n + 1) 0) (sym is) in
+        refusal xs₀ xs ps₀ ps refuses
 
     -- A row without a No is within the row limit.
     pub room : no ≡ 0 → n < R

@@ -21,7 +21,7 @@ use Rattle.join_meaning.specs.Files.{Entry, part_of, rows_of}
 use Rattle.join_meaning.specs.Joining.{waits}
 use Rattle.join_meaning.proofs.Ahead.{Ahead, at-end, more, ahead-well_formed}
 use Rattle.join_meaning.proofs.Parts.{part-alone}
-use Rattle.join.specs.declared.choosing.Next.{Next}
+use Rattle.join.specs.Choosing.{Next}
 use Rattle.join.specs.Choosing.{no_next, next_row, next_found, next_in, unsent_by, waits_by, ready_by}
 
 -- What stands next in a file is what the chooser reads at a place from which these entries stand ahead.

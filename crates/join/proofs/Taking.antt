@@ -1,33 +1,17 @@
 -- What taking one row answers and stores, case by case.
-use Rattle.std.proofs.Common.{ℕ, ◌+◌, ◌*◌, ◌/◌, ◌<◌, ◌≤◌, add-one, arith, ◌≡◌, refl, sym, ap, ◌∙◌, List, [], ◌∷◌, ◌++◌, append_assoc, length, take, drop, lt-ltb, le-ltb, le-leb}
+use Rattle.std.proofs.Common.{ℕ, ◌+◌, ◌*◌, ◌/◌, ◌<◌, ◌≤◌, add-one, arith, ◌≡◌, refl, sym, ap, ◌∙◌, List, [], ◌∷◌, ◌++◌, append_assoc, length, take, drop, le-leb}
 use native.Mathlib.Numerals.{add-two}
 use lib.ListN.{set}
 use lib.Seq.{sets-eq}
 use borrow.Author.Tests.{lt-leb}
-use Rattle.rows.specs.declared.row.Row.{Row}
-use Rattle.rows.specs.Questions.{first_no}
-use Rattle.rows.specs.Refusals.{ROW_LIMIT}
 use Rattle.rows.proofs.Slices.{block_next}
-use Rattle.messages.specs.Table.{table_questions, table_after}
-use Rattle.join.specs.declared.choosing.Choice.{Choice}
+use Rattle.join.specs.Choosing.{Choice}
 use Rattle.join_meaning.specs.Files.{Entry}
-use Rattle.join.specs.Taking.{table_takes, table_taken, three, with_part, part_numbers}
+use Rattle.join.specs.Taking.{three, with_part, part_numbers}
 
 -- The choice of an entry.
 abbrev pub choice_of : Entry → Choice
 choice_of e = record { file = e.file; start = e.start; end = e.end }
-
-module _ (R n : ℕ) (table : List ℕ) (r : Row) where
-  -- Past the row limit a row gets 6, and the table stays.
-  pub take-over : R ≤ n → (ROW_LIMIT ≡ first_no (table_takes R n table r)) × (table ≡ table_taken R n table r)
-  unfolding table_takes first_no
-  take-over h = (rw (le-ltb n R h), rw (le-ltb n R h))
-
-  -- Within the row limit the table answers and notes.
-  pub take_put : n < R → {no : ℕ} {after : List ℕ} → (no ≡ first_no (table_questions table r)) × (after ≡ table_after table r) →
-      (no ≡ first_no (table_takes R n table r)) × (after ≡ table_taken R n table r)
-  unfolding table_takes first_no
-  take_put h e = (rw (lt-ltb n R h) e.0, rw (lt-ltb n R h) e.1)
 
 module _ (k : ℕ) (c : Choice) (xs : List ℕ) where
   -- A slice without room for the place stays as it is.

@@ -7,10 +7,10 @@ use Rattle.trace.proofs.Laws.{WellFormed}
 use Rattle.join_meaning.specs.Files.{Entry, rows_of}
 use Rattle.join_meaning.specs.Joining.{waits, turn_of}
 use Rattle.join_meaning.specs.Joining as turn
-use Rattle.join.specs.declared.choosing.Next.{Next}
-use Rattle.join.specs.declared.choosing.Choice.{Choice}
-use Rattle.join.specs.declared.choosing.Turn.{Turn}
-use Rattle.join.specs.declared.choosing.Turn.TheVariants.{Over, Stuck, Take}
+use Rattle.join.specs.Choosing.{Next}
+use Rattle.join.specs.Choosing.{Choice}
+use Rattle.join.specs.Choosing.{Turn}
+use Rattle.join.specs.Choosing.{Over, Stuck, Take}
 use Rattle.join.specs.Choosing.{FIRST, SECOND, no_next, next_in, stepped, choice_in, turn_by, part_named}
 use Rattle.join.proofs.Choices.{turn-first, turn-second, stuck-first, stuck-second, turn-over}
 use Rattle.join.proofs.Taking.{choice_of}

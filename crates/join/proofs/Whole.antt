@@ -1,5 +1,5 @@
 -- The whole join: both files by themselves, question 19, and what the call leaves in the lent slices.
-use Rattle.std.proofs.Common.{ℕ, ◌*◌, ◌-◌, ◌≤◌, arith, ◌≡◌, refl, sym, ap, ◌∙◌, Bool, true, false, cond, List, ◌++◌, length, take, drop, replicate, length-append, eq-eqb, ne_eqb, le-leb}
+use Rattle.std.proofs.Common.{ℕ, Result, Ok, ◌*◌, ◌-◌, ◌≤◌, arith, ◌≡◌, refl, sym, ap, ◌∙◌, Bool, true, false, cond, List, ◌++◌, length, take, drop, replicate, length-append, eq-eqb, ne_eqb, le-leb}
 use lib.Dec.{leb}
 use borrow.Author.Tests.{lt-leb}
 use borrow.Rule.Slice.PartMut.{put_mid}
@@ -10,20 +10,18 @@ use Rattle.rows.specs.Refusals.{SHARED_PROCESS}
 use Rattle.rows.specs.Rows.{numbers, rows_in}
 use Rattle.rows.proofs.Slices.{rows_back, length-numbers}
 use Rattle.rows.proofs.Zeros.{cleared-behind}
-use Rattle.trace.specs.declared.Checked.{Checked}
-use Rattle.trace.specs.declared.Checked.TheVariants as checked
 use Rattle.trace.specs.Questions as trace
 use Rattle.trace.proofs.Whole.{accepted-told, refused-told}
 use Rattle.join_meaning.specs.Files.{Entry, rows_of, read_file, entries_of}
 use Rattle.join_meaning.specs.Joining.{Joining, refused, joined, join_entries, shares_process, on_file, join_files, join_traces, join_questions}
 use Rattle.join_meaning.proofs.Ahead.{file-rows, file-well_formed}
 use Rattle.join_meaning.proofs.Merging.{rows-length}
-use Rattle.join_reading.specs.Reading.{check_file, ReadsFile}
+use Rattle.join_reading.specs.Reading.{check_file}
 use Rattle.join_reading.proofs.Asking.{all_asked}
 use Rattle.join_reading.proofs.Laws.{file-passed}
 use Rattle.join.specs.declared.JoinCall.{JoinCall}
-use Rattle.join.specs.declared.Joined.{Joined}
-use Rattle.join.specs.declared.Joined.TheVariants.{Accepted, Refused}
+use Rattle.join.specs.declared.JoinRefused.{JoinRefused}
+use Rattle.join.specs.Answers.{Joined, Accepted, Refused, told_joined}
 use Rattle.barriers.specs.Participants.{Members}
 use Rattle.join.specs.Sharing.{any_flagged}
 use Rattle.join.specs.Taking.{part_numbers}
@@ -40,19 +38,20 @@ module _ {R P x y : ℕ} (f : Fits R P x y) (some-rows : 1 ≤ R) (some-processe
       let fit = f.rows_have_room in
       file-passed text header R P l (sym (all_asked header R P l (omega arith) some-rows f.few-rows some-processes f.few-processes word))
 
-  module _ {answer : Checked} {xs ys : List ℕ} (r : ReadsFile (check_file text header R P l) answer xs ys) where
-    -- A refusal of the file.
-    pub file-refused : {number place : ℕ} → answer ≡ checked.Refused number place → read_file header R P text ≡ trace.refused number place
-    file-refused q = refused-told (read_file header R P text) (sym q ∙ r.answered ∙ ap trace.checked_of file-is)
+  -- A refusal of the file.
+  pub file-refused : {number place : ℕ} → trace.Refused number place ≡ trace.checked_of (check_file text header R P l) →
+      read_file header R P text ≡ trace.refused number place
+  file-refused q = refused-told (read_file header R P text) (q ∙ ap trace.checked_of file-is)
 
-    -- The rows of an accepted file stand in the slice.
-    pub file-accepted : {n : ℕ} → answer ≡ checked.Accepted n →
-        (rows : List Row) × (read_file header R P text ≡ trace.accepted rows) × (rows_in n ys ≡ rows)
-    file-accepted {n} q =
-        let t = accepted-told (read_file header R P text) (sym q ∙ r.answered ∙ ap trace.checked_of file-is) in
-        let left : ys ≡ numbers t.0 ++ replicate (length xs - 6 * length t.0) 0 =
-        r.rows_after ∙ ap (λ (o : trace.Outcome). trace.rows_left o xs) (file-is ∙ t.1) in
-        (t.0, t.1, (λ i. rows_in (t.2 i) (left i)) ∙ rows_back t.0 (replicate (length xs - 6 * length t.0) 0))
+  -- The rows of an accepted file stand in the slice.
+  pub file-accepted : {n : ℕ} → trace.Accepted n ≡ trace.checked_of (check_file text header R P l) → (xs : List ℕ) {ys : List ℕ} →
+      ys ≡ trace.rows_left (check_file text header R P l) xs →
+      (rows : List Row) × (read_file header R P text ≡ trace.accepted rows) × (rows_in n ys ≡ rows)
+  file-accepted {n} q xs {ys} after =
+      let t = accepted-told (read_file header R P text) (q ∙ ap trace.checked_of file-is) in
+      let left : ys ≡ numbers t.0 ++ replicate (length xs - 6 * length t.0) 0 =
+      after ∙ ap (λ (o : trace.Outcome). trace.rows_left o xs) (file-is ∙ t.1) in
+      (t.0, t.1, (λ i. rows_in (t.2 i) (left i)) ∙ rows_back t.0 (replicate (length xs - 6 * length t.0) 0))
 
 -- ---- Both files
 
@@ -136,18 +135,18 @@ module _ (first second : List ℕ) (call : JoinCall) (rowsLength countsLength pa
 
 module _ {o : Joining} (xs us ps : List ℕ) where
   -- A refusal 1 to 3 keeps all slices.
-  pub leaves_all : {k : ℕ} → o ≡ refused k 0 0 → k ≤ 3 → Leaves o (Refused k 0 0) xs xs us us ps ps
-  leaves_all {k} e h =
+  pub leaves_all : {k : ℕ} → o ≡ refused k 0 0 → k ≤ 3 → {answer : Result ℕ JoinRefused} → told_joined answer ≡ Refused k 0 0 → Leaves o answer xs xs us us ps ps
+  leaves_all {k} e h a =
       let kept : (l : List ℕ) → l ≡ cond (leb k 3) l (replicate (length l) 0) = λ l. sym (ap (λ (b : Bool). cond b l (replicate (length l) 0)) (le-leb k 3 h)) in
-      rw e (record { answered = refl; rows_after = kept xs; counts_after = kept us; parts_after = kept ps })
+      rw e (record { answered = a; rows_after = kept xs; counts_after = kept us; parts_after = kept ps })
 
   -- A refusal of 4 or more clears all slices.
   pub leaves_none : {k p f : ℕ} {ys vs qs : List ℕ} → o ≡ refused k p f → 4 ≤ k → ys ≡ replicate (length xs) 0 → vs ≡ replicate (length us) 0 →
-      qs ≡ replicate (length ps) 0 → Leaves o (Refused k p f) xs ys us vs ps qs
-  leaves_none {k} e h r c q =
+      qs ≡ replicate (length ps) 0 → {answer : Result ℕ JoinRefused} → told_joined answer ≡ Refused k p f → Leaves o answer xs ys us vs ps qs
+  leaves_none {k} e h r c q a =
       let clear : (l : List ℕ) → replicate (length l) 0 ≡ cond (leb k 3) l (replicate (length l) 0) =
       λ l. sym (ap (λ (b : Bool). cond b l (replicate (length l) 0)) (lt-leb k 3 h)) in
-      rw e (record { answered = refl; rows_after = r ∙ clear xs; counts_after = c ∙ clear us; parts_after = q ∙ clear ps })
+      rw e (record { answered = a; rows_after = r ∙ clear xs; counts_after = c ∙ clear us; parts_after = q ∙ clear ps })
 
   -- An accepted join leaves its rows and the places of their records.
   module _ {n : ℕ} (ys qs : List ℕ) (t : (es : List Entry) × (o ≡ joined es) × (n ≡ length es)) (h : HeldOver o xs ys ps qs) where
@@ -173,7 +172,7 @@ module _ {o : Joining} (xs us ps : List ℕ) where
     -- The code clears what stands behind them.
     pub leaves-joined : {last vs back : List ℕ} → last ≡ replicate (length (take (length ys - n * 6) (drop (n * 6) ys))) 0 → vs ≡ replicate (length us) 0 →
         back ≡ replicate (length (take (length qs - n * 3) (drop (n * 3) qs))) 0 →
-        Leaves o (Accepted n) xs (put_mid (n * 6) (length ys - n * 6) ys last) us vs ps (put_mid (n * 3) (length qs - n * 3) qs back)
+        Leaves o (Ok n) xs (put_mid (n * 6) (length ys - n * 6) ys last) us vs ps (put_mid (n * 3) (length qs - n * 3) qs back)
     leaves-joined {last} {vs} {back} l c b =
         let p = numbers (rows_of t.0) in
         let q = part_numbers t.0 in

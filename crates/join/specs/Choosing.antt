@@ -6,14 +6,8 @@ use Rattle.rows.specs.Kinds.{ARRIVAL}
 use Rattle.rows.specs.Rows.{no_row}
 use Rattle.messages.specs.Table.{is_sent, entry_for}
 use Rattle.barriers.specs.Tables.{held_by}
-use Rattle.trace_numbers.specs.Numbers.{fields_of}
-use Rattle.trace_numbers.specs.declared.ReadRow.{ReadRow}
-use Rattle.trace_numbers.specs.declared.ReadRow.TheVariants.{Kept, No}
+use Rattle.trace_numbers.specs.Numbers.{fields_of, ReadRow, Kept, No}
 use Rattle.trace_fields.specs.Reads.{judged_fields}
-use Rattle.join.specs.declared.choosing.Next.{Next}
-use Rattle.join.specs.declared.choosing.Choice.{Choice}
-use Rattle.join.specs.declared.choosing.Turn.{Turn}
-use Rattle.join.specs.declared.choosing.Turn.TheVariants.{Over, Stuck, Take}
 
 -- The number of the first file.
 abbrev pub FIRST : ℕ
@@ -24,6 +18,27 @@ abbrev pub SECOND : ℕ
 SECOND = 2
 
 -- ---- What stands next in a file
+
+-- What stands next in a file: whether there is a record, its row, where it starts, where it ends before its line end, and where the record
+-- behind it starts.
+pub record Next : Type 0 where
+  pub some : Bool
+  pub row : Row
+  pub start : ℕ
+  pub end : ℕ
+  pub behind : ℕ
+
+-- The record that comes next: the number of the file that holds it, where it starts there, and where it ends before its line end.
+pub record Choice : Type 0 where
+  pub file : ℕ
+  pub start : ℕ
+  pub end : ℕ
+
+-- What comes next: nothing, since both files are at their end; nothing, since no next row can be taken; or a record.
+pub data Turn : Type 0 where
+  Over : Turn
+  Stuck : Turn
+  Take : Choice → Turn
 
 -- Nothing stands next.
 abbrev pub no_next : Next

@@ -1,20 +1,31 @@
 -- What a join answers, and what it leaves of the lent slices.
-use Rattle.std.specs.Prelude.{ℕ, ◌*◌, ◌-◌, ◌≤◌, ◌≡◌, List, ◌++◌, length, drop, replicate}
+use Rattle.std.specs.Prelude.{ℕ, ◌*◌, ◌-◌, ◌≤◌, ◌≡◌, Result, MatchResult, List, ◌++◌, length, drop, replicate}
 use Rattle.rows.specs.declared.row.Row.{Row}
 use Rattle.rows.specs.Limits.{ROWS, PROCESSES, FIELDS}
 use Rattle.rows.specs.Rows.{numbers}
-use Rattle.trace.specs.Questions.{accepted, refusal_leaves}
+use Rattle.rows.specs.Refusals.{number_of}
+use Rattle.trace.specs.Questions.{Outcome, accepted, refusal_leaves, checked_of}
+use Rattle.trace.specs.Questions.{rows_left as file_left}
+use Rattle.trace.specs.Questions as checked
 use Rattle.join_meaning.specs.Files.{rows_of, read_file}
 use Rattle.join_meaning.specs.Joining.{Joining, refused, joined, PART}
 use Rattle.join.specs.Taking.{part_numbers}
 use Rattle.join.specs.declared.JoinCall.{JoinCall}
-use Rattle.join.specs.declared.Joined.{Joined}
-use Rattle.join.specs.declared.Joined.TheVariants.{Accepted, Refused}
+use Rattle.join.specs.declared.JoinRefused.{JoinRefused}
+use Rattle.join.specs.Answers.{Joined, Accepted, Refused, told_joined}
 
 -- The row count, or the refusal's number, place and file.
 abbrev pub joined_of : Joining → Joined
 joined_of (refused number place file) = Refused number place file
 joined_of (joined es) = Accepted (length es)
+
+-- What reading one of the files by itself answers: its row count, or a refusal's number and place.
+abbrev pub TellsFile : Outcome → Result ℕ JoinRefused → Type 0
+TellsFile o answer = MatchResult answer (λ n. checked.Accepted n ≡ checked_of o) (λ e. checked.Refused (number_of e.refusal) e.place ≡ checked_of o)
+
+-- What it leaves of the slice of rows.
+abbrev pub one_left : Outcome → List ℕ → List ℕ
+one_left o rows = file_left o rows
 
 -- ---- What the joining itself needs and holds
 
@@ -68,8 +79,8 @@ parts_left (refused number place file) xs = refusal_leaves number xs
 parts_left (joined es) xs = part_numbers es ++ replicate (length xs - PART * length es) 0
 
 -- What a join answers, and what it leaves of the slices of rows, of counts and of places.
-pub record Leaves (o : Joining) (answer : Joined) (rows rows' counts counts' parts parts' : List ℕ) : Type 0 where
-  pub answered : answer ≡ joined_of o
+pub record Leaves (o : Joining) (answer : Result ℕ JoinRefused) (rows rows' counts counts' parts parts' : List ℕ) : Type 0 where
+  pub answered : told_joined answer ≡ joined_of o
   pub rows_after : rows' ≡ rows_left o rows
   pub counts_after : counts' ≡ counts_left o counts
   pub parts_after : parts' ≡ parts_left o parts

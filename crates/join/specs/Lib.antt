@@ -1,4 +1,5 @@
 pub mod Choosing
+pub mod Answers
 pub mod Taking
 pub mod Sharing
 pub mod Leaving

@@ -7,7 +7,7 @@ use Rattle.messages.specs.Table.{table_questions, table_after}
 use Rattle.trace.specs.Questions.{in_row_limit}
 use Rattle.join_meaning.specs.Files.{Entry}
 use Rattle.join_meaning.specs.Joining.{PART}
-use Rattle.join.specs.declared.choosing.Choice.{Choice}
+use Rattle.join.specs.Choosing.{Choice}
 
 -- 6 and the questions from 12 on of a row behind n rows, by the table of their messages.
 unfoldable pub table_takes : ℕ → ℕ → List ℕ → Row → List Question

@@ -5,17 +5,20 @@ pub mod choosing;
 mod joining;
 mod sharing;
 
-ghost use Rattle.std.specs.Prelude.{◌≡◌, length, replicate};
+ghost use Rattle.std.specs.Prelude.{◌≡◌, length, None, Some, IfErr};
 ghost use Rattle.rows.specs.Questions.{first_no};
+ghost use Rattle.rows.specs.Refusals.{Asks};
+ghost use Rattle.join.specs.Answers.{told_joined};
 ghost use Rattle.join_meaning.specs.Joining.{join_questions, join_files, join_traces};
-ghost use Rattle.join.specs.Leaving.{joined_of, Passed, HeldOver, Leaves};
+ghost use Rattle.join_reading.specs.Reading.{check_file};
+ghost use Rattle.join.specs.Leaving.{joined_of, Passed, HeldOver, Leaves, TellsFile, one_left};
 
 use barriers::participants;
-use choosing::{FIRST, SECOND};
+use choosing::File;
 use joining::PART;
 use participants::FLAGS;
-use rows::refusal;
-use trace::Checked;
+use rows::refusal::{Refusal, Refused};
+use trace::Call;
 
 // The numbers of a join: the header words of both files, the model, and the limits of rows and processes.
 #[derive(Clone, Copy)]
@@ -27,11 +30,32 @@ pub struct JoinCall {
     pub process_limit: u32,
 }
 
-// The answer to a join: its row count; or the number of the question that was answered No, the place, and the file whose place it is (0 for none).
-#[derive(Clone, Copy)]
-pub enum Joined {
-    Accepted(u32),
-    Refused(u32, u32, u32),
+// A refusal of a join, the place at which it came, 0 for none, and the file whose place it is; without a file it is a place of the join.
+#[derive(Clone, Copy, Debug, PartialEq, Eq, Hash)]
+pub struct JoinRefused {
+    pub refusal: Refusal,
+    pub place: u32,
+    pub file: Option<File>,
+}
+
+impl From<Refusal> for JoinRefused {
+    ghost from_gives = { λ refusal refused. refused ≡ record { refusal = refusal; place = 0; file = None } };
+
+    fn from(refusal: Refusal) -> JoinRefused {
+        JoinRefused::from(refusal.at(0))
+    }
+}
+
+impl From<Refused> for JoinRefused {
+    ghost from_gives = { λ refused joined. joined ≡ record { refusal = refused.refusal; place = refused.place; file = None } };
+
+    fn from(refused: Refused) -> JoinRefused {
+        JoinRefused {
+            refusal: refused.refusal,
+            place: refused.place,
+            file: None,
+        }
+    }
 }
 
 // Joins two files into the lent rows, six numbers each, puts for each row where its record stands into the lent parts, three numbers each (the file, and
@@ -44,66 +68,52 @@ pub fn join_rows<'a>(
     rows: &mut [u32],
     counts: &mut [u16],
     parts: &mut [u64],
-) -> Joined
+) -> Result<u32, JoinRefused>
     ensures { Leaves
         (join_traces first.now second.now call.first_header call.second_header call.model call.row_limit call.process_limit
         (length rows.old) (length counts.old) (length parts.old))
         result rows.old rows.new counts.old counts.new parts.old parts.new }
 {
-    let no = ask_join(call, rows.len(), counts.len(), parts.len());
-    if no != 0 {
-        return Joined::Refused(no, 0, 0);
-    }
-    rows::clear_counts(counts);
+    ask_join(call, rows.len(), counts.len(), parts.len())?;
+    counts.fill(0);
     match join_files(first, second, call, rows, parts) {
-        Joined::Accepted(n) => {
-            let end = n as usize * rows::FIELDS;
-            rows::clear(&mut rows[end..]);
-            let places_end = n as usize * PART;
-            clear_parts(&mut parts[places_end..]);
-            Joined::Accepted(n)
+        Ok(n) => {
+            rows[n as usize * rows::FIELDS..].fill(0);
+            parts[n as usize * PART..].fill(0);
+            Ok(n)
         }
-        Joined::Refused(number, place, file) => {
-            rows::clear(rows);
-            clear_parts(parts);
-            Joined::Refused(number, place, file)
+        Err(refused) => {
+            rows.fill(0);
+            parts.fill(0);
+            Err(refused)
         }
     }
 }
 
-// Puts the questions 1 to 3 to a join: answers the number of the first No, and 0 where there is none.
-fn ask_join(call: JoinCall, rows_len: usize, counts_len: usize, parts_len: usize) -> u32
-    ensures { result ≡ first_no (join_questions call.first_header call.second_header call.model call.row_limit call.process_limit rows_len counts_len parts_len) }
+// Puts the questions 1 to 3 to a join.
+fn ask_join(
+    call: JoinCall,
+    rows_len: usize,
+    counts_len: usize,
+    parts_len: usize,
+) -> Result<(), Refusal>
+    ensures { Asks (first_no (join_questions call.first_header call.second_header call.model call.row_limit call.process_limit rows_len counts_len parts_len)) result }
 {
     if (parts_len as u64) < call.row_limit as u64 * PART as u64 {
-        return refusal::SHORT_SLICE;
+        return Err(Refusal::ShortSlice);
     }
-    let no = trace::ask_call(
-        call.first_header,
-        call.model,
-        call.row_limit,
-        call.process_limit,
-        rows_len,
-        counts_len,
-    );
-    if no != 0 {
-        return no;
-    }
+    let first = Call {
+        header: call.first_header,
+        model: call.model,
+        row_limit: call.row_limit,
+        process_limit: call.process_limit,
+        byte_limit: 0,
+    };
+    trace::ask_call(first, rows_len, counts_len)?;
     if 1 < call.second_header {
-        return refusal::HEADER_WORD;
+        return Err(Refusal::HeaderWord);
     }
-    0
-}
-
-// Fills a slice of parts with 0.
-fn clear_parts(parts: &mut [u64])
-    ensures { parts.new ≡ replicate (length parts.old) 0 }
-{
-    let mut i = 0;
-    while i < parts.len() {
-        parts[i] = 0;
-        i += 1;
-    }
+    Ok(())
 }
 
 // Puts the questions from 4 on: those of the first file, those of the second, 19, and those of the joined rows.
@@ -113,29 +123,40 @@ fn join_files<'a>(
     call: JoinCall,
     rows: &mut [u32],
     parts: &mut [u64],
-) -> Joined
+) -> Result<u32, JoinRefused>
     requires { Passed call (length rows.old) (length parts.old) }
-    ensures answer { result ≡ joined_of (join_files call.first_header call.second_header call.row_limit call.process_limit first.now second.now) }
+    ensures answer { told_joined result ≡ joined_of (join_files call.first_header call.second_header call.row_limit call.process_limit first.now second.now) }
     ensures held { HeldOver (join_files call.first_header call.second_header call.row_limit call.process_limit first.now second.now)
         rows.old rows.new parts.old parts.new }
 {
-    let limit = call.row_limit;
-    let processes = call.process_limit;
-    match join_reading::read_file(first, call.first_header, limit, processes, rows) {
-        Checked::Refused(number, place) => Joined::Refused(number, place, FIRST),
-        Checked::Accepted(n) => {
-            let flags = participants::flag_processes([false; FLAGS], rows, n as usize);
-            match join_reading::read_file(second, call.second_header, limit, processes, rows) {
-                Checked::Refused(number, place) => Joined::Refused(number, place, SECOND),
-                Checked::Accepted(m) => {
-                    if sharing::is_any_flagged(rows, m as usize, flags) {
-                        return Joined::Refused(refusal::SHARED_PROCESS, 0, 0);
-                    }
-                    let both = participants::flag_processes(flags, rows, m as usize);
-                    let processes = participants::count_flags(both);
-                    joining::join_entries(first, second, call, processes, rows, parts)
-                }
-            }
-        }
+    let n = read_one(File::First, first, call.first_header, call, rows)?;
+    let flags = participants::flag_processes([false; FLAGS], rows, n as usize);
+    let m = read_one(File::Second, second, call.second_header, call, rows)?;
+    if sharing::is_any_flagged(rows, m as usize, flags) {
+        return Err(Refusal::SharedProcess.into());
     }
+    let both = participants::flag_processes(flags, rows, m as usize);
+    let processes = participants::count_flags(both);
+    joining::join_entries(first, second, call, processes, rows, parts)
+}
+
+// Reads one of the files by itself. A refusal names the file.
+fn read_one(
+    file: File,
+    text: &[u8],
+    header: u32,
+    call: JoinCall,
+    rows: &mut [u32],
+) -> Result<u32, JoinRefused>
+    ensures answer { TellsFile (check_file text.now header call.row_limit call.process_limit (length rows.old)) result }
+    ensures named { IfErr result (λ refused. refused.file ≡ Some file) }
+    ensures left { rows.new ≡ one_left (check_file text.now header call.row_limit call.process_limit (length rows.old)) rows.old }
+{
+    join_reading::read_file(text, header, call.row_limit, call.process_limit, rows).map_err(
+        |refused| JoinRefused {
+            refusal: refused.refusal,
+            place: refused.place,
+            file: Some(file),
+        },
+    )
 }

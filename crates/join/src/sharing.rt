@@ -7,16 +7,14 @@ use barriers::participants;
 use participants::FLAGS;
 
 // Whether one of the first n rows of a slice is of a flagged process.
+#[tactic(auto, unfolding(rows::specs::Tests::any))]
 pub(crate) fn is_any_flagged(rows: &[u32], n: usize, flags: [bool; FLAGS]) -> bool
     ensures { result ≡ any_flagged flags (rows_in n rows.now) }
 {
-    let mut k = 0;
-    while k < n {
-        let row = rows::row_at(rows, k);
+    for row in rows::first_rows(rows, n) {
         if participants::flag_at(&flags, row.process) {
             return true;
         }
-        k += 1;
     }
     false
 }

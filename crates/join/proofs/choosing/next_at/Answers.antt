@@ -1,22 +1,33 @@
 -- `join::choosing::next_at` meets its contract.
-use Rattle.std.proofs.Common.{sym, ap, ◌∙◌}
+use Rattle.std.proofs.Common.{rules, ◌≡◌, ap, ◌∙◌, length}
+use Rattle.csv_records.specs.Reading.{without, whole_record, End, reading_of, read_at}
 use Rattle.join.specs.Choosing.{next_row}
-use Rattle.join.proofs.Choices.{next-end, next-malformed, next-limit, next-record}
+use Rattle.join.proofs.Choices.{next-none, next-unread, next-record}
 use Rattle.join.proofs.choosing.next_at.Goals as goal
 
-pub returns-in-Kept : goal.returns-in-Kept
+pub returns-in_default : goal.returns-in_default
+returns-in_default c =
+    let a = c.args in
+    let ended : without End ≡ reading_of (read_at a.text.now a.at (length a.text.now)) = search rules in
+    next-none a.process_limit a.text.now a.at ended (λ z. cc)
+
+pub returns-in_default-2 : goal.returns-in_default-2
+returns-in_default-2 c =
+    let a = c.args in
+    next-unread a.process_limit a.text.now a.at c.in_default.field-0 (rw c.in_default.is at c.read_record.ensures)
+
+pub returns-in_default-judge_fields : goal.returns-in_default-judge_fields
 unfolding next_row
-returns-in-Kept c = sym (ap (next_row c.args.at c.read_record-r.result.end c.read_record-r.result.next) c.in-Kept.is) ∙ next-record c.args.process_limit c.args.text.now c.args.at c.read_record-r.ensures c.in-Record.is c.judge_fields.ensures
+returns-in_default-judge_fields c =
+    let a = c.args in
+    let r = c.in-Ok-Some.record in
+    let read : whole_record r.count r.spans r.end r.next ≡ reading_of (read_at a.text.now a.at (length a.text.now)) = search rules in
+    ap (next_row a.at r.end r.next) c.in_default-judge_fields.ensures ∙ next-record a.process_limit a.text.now a.at read
 
-pub returns-in-No : goal.returns-in-No
+pub returns : goal.returns
 unfolding next_row
-returns-in-No c = c.no_next.ensures ∙ sym (ap (next_row c.args.at c.read_record-r.result.end c.read_record-r.result.next) c.in-No.is) ∙ next-record c.args.process_limit c.args.text.now c.args.at c.read_record-r.ensures c.in-Record.is c.judge_fields.ensures
-
-pub returns-in-End : goal.returns-in-End
-returns-in-End c = next-end c.args.process_limit c.args.text.now c.args.at c.read_record-r.ensures c.in-End.is c.no_next-in-End.ensures
-
-pub returns-in-Malformed : goal.returns-in-Malformed
-returns-in-Malformed c = next-malformed c.args.process_limit c.args.text.now c.args.at c.read_record-r.ensures c.in-Malformed.is c.no_next-in-Malformed.ensures
-
-pub returns-in-Limit : goal.returns-in-Limit
-returns-in-Limit c = next-limit c.args.process_limit c.args.text.now c.args.at c.read_record-r.ensures c.in-Limit.is c.no_next-in-Limit.ensures
+returns c =
+    let a = c.args in
+    let r = c.in-Ok-Some.record in
+    let read : whole_record r.count r.spans r.end r.next ≡ reading_of (read_at a.text.now a.at (length a.text.now)) = search rules in
+    ap (next_row a.at r.end r.next) c.in-Ok.ensures ∙ next-record a.process_limit a.text.now a.at read

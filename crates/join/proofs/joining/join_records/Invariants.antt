@@ -1,5 +1,6 @@
 -- `join::joining::join_records` meets its contract.
 use Rattle.std.proofs.Common.{◌-◌, ◌≡◌, length}
+use Rattle.join.specs.Answers.{told_next}
 use Rattle.join.proofs.Going.{Going, outcome, both_of}
 use Rattle.join.proofs.joining.join_records.Given as goal
 
@@ -7,8 +8,10 @@ use Rattle.join.proofs.joining.join_records.Given as goal
 -- them.
 abbrev pub invariant-loop-choice : goal.invariant-loop-choice
 invariant-loop-choice l =
-    Going l.call.row_limit l.call.process_limit l.first l.second (both_of l.call.first_header l.call.second_header l.first l.second) (outcome l.call.row_limit l.call.first_header l.call.second_header l.first l.second) l.initial.rows l.initial.parts l.a l.b l.n l.rows l.parts l.table l.stands l.arrivals l.processes
-    × (length l.rows ≡ length l.initial.rows) × (length l.parts ≡ length l.initial.parts)
+    Going l.call.row_limit l.call.process_limit l.first l.second (both_of l.call.first_header l.call.second_header l.first l.second)
+    (outcome l.call.row_limit l.call.first_header l.call.second_header l.first l.second) l.fn.rows l.fn.parts (told_next l.a) (told_next l.b) l.n l.rows l.parts
+    l.tables.messages.entries l.tables.barriers.stands l.tables.barriers.arrivals l.tables.barriers.processes
+    × (length l.rows ≡ length l.fn.rows) × (length l.parts ≡ length l.fn.parts)
 
 abbrev pub decreases-loop-choice : goal.decreases-loop-choice
 decreases-loop-choice l = l.call.row_limit - l.n

@@ -1,12 +1,12 @@
 -- `join::sharing::is_any_flagged` meets its contract.
-use Rattle.std.proofs.Common.{◌-◌, ◌≤◌, ◌≡◌, false}
+use Rattle.std.proofs.Common.{◌≡◌}
+use Rattle.rows.specs.First.{rest}
 use Rattle.rows.specs.Rows.{rows_in}
 use Rattle.join.specs.Sharing.{any_flagged}
 use Rattle.join.proofs.sharing.is_any_flagged.Given as goal
 
--- None of the first k rows is of a flagged process.
-abbrev pub invariant-loop-k : goal.invariant-loop-k
-invariant-loop-k l = (any_flagged l.flags (rows_in l.k l.rows) ≡ false) × (l.k ≤ l.n)
-
-abbrev pub decreases-loop-k : goal.decreases-loop-k
-decreases-loop-k l = l.n - l.k
+-- One of the rows that are left is of a flagged process where one of all rows is.
+abbrev pub invariant-loop-row : goal.invariant-loop-row
+invariant-loop-row l =
+    (goal.iterator-loop-row).can_next l.row-iterator × (goal.iterator-loop-row).is_finite l.row-iterator
+    × (any_flagged l.flags (rest l.row-iterator) ≡ any_flagged l.flags (rows_in l.fn.n l.fn.rows))
