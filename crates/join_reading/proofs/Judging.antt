@@ -1,13 +1,14 @@
 -- A file of a join is read with nothing asked of a row behind the questions 6 to 11.
-use Rattle.std.proofs.Common.{ℕ, ◌+◌, ◌≡◌, refl, ap, ◌∙◌, cond, List, [], ◌∷◌, ◌++◌, length}
+use Rattle.std.proofs.Common.{ℕ, ◌+◌, ◌*◌, ◌≤◌, ◌≡◌, le-leb, refl, ap, ◌∙◌, cond, List, [], ◌∷◌, ◌++◌, length}
 use lib.Dec.{eqb}
 use Rattle.csv_records.specs.Reading.{Records, Ending, all_read, at-malformed, at-limit}
 use Rattle.rows.specs.declared.row.Row.{Row}
+use Rattle.rows.specs.Limits.{FIELDS, ROWS}
 use Rattle.rows.specs.Questions.{first_no}
 use Rattle.trace.specs.declared.questions.Unasked.{Unasked}
 use Rattle.trace.specs.Rows.{row_of}
 use Rattle.trace.specs.Questions.{record_questions, Outcome, refused}
-use Rattle.trace.specs.Reader.{judge_asked, behind_header, read_by}
+use Rattle.trace.specs.Reader.{judge_asked, behind_header, read_by, read_asked}
 use Rattle.trace.specs.Asked.{nothing_asked, nothing_noted}
 use Rattle.join_meaning.specs.Files.{file_rows, file_header, file_records}
 
@@ -35,3 +36,9 @@ module _ (R P : ℕ) (none : Unasked) where
       headers [] at-malformed = refl
       headers [] at-limit = refl
       headers (fields ∷ rest) ending = refl
+
+-- Where the slice has room for as many rows as the limit says, and the limit is within its range, nothing else is asked of them.
+pub roomy : (judge : List (List (List ℕ)) → Ending → Outcome) (header R rowsLength : ℕ) (r : Records) → FIELDS * R ≤ rowsLength → R ≤ ROWS →
+    read_asked judge header R rowsLength r ≡ read_by judge header r
+unfolding read_asked first_no
+roomy judge header R rowsLength r room few = rw (le-leb (FIELDS * R) rowsLength room, le-leb R ROWS few) refl

@@ -1,11 +1,12 @@
 -- Reading the rows of a text, whatever is asked of a row behind the questions 6 to 11. What is asked has a state: `asked` gives the number of
 -- the first No to a row, 0 where there is none, and `noted` the state behind a row that passed.
-use Rattle.std.specs.Prelude.{ℕ, suc, ◌+◌, cond, List, [], ◌∷◌, ◌++◌, length, eqb, Option, Some, None, Result, Ok, Err}
+use Rattle.std.specs.Prelude.{ℕ, suc, ◌+◌, ◌*◌, cond, leb, List, [], ◌∷◌, ◌++◌, length, eqb, Option, Some, None, Result, Ok, Err}
 use Rattle.csv_records.specs.Reading.{Finding, nothing, malformed, past-limit, found, records_from, Records, Ending, all_read, at-malformed, at-limit}
 use Rattle.rows.specs.declared.row.Row.{Row}
 use Rattle.rows.specs.declared.refusal.Refusal.{Refusal}
-use Rattle.rows.specs.Questions.{first_no}
-use Rattle.rows.specs.Refusals.{MALFORMED, HEADER, ROW_LIMIT, number_of}
+use Rattle.rows.specs.Limits.{FIELDS, ROWS}
+use Rattle.rows.specs.Questions.{Question, first_no}
+use Rattle.rows.specs.Refusals.{SHORT_SLICE, LIMITS, MALFORMED, HEADER, ROW_LIMIT, number_of}
 use Rattle.trace.specs.declared.reading.NextRow.{NextRow}
 use Rattle.trace.specs.Rows.{row_of}
 use Rattle.trace.specs.Questions.{record_questions, is_header, Outcome, refused, accepted}
@@ -41,6 +42,17 @@ behind_header judge (fields ∷ rest) ending = cond (is_header fields) (judge re
 -- the outcome of records under a header word: the rows start behind a header unless the word is 0
 unfoldable pub read_by : (List (List (List ℕ)) → Ending → Outcome) → ℕ → Records → Outcome
 read_by judge header r = cond (eqb header 0) (judge r.rows r.ending) (behind_header judge r.rows r.ending)
+
+-- 1. has the slice six numbers for as many rows as the limit says? 2. is that limit within its range?
+abbrev pub room_questions : ℕ → ℕ → List Question
+room_questions rowLimit rowsLength =
+    record { number = SHORT_SLICE; yes = leb (FIELDS * rowLimit) rowsLength } ∷ (record { number = LIMITS; yes = leb rowLimit ROWS } ∷ [])
+
+-- the outcome of records under a header word, of a slice and a row limit that are asked first
+unfoldable pub read_asked : (List (List (List ℕ)) → Ending → Outcome) → ℕ → ℕ → ℕ → Records → Outcome
+read_asked judge header rowLimit rowsLength r =
+    let first = first_no (room_questions rowLimit rowsLength) in
+    cond (eqb first 0) (read_by judge header r) (refused first 0)
 
 -- ---- The parts of the reading
 

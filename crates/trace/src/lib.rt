@@ -109,7 +109,7 @@ fn read_records(text: &[u8], call: Call, rows: &mut [u32]) -> Result<u32, Refuse
     ensures held { Holds (read_records call.header call.row_limit call.process_limit (records text.now call.byte_limit)) rows.old rows.new }
 {
     let mut table = MessageTable::new();
-    reading::read_text(text, call, &mut table, rows)
+    reading::read_header_and_rows(text, call, &mut table, rows)
 }
 
 // Whether the record has the six names of the header in order: question 5.

@@ -1,17 +1,18 @@
 // Reads the header and the rows of a text into a slice of six numbers for each row, and puts the questions from 4 on to them: those up to 11,
 // and what is asked of a row behind them.
-ghost use Rattle.std.specs.Prelude.{◌≡◌, ◌*◌, ◌≤◌, [], length, IfOk, IfSome, MatchResult};
+ghost use Rattle.std.specs.Prelude.{◌≡◌, ◌≢◌, ◌*◌, ◌≤◌, [], length, IfOk, IfSome, MatchResult};
 ghost use Rattle.csv_records.specs.Reading.{read_at, records};
 ghost use Rattle.rows.specs.Limits.{ROWS, FIELDS};
+ghost use Rattle.rows.specs.Questions.{first_no};
 ghost use Rattle.rows.specs.Refusals.{Asks, refused_at};
 ghost use Rattle.trace.specs.Questions.{told, checked_of, Holds};
-ghost use Rattle.trace.specs.Reader.{judge_asked, rows_asked, read_by, header_no, rows_start, told_step, step_of};
+ghost use Rattle.trace.specs.Reader.{judge_asked, rows_asked, read_by, read_asked, room_questions, header_no, rows_start, told_step, step_of};
 
 use crate::questions::RowQuestions;
 use crate::{Call, is_header, judge_record};
 use csv_records::Unread;
-use rows::Row;
 use rows::refusal::{Refusal, Refused};
+use rows::{FIELDS, ROWS, Row};
 
 // A row, and where the record behind it starts.
 #[derive(Clone, Copy, Debug, PartialEq, Eq, Hash)]
@@ -20,8 +21,30 @@ struct NextRow {
     next: usize,
 }
 
-// Reads a text under a header word: the rows stand behind a header unless the word is 0.
+// Reads a text under a header word into the lent rows, six numbers each: the rows stand behind a header unless the word is 0. Of the questions 1 to 3
+// it asks whether the slice has room for as many rows as the limit says, and whether that limit is within its range; their refusals keep the slice.
+#[tactic(auto, unfolding(crate::specs::Reader::read_asked, rows::specs::Questions::first_no))]
 pub fn read_text<Q: RowQuestions>(
+    text: &[u8],
+    call: Call,
+    questions: &mut Q,
+    rows: &mut [u32],
+) -> Result<u32, Refused>
+    ensures answer { told result ≡ checked_of (read_asked (judge_asked Q.asked Q.noted call.row_limit call.process_limit questions.old []) call.header call.row_limit (length rows.old) (records text.now call.byte_limit)) }
+    ensures held { Holds (read_asked (judge_asked Q.asked Q.noted call.row_limit call.process_limit questions.old []) call.header call.row_limit (length rows.old) (records text.now call.byte_limit)) rows.old rows.new }
+    ensures kept { first_no (room_questions call.row_limit (length rows.old)) ≢ 0 → rows.new ≡ rows.old }
+{
+    if rows.len() / FIELDS < call.row_limit as usize {
+        return Err(Refusal::ShortSlice.into());
+    }
+    if ROWS < call.row_limit {
+        return Err(Refusal::Limits.into());
+    }
+    read_header_and_rows(text, call, questions, rows)
+}
+
+// Reads a text under a header word into rows that have room for it.
+pub(crate) fn read_header_and_rows<Q: RowQuestions>(
     text: &[u8],
     call: Call,
     questions: &mut Q,

@@ -1,10 +1,10 @@
--- `trace::reading::read_text` meets its contract.
+-- `trace::reading::read_header_and_rows` meets its contract.
 use Rattle.std.proofs.Common.{arith, []}
 use Rattle.std.proofs.lemmas.Result.{err_from_is_err_and}
 use Rattle.trace.specs.Reader.{judge_asked, rows_asked}
 use Rattle.trace.proofs.Refusing.{number_some}
 use Rattle.trace.proofs.Turns.{header-refused, header-passed, refusal}
-use Rattle.trace.proofs.reading.read_text.Goals as goal
+use Rattle.trace.proofs.reading.read_header_and_rows.Goals as goal
 
 pub returns-in_err-start-clause-answer : goal.returns-in_err-start-clause-answer
 returns-in_err-start-clause-answer g c =
