@@ -9,9 +9,7 @@ use Rattle.join_meaning.specs.Joining.{Joining, refused, joined, join_traces}
 use Rattle.join_meaning.proofs.Accepted.{accepted-allowed, accepted-sound}
 use Rattle.join_meaning.proofs.Merging.{rows-length}
 use Rattle.join_meaning.proofs.Refusals.{Bounded, refusal-bounded}
-use Rattle.join_checker.specs.declared.JudgedJoin.{JudgedJoin}
-use Rattle.join_checker.specs.declared.JudgedJoin.TheVariants.{Free, Race, Refused}
-use Rattle.join_checker.specs.Judging.{judged_rows, judged_of}
+use Rattle.join_checker.specs.Judging.{JudgedJoin, Free, Race, Refused, judged_rows, judged_of}
 
 -- At most 4,096 rows, the rows of a race among them, and the bounds of a refusal.
 abbrev pub Small : JudgedJoin → Type 0

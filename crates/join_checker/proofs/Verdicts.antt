@@ -1,5 +1,5 @@
 -- The whole call: an accepted join passes the questions of the verdict, and the verdict's answer is the call's.
-use Rattle.std.proofs.Common.{ℕ, ◌*◌, ◌-◌, ◌≤◌, ◌<◌, arith, mul-le-mul_right, ◌≡◌, refl, sym, ap, ◌∙◌, List, ◌++◌, length, replicate}
+use Rattle.std.proofs.Common.{Option, None, Some, Result, Ok, Err, ℕ, ◌*◌, ◌-◌, ◌≤◌, ◌<◌, arith, mul-le-mul_right, ◌≡◌, refl, sym, ap, ◌∙◌, List, ◌++◌, length, replicate}
 use lib.ListN.{length-replicate}
 use Rattle.rows.specs.Limits.{ROWS}
 use Rattle.rows.specs.Questions.{first_no}
@@ -9,33 +9,31 @@ use Rattle.trace.proofs.Sounds.{sound_row}
 use Rattle.happens_before.specs.Order.{counts_of}
 use Rattle.happens_before.specs.Filling.{filled_left}
 use Rattle.races_meaning.specs.Races.{Verdict, free, racing, verdict_of}
-use Rattle.races.specs.declared.Found.{Found}
-use Rattle.races.specs.declared.Found.TheVariants as found
-use Rattle.races.specs.Answers.{judge_questions, verdict_found, found_of}
+use Rattle.std.specs.Result.{IsErrAnd}
+use Rattle.rows.specs.Refusals.{number_of}
+use Rattle.rows.specs.declared.refusal.Refusal.{Refusal}
+use Rattle.races.specs.declared.Race as race
+use Rattle.races.specs.Answers.{Found, told_found, judge_questions, verdict_found, found_of}
 use Rattle.races.proofs.Held.{held_found, held-counts}
 use Rattle.join_meaning.specs.Files.{Entry, rows_of}
-use Rattle.join_meaning.specs.Joining.{Joining, joined, join_traces}
+use Rattle.join_meaning.specs.Joining.{Joining, refused, joined, join_traces}
 use Rattle.join_meaning.proofs.Accepted.{Allowed, accepted-allowed, accepted-sound}
 use Rattle.join_meaning.proofs.Merging.{rows-length}
 use Rattle.join.specs.declared.JoinCall.{JoinCall}
-use Rattle.join.specs.declared.Joined.{Joined}
-use Rattle.join.specs.declared.Joined.TheVariants as join
+use Rattle.join.specs.Answers.{told_file}
+use Rattle.join.specs.declared.JoinRefused.{JoinRefused}
 use Rattle.join.specs.Leaving.{rows_left, counts_left, parts_left, Leaves}
 use Rattle.join.proofs.Whole.{no_told, yes-told}
-use Rattle.join_checker.specs.declared.JudgedJoin.{JudgedJoin}
-use Rattle.join_checker.specs.declared.JudgedJoin.TheVariants.{Free, Race, Refused}
-use Rattle.join_checker.specs.Judging.{judged_rows, Decides}
+use Rattle.checker.specs.declared.Judged.{Judged}
+use Rattle.checker.proofs.Verdicts.{never_refused}
+use Rattle.join_checker.specs.Judging.{Refused, told_rows, judged_rows, Decides}
 
--- The answer of the whole call, by the answer of the verdict and the row count.
-abbrev pub judged_as : ℕ → Found → JudgedJoin
-judged_as n found.Free = Free n
-judged_as n (found.Race earlier later) = Race n earlier later
-judged_as n (found.Refused k) = Refused k 0 0
-
--- The answer of the whole call, by the verdict.
-judged-found : (n : ℕ) (v : Verdict) → judged_as n (verdict_found v) ≡ judged_rows n v
-judged-found n free = refl
-judged-found n (racing earlier later) = refl
+-- The first race with a row count says what the verdict says.
+judged-found : (n : ℕ) (r : Option race.Race) (v : Verdict) → told_found (Ok r) ≡ verdict_found v → told_rows n r ≡ judged_rows n v
+judged-found n None free e = refl
+judged-found n None (racing earlier later) e = let z : ◌≡◌ {A = ℕ} 0 1 = cc in absurd (omega arith)
+judged-found n (Some r) free e = let z : ◌≡◌ {A = ℕ} 0 1 = cc in absurd (omega arith)
+judged-found n (Some r) (racing earlier later) e = cc
 
 module _ (first second : List ℕ) (call : JoinCall) (xs us ps : List ℕ) where
   -- The outcome of the join.
@@ -43,23 +41,28 @@ module _ (first second : List ℕ) (call : JoinCall) (xs us ps : List ℕ) where
   outcome =
       join_traces first second call.first_header call.second_header call.model call.row_limit call.process_limit (length xs) (length us) (length ps)
 
-  -- The whole call answers a refusal of the join.
-  pub decides-refused : {a : Joined} {ys vs qs : List ℕ} {k p f : ℕ} → Leaves outcome a xs ys us vs ps qs → a ≡ join.Refused k p f →
-      Decides call.model call.process_limit outcome (Refused k p f) xs ys us vs ps qs
-  decides-refused l q =
-      let e = no_told outcome (sym q ∙ l.answered) in
-      rw e
-      (record {
-        answered = refl;
-        rows_after = l.rows_after ∙ ap (λ (o : Joining). rows_left o xs) e;
-        counts_after = l.counts_after ∙ ap (λ (o : Joining). counts_left o us) e;
-        parts_after = l.parts_after ∙ ap (λ (o : Joining). parts_left o ps) e;
-      })
+  module _ {e : JoinRefused} {ys vs qs : List ℕ} (l : Leaves outcome (Err e) xs ys us vs ps qs) where
+    -- The outcome is this refusal.
+    no_join : outcome ≡ refused (number_of e.refusal) e.place (told_file e.file)
+    no_join = no_told outcome l.answered
 
-  module _ {a : Joined} {ys vs qs : List ℕ} {n : ℕ} (l : Leaves outcome a xs ys us vs ps qs) (q : a ≡ join.Accepted n) where
+    -- The whole call answers a refusal of the join.
+    pub decides-refused : (answer : Result Judged JoinRefused) → IsErrAnd answer (λ r. r ≡ e) →
+        Decides call.model call.process_limit outcome answer xs ys us vs ps qs
+    decides-refused (Ok j) q = absurd q
+    decides-refused (Err r) q =
+        rw no_join
+        (record {
+          answered = ap (λ (r : JoinRefused). Refused (number_of r.refusal) r.place (told_file r.file)) q;
+          rows_after = l.rows_after ∙ ap (λ (o : Joining). rows_left o xs) no_join;
+          counts_after = l.counts_after ∙ ap (λ (o : Joining). counts_left o us) no_join;
+          parts_after = l.parts_after ∙ ap (λ (o : Joining). parts_left o ps) no_join;
+        })
+
+  module _ {ys vs qs : List ℕ} {n : ℕ} (l : Leaves outcome (Ok n) xs ys us vs ps qs) where
     -- The joined entries.
     told : (es : List Entry) × (outcome ≡ joined es) × (n ≡ length es)
-    told = yes-told outcome (sym q ∙ l.answered)
+    told = yes-told outcome l.answered
 
     -- What stands behind the joined rows.
     behind : List ℕ
@@ -105,24 +108,32 @@ module _ (first second : List ℕ) (call : JoinCall) (xs us ps : List ℕ) where
         let p = passed.one-trace in
         omega (arith, mul-le-mul_right call.process_limit in_limit, p.counts-fit, counts-length)
 
+    -- What the verdict answers is told by the verdict of the rows.
+    found-told : {f : Found} → f ≡ found_of (first_no (judge_questions n call.process_limit call.model ys (length vs))) ys n call.model →
+        f ≡ verdict_found (verdict_of (rows_of told.0) call.model)
+    found-told e =
+        let p = passed.one-trace in
+        held_found (rows_of told.0) behind many rows-there call.process_limit call.model p.known-model few room p.some-processes p.few-processes below e
+
     -- The whole call answers and leaves what the verdict answers and leaves.
-    pub decides : {f g : Found} {ws : List ℕ} →
-        (f ≡ found_of (first_no (judge_questions n call.process_limit call.model ys (length vs))) ys n call.model)
-        × (ws ≡ filled_left (first_no (judge_questions n call.process_limit call.model ys (length vs))) n call.process_limit ys vs) →
-        f ≡ g →
-        Decides call.model call.process_limit outcome (judged_as n g) xs ys us ws ps qs
-    decides {f} {g} {ws} e h =
+    pub decides : (r : Option race.Race) {ws : List ℕ} →
+        told_found (Ok r) ≡ found_of (first_no (judge_questions n call.process_limit call.model ys (length vs))) ys n call.model →
+        ws ≡ filled_left (first_no (judge_questions n call.process_limit call.model ys (length vs))) n call.process_limit ys vs →
+        Decides call.model call.process_limit outcome (Ok (record { rows = n; race = r })) xs ys us ws ps qs
+    decides r {ws} e f =
         let rows = rows_of told.0 in
         let p = passed.one-trace in
-        let answer : g ≡ verdict_found (verdict_of rows call.model) =
-        sym h
-        ∙ held_found rows behind many rows-there call.process_limit call.model p.known-model few room p.some-processes p.few-processes below e.0 in
         rw told.1
         (record {
-          answered = (λ i. judged_as (told.2 i) (answer i)) ∙ judged-found (length told.0) (verdict_of rows call.model);
+          answered =
+              judged-found n r (verdict_of rows call.model) (found-told e) ∙ ap (λ (m : ℕ). judged_rows m (verdict_of rows call.model)) told.2;
           rows_after = l.rows_after ∙ ap (λ (o : Joining). rows_left o xs) told.1;
           counts_after =
-              held-counts rows behind many rows-there call.process_limit call.model p.known-model few room p.some-processes p.few-processes below vs e.1
+              held-counts rows behind many rows-there call.process_limit call.model p.known-model few room p.some-processes p.few-processes below vs f
               ∙ (λ i. counts_of call.process_limit rows ++ replicate (counts-length i - rows-length told.0 i * call.process_limit) 0);
           parts_after = l.parts_after ∙ ap (λ (o : Joining). parts_left o ps) told.1;
         })
+
+    -- The verdict on joined rows is not refused.
+    pub never_err : (e : Refusal) → told_found (Err e) ≡ found_of (first_no (judge_questions n call.process_limit call.model ys (length vs))) ys n call.model → ⊥
+    never_err e f = never_refused (verdict_of (rows_of told.0) call.model) (found-told f)

@@ -1,18 +1,18 @@
 -- `join_checker::judge_join` meets its contract.
-use Rattle.join_checker.proofs.Verdicts.{decides}
+use Rattle.join_checker.proofs.Verdicts.{decides-refused, decides, never_err}
 use Rattle.join_checker.proofs.judge_join.Goals as goal
 
-pub returns-in-Free : goal.returns-in-Free
-returns-in-Free c =
+pub returns-in_err-n : goal.returns-in_err-n
+returns-in_err-n c =
     let a = c.args in
-    decides a.first.now a.second.now a.call a.rows.now a.counts.now a.parts.now c.join_rows.ensures c.in-Accepted.is (c.verdict.ensures.answer, c.verdict.ensures.left) c.in-Free.is
+    decides-refused a.first.now a.second.now a.call a.rows.now a.counts.now a.parts.now c.in_err-n.ensures _ c.from_residual.ensures.1
 
-pub returns-in-Race : goal.returns-in-Race
-returns-in-Race c =
+pub returns-in_err-race : goal.returns-in_err-race
+returns-in_err-race c =
     let a = c.args in
-    decides a.first.now a.second.now a.call a.rows.now a.counts.now a.parts.now c.join_rows.ensures c.in-Accepted.is (c.verdict.ensures.answer, c.verdict.ensures.left) c.in-Race.is
+    absurd (never_err a.first.now a.second.now a.call a.rows.now a.counts.now a.parts.now c.in_ok-n.ensures _ c.in_err-race.ensures.answer)
 
-pub returns-in-Refused-verdict : goal.returns-in-Refused-verdict
-returns-in-Refused-verdict c =
+pub returns : goal.returns
+returns c =
     let a = c.args in
-    decides a.first.now a.second.now a.call a.rows.now a.counts.now a.parts.now c.join_rows.ensures c.in-Accepted.is (c.verdict.ensures.answer, c.verdict.ensures.left) c.in-Refused-verdict.is
+    decides a.first.now a.second.now a.call a.rows.now a.counts.now a.parts.now c.in_ok-n.ensures c.in_ok-race.race c.in_ok-race.ensures.answer c.in_ok-race.ensures.left
