@@ -1,31 +1,13 @@
 -- The content of a field and its comparison.
-use Rattle.std.proofs.Common.{ℕ, zero, suc, ◌+◌, ◌-◌, ◌≤◌, ◌<◌, add-one, arith, ◌≡◌, refl, sym, ap, ap₂, ◌∙◌, ◌↔◌, Bool, true, false, cond, ◌&&◌, List, [], ◌∷◌, length, take, drop, drop_of_length-le, length-drop, drop-cons, take_all, take-take, eq-eqb, ne_eqb, eqb-true}
-use native.Mathlib.Nat.{add-sub_cancel_left}
+use Rattle.std.proofs.Common.{ℕ, zero, suc, ◌+◌, ◌≤◌, ◌<◌, add-one, arith, ◌≡◌, refl, sym, ap, ap₂, ◌∙◌, ◌↔◌, Bool, true, false, cond, ◌&&◌, List, [], ◌∷◌, length, take, drop, drop_of_length-le, drop-cons, take-take, eq-eqb, ne_eqb, eqb-true}
 use native.Mathlib.Decide.{dec_lt}
 use mathlib.Core.Bool.{false≢true}
 use lib.ListN.{get_or}
-use lib.Seq.{take-nil}
 use lib.Dec.{eqb, eqb-suc-zero}
+use lib.Pointwise.{pointwise}
 use Rattle.csv_field.specs.FieldGrammar.{DQUOTE}
 use Rattle.csv_content.specs.Content.{raw_of, content_of, undouble, same_bytes, is_nil}
 use Rattle.csv_field.specs.declared.Span.{Span}
-
-module _ (text : List ℕ) (span : Span) where
-  -- a span that starts past the text covers no byte
-  pub raw_none : length text ≤ span.start → [] ≡ raw_of text span
-  raw_none h = sym (ap (take span.len) (drop_of_length-le text h) ∙ take-nil span.len)
-
-  -- a span that reaches past the text covers the rest
-  pub raw_rest : length text - span.start ≤ span.len → take (length text - span.start) (drop span.start text) ≡ raw_of text span
-  raw_rest h =
-      let rest = drop span.start text in
-      let all : length rest ≤ length text - span.start = omega (arith, length-drop span.start text) in
-      let in' : length rest ≤ span.len = omega arith in
-      take_all (length text - span.start) rest all ∙ sym (take_all span.len rest in')
-
-  -- a span within the text covers its bytes
-  pub raw_part : take (span.start + span.len - span.start) (drop span.start text) ≡ raw_of text span
-  raw_part = ap (λ (n : ℕ). take n (drop span.start text)) (add-sub_cancel_left span.start span.len)
 
 -- undoubling leaves a byte of every text that has one
 nil-either : (d : Bool) (r : List ℕ) → eqb (length r) 0 ≡ is_nil (cond d (undouble false r) r)
@@ -77,13 +59,13 @@ same_self (a ∷ s) = rw (eq-eqb a a refl) (same_self s)
 pub same-iff : (a b : List ℕ) → (same_bytes a b ≡ true) ↔ (a ≡ b)
 same-iff a b = (same-to a b, λ e. ap (same_bytes a) (sym e) ∙ same_self a)
 
--- strings of other lengths are not the same
-pub other_length : (a b : List ℕ) → (length a ≡ length b → ⊥) → false ≡ same_bytes a b
-other_length a b h = go (same_bytes a b) refl
-  where
-    go : (x : Bool) → same_bytes a b ≡ x → false ≡ x
-    go true e = absurd (h (ap length ((same-iff a b).0 e)))
-    go false e = refl
+-- the library's test of two byte strings is the same test
+pub pointwise-same : (a b : List ℕ) → pointwise eqb a b ≡ same_bytes a b
+unfolding same_bytes
+pointwise-same [] [] = refl
+pointwise-same [] (b ∷ t) = refl
+pointwise-same (a ∷ s) [] = refl
+pointwise-same (a ∷ s) (b ∷ t) = ap (λ (x : Bool). eqb a b && x) (pointwise-same s t)
 
 module _ (b : List ℕ) (j : ℕ) (x : ℕ) (s : List ℕ) where
   -- one byte of a comparison: the other string has ended
@@ -141,22 +123,6 @@ pub undouble-end : (a : List ℕ) (i : ℕ) (kept : Bool) → length a ≤ i →
 unfolding undouble
 undouble-end a i kept h = rw (drop_of_length-le a h)
 
-module _ (a b : List ℕ) (i : ℕ) (h : i < length a) (g : i < length b) where
-  -- one byte of a comparison of two strings at one place: the bytes are the same
-  pub same-on : get_or a i 0 ≡ get_or b i 0 → same_bytes (drop i a) (drop i b) ≡ same_bytes (drop (i + 1) a) (drop (i + 1) b)
-  same-on e =
-      ap (λ (l : List ℕ). same_bytes l (drop i b)) (drop-cons a i 0 h) ∙ same-cons b i (get_or a i 0) (drop (suc i) a) g e
-      ∙ ap (λ (n : ℕ). same_bytes (drop n a) (drop (i + 1) b)) (sym (add-one i))
-
-  -- one byte of a comparison of two strings at one place: the bytes differ
-  pub same-off : (get_or a i 0 ≡ get_or b i 0 → ⊥) → same_bytes (drop i a) (drop i b) ≡ false
-  same-off e = ap (λ (l : List ℕ). same_bytes l (drop i b)) (drop-cons a i 0 h) ∙ same-differ b i (get_or a i 0) (drop (suc i) a) g e
-
--- two strings that have both ended are the same
-pub same_ended : (a b : List ℕ) (i : ℕ) → length a ≤ i → length b ≤ i → same_bytes (drop i a) (drop i b) ≡ true
-unfolding same_bytes
-same_ended a b i h g = rw (drop_of_length-le a h, drop_of_length-le b g)
-
 -- a part that ends within the first m bytes is a part of those
 part_cut : (text : List ℕ) (start len m : ℕ) → start + len ≤ m → take len (drop start (take m text)) ≡ take len (drop start text)
 part_cut text zero len m h = take-take len m text (omega arith)
@@ -169,3 +135,6 @@ part_cut (b ∷ t) (suc start) len (suc m) h = part_cut t start len m (omega ari
 pub content-cut : (text : List ℕ) (m : ℕ) (span : Span) → span.start + span.len ≤ m → content_of (take m text) span ≡ content_of text span
 unfolding content_of
 content-cut text m span h = ap (λ raw. cond span.doubled (undouble false raw) raw) (part_cut text span.start span.len m h)
+
+-- the content of a field and its comparison, for a search
+pub ruleset contents = (nil-content, content-doubled, content-plain, pointwise-same)

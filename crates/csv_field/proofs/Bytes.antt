@@ -87,6 +87,17 @@ low-text b l h q = go (ℕ_discrete b COMMA)
     go (yes c) = ap not (eq-eqb b COMMA c) ∙ sym (not_text b (λ t. (text-bounds t).3 c))
     go (no c) = ap not (ne_eqb b COMMA c) ∙ sym ((text-iff b).1 (bounds_text l (omega arith) q c))
 
+-- a byte below %x20 is no TEXTDATA
+pub below-text : (b : ℕ) → b < 0x20 → is_text b ≡ false
+below-text b h = not_text b (λ t. let r = text-bounds t in omega arith)
+
+-- the quote is no TEXTDATA
+pub quote-text : (b : ℕ) → b ≡ DQUOTE → is_text b ≡ false
+quote-text b e = not_text b (λ t. (text-bounds t).2 e)
+
+-- the TEXTDATA below %x2D, for a search
+pub ruleset low_texts = (below-text, quote-text, low-text)
+
 -- what quotes may hold besides TEXTDATA
 abbrev pub Also : ℕ → Type 0
 Also b = (b ≡ LF) ⊎ ((b ≡ CR) ⊎ (b ≡ COMMA))

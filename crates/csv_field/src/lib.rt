@@ -1,7 +1,7 @@
 // One field of a text, found by its bytes.
 #![tactic(auto)]
 
-ghost use Rattle.std.specs.Prelude.{◌≡◌, false, ◌+◌, ◌<◌, get_or, drop, eqb};
+ghost use Rattle.std.specs.Prelude.{◌≡◌, false, ◌+◌, ◌<◌, get_or, drop, eqb, position, not};
 ghost use Rattle.csv_field.specs.FieldReading.{is_text, is_quoted, text_length, quotes, after_cr, stop_of, quoted_at, field_at};
 
 // Where a field's bytes stand, without the quotes around them. `doubled` says that two quotes side by side stand among them, which are
@@ -51,51 +51,45 @@ fn is_text(b: u8) -> bool
 }
 
 // The TEXTDATA below %x2D: all from %x20 on but the quote and the comma.
+#[tactic(auto, using(crate::proofs::Bytes::low_texts))]
 fn is_low_text(b: u8) -> bool
     requires { b < 0x2D }
     ensures { result ≡ is_text b }
 {
-    if b < 0x20 {
-        return false;
-    }
-    if b == b'"' {
-        return false;
-    }
-    b != b','
+    0x20 <= b && b != b'"' && b != b','
 }
 
 // A byte that quotes may hold besides the quote: TEXTDATA / COMMA / CR / LF.
+#[tactic(auto, unfolding(crate::specs::FieldReading::is_quoted))]
 fn is_quoted(b: u8) -> bool
     ensures { result ≡ is_quoted b }
 {
-    if is_text(b) {
-        return true;
-    }
-    match b {
-        b',' | b'\r' | b'\n' => true,
-        _ => false,
-    }
+    is_text(b) || matches!(b, b',' | b'\r' | b'\n')
 }
 
 // A quote stands at the place.
 fn quote_at(s: &[u8], at: usize) -> bool
     ensures { result ≡ eqb (get_or s.now at 0) 0x22 }
 {
-    if at < s.len() { s[at] == b'"' } else { false }
+    s.get(at) == Some(&b'"')
 }
 
-// The place of the first byte at or after `at` that is no TEXTDATA.
+// The place of the first byte that is no TEXTDATA.
+fn first_other(s: &[u8]) -> Option<usize>
+    ensures { result ≡ position (λ b. not (is_text b)) s.now }
+{
+    s.iter().position(|b| !is_text(*b))
+}
+
+// The place of the first byte at or after `at` that is no TEXTDATA, or the end.
+#[tactic(auto, using(crate::proofs::Steps::run_lengths))]
 fn skip_text(s: &[u8], at: usize) -> usize
     ensures { result ≡ at + text_length (drop at s.now) }
 {
-    let mut i = at;
-    while i < s.len() {
-        if !is_text(s[i]) {
-            return i;
-        }
-        i += 1;
+    match s.get(at..) {
+        Some(rest) => at + first_other(rest).unwrap_or(rest.len()),
+        None => at,
     }
-    i
 }
 
 // Looks for the closing quote from `at`, the byte after the opening quote.
@@ -104,6 +98,7 @@ fn find_quote(s: &[u8], at: usize) -> Quotes
 {
     let mut i = at;
     let mut doubled = false;
+    // A `while`: the step is two bytes where two quotes stand side by side.
     while i < s.len() {
         let b = s[i];
         if b == b'"' {
@@ -123,6 +118,7 @@ fn find_quote(s: &[u8], at: usize) -> Quotes
 }
 
 // What follows a field where a CR stands before `at`. `cut` says that the text goes on behind s.
+#[tactic(auto, using(crate::proofs::Steps::after_crs))]
 fn after_cr(s: &[u8], cut: bool, at: usize) -> Stop
     ensures { result ≡ after_cr cut (drop at s.now) }
 {
@@ -136,6 +132,7 @@ fn after_cr(s: &[u8], cut: bool, at: usize) -> Stop
 }
 
 // What follows a field that ends at `at`. `cut` says that the text goes on behind s.
+#[tactic(auto, using(crate::proofs::Steps::after_fields))]
 fn stop_at(s: &[u8], cut: bool, at: usize) -> Stop
     ensures { result ≡ stop_of cut (drop at s.now) }
 {

@@ -12,10 +12,10 @@
 // of another form is written out behind the word `unreadable`.
 #![tactic(auto)]
 
-ghost use Rattle.std.specs.Prelude.{◌≤◌, ◌<◌, length};
+ghost use Rattle.std.specs.Prelude.{◌≤◌, ◌<◌, length, IfSome};
 
 use csv_field::Span;
-use csv_records::Status;
+use csv_records::{Record, Unread};
 use std::io::{self, Write};
 
 // The limit of a case that meets no limit.
@@ -23,9 +23,6 @@ const NO_LIMIT: usize = 1000;
 
 // The most records that the program reads of a text.
 const RECORDS: usize = 8;
-
-// The spans that a reading has.
-const SPANS: usize = 6;
 
 // The most bytes of a text or a word.
 const ROOM: usize = 64;
@@ -41,9 +38,6 @@ const FIRST_BAR: usize = 1;
 
 // Where a text starts, behind the first bar.
 const TEXT: usize = 2;
-
-// What `digit` answers for a byte that is no hexadecimal digit.
-const NO_DIGIT: u8 = 16;
 
 // Writes bytes.
 fn put<W: Write>(out: &mut W, text: &[u8]) -> io::Result<()> {
@@ -66,11 +60,8 @@ fn put_pair<W: Write>(
 
 // Writes a span: its start, its length, `"` where two quotes stand in the span, and `-` where its content is empty.
 fn put_span<W: Write>(out: &mut W, text: &[u8], span: Span) -> io::Result<()> {
-    let start = span.start;
-    let len = span.len;
-    let doubled = span.doubled;
-    put_pair(out, b" ", start, b"+", len)?;
-    if doubled {
+    put_pair(out, b" ", span.start, b"+", span.len)?;
+    if span.doubled {
         put(out, b"\"")?;
     }
     if csv_content::is_empty(text, span) {
@@ -79,32 +70,28 @@ fn put_span<W: Write>(out: &mut W, text: &[u8], span: Span) -> io::Result<()> {
     Ok(())
 }
 
-// Writes the number of a record's fields and the spans of the first six.
-fn put_spans<W: Write>(out: &mut W, text: &[u8], count: usize, spans: [Span; 6]) -> io::Result<()> {
+// Writes a record: the number of its fields, the spans of the first six, its end and the place after it.
+fn put_whole<W: Write>(out: &mut W, text: &[u8], record: &Record) -> io::Result<()> {
     put(out, b" ")?;
-    write!(out, "{count}")?;
+    write!(out, "{}", record.count)?;
     put(out, b" fields")?;
-    for i in 0..SPANS {
-        put_span(out, text, spans[i])?;
+    for span in record.spans {
+        put_span(out, text, span)?;
     }
-    Ok(())
+    put_pair(out, b" end ", record.end, b" next ", record.next)?;
+    put(out, b"\n")
 }
 
 // Writes one record and answers the place after the record, or the end of the text where no record stands there.
 fn put_record<W: Write>(out: &mut W, text: &[u8], at: usize, limit: usize) -> io::Result<usize> {
-    let r = csv_records::read_record(text, at, limit);
-    let status = r.status;
-    match status {
-        Status::End => put(out, b" end\n")?,
-        Status::Malformed => put(out, b" malformed\n")?,
-        Status::Limit => put(out, b" limit\n")?,
-        Status::Record => {
-            let spans = r.spans;
-            put_spans(out, text, r.count, spans)?;
-            put_pair(out, b" end ", r.end, b" next ", r.next)?;
-            put(out, b"\n")?;
-            return Ok(r.next);
+    match csv_records::read_record(text, at, limit) {
+        Ok(Some(record)) => {
+            put_whole(out, text, &record)?;
+            return Ok(record.next);
         }
+        Ok(None) => put(out, b" end\n")?,
+        Err(Unread::Malformed) => put(out, b" malformed\n")?,
+        Err(Unread::Limit) => put(out, b" limit\n")?,
     }
     Ok(text.len())
 }
@@ -129,76 +116,55 @@ fn show<W: Write>(out: &mut W, text: &[u8], limit: usize) -> io::Result<()> {
     put_records(out, text, limit)
 }
 
-// Writes whether the first field of a text is the word.
+// Writes whether the first field of a text is the word. Where no record can be read, its content is empty.
 fn compare<W: Write>(out: &mut W, text: &[u8], word: &[u8]) -> io::Result<()> {
-    let r = csv_records::read_record(text, 0, text.len());
-    let spans = r.spans;
-    if csv_content::is_word(text, spans[0], word) {
-        put(out, b"same\n")
-    } else {
-        put(out, b"other\n")
-    }
+    let same = match csv_records::read_record(text, 0, text.len()) {
+        Ok(Some(record)) => csv_content::is_word(text, record.spans[0], word),
+        _ => word.is_empty(),
+    };
+    put(out, if same { b"same\n" } else { b"other\n" })
 }
 
 // The value of a hexadecimal digit.
-fn digit(b: u8) -> u8
-    ensures { result ≤ 16 }
+fn digit(b: u8) -> Option<u8>
+    ensures { IfSome result (λ value. value < 16) }
 {
     match b {
-        b'0'..=b'9' => b - b'0',
-        b'A'..=b'F' => b - b'A' + 10,
-        _ => NO_DIGIT,
+        b'0'..=b'9' => Some(b - b'0'),
+        b'A'..=b'F' => Some(b - b'A' + 10),
+        _ => None,
     }
 }
 
 // The byte at a place of a line, and 0 behind its end.
 fn raw_at(line: &[u8], at: usize) -> u8 {
-    if at < line.len() { line[at] } else { 0 }
+    line.get(at).copied().unwrap_or(0)
 }
 
-// One byte of a text, and the place behind what stands for it; `good` is false at a bar and at `%` without two digits.
-#[derive(Clone, Copy)]
-struct Byte {
-    value: u8,
-    next: usize,
-    good: bool,
-}
-
-// Decodes the byte at a place of a line.
-fn decode_byte(line: &[u8], at: usize) -> Byte
-    requires { at < length line.now }
-    ensures { at < result.next }
+// The byte that two hexadecimal digits at a place of a line are.
+fn coded_byte(line: &[u8], at: usize) -> Option<u8>
+    requires { at ≤ length line.now }
 {
-    let byte = line[at];
-    if byte != b'%' {
-        return Byte {
-            value: byte,
-            next: at + 1,
-            good: byte != BAR,
-        };
-    }
-    let bad = Byte {
-        value: byte,
-        next: at + 1,
-        good: false,
-    };
-    let high = digit(raw_at(line, at + 1));
-    if high == NO_DIGIT {
-        return bad;
-    }
-    let low = digit(raw_at(line, at + 2));
-    if low == NO_DIGIT {
-        return bad;
-    }
-    Byte {
-        value: high * 16 + low,
-        next: at + 3,
-        good: true,
+    let high = digit(raw_at(line, at))?;
+    let low = digit(raw_at(line, at + 1))?;
+    Some(high * 16 + low)
+}
+
+// Decodes the byte at a place of a line: one byte of a text, and the place behind what stands for it. A bar is none, nor is `%` without two
+// digits.
+fn decode_byte(line: &[u8], at: usize) -> Option<(u8, usize)>
+    requires { at < length line.now }
+    ensures { IfSome result (λ one. at < one.1) }
+{
+    match line[at] {
+        BAR => None,
+        b'%' => Some((coded_byte(line, at + 1)?, at + 3)),
+        byte => Some((byte, at + 1)),
     }
 }
 
 // The number of bytes of a text, and the place where decoding ended: at the bar behind the text, where the line is readable.
-#[derive(Clone, Copy)]
+#[derive(Clone, Copy, Debug, PartialEq, Eq, Hash)]
 struct Decoded {
     count: usize,
     end: usize,
@@ -210,18 +176,14 @@ fn decode(line: &[u8], from: usize, bytes: &mut [u8]) -> Decoded
 {
     let mut at = from;
     let mut count = 0;
-    while at < line.len() {
-        let one = decode_byte(line, at);
-        let byte = one.value;
-        if !one.good {
-            return Decoded { count, end: at };
-        }
-        if bytes.len() <= count {
-            return Decoded { count, end: at };
-        }
+    // A `while`: what stands for a byte is one byte long or three.
+    while at < line.len() && count < bytes.len() {
+        let Some((byte, next)) = decode_byte(line, at) else {
+            break;
+        };
         bytes[count] = byte;
         count += 1;
-        at = one.next;
+        at = next;
     }
     Decoded { count, end: at }
 }
@@ -290,28 +252,10 @@ fn run_line<W: Write>(out: &mut W, line: &[u8]) -> io::Result<()> {
     }
 }
 
-// The place of the next line feed, or the end.
-fn line_end(input: &[u8], from: usize) -> usize
-    requires { from ≤ length input.now }
-    ensures { (from ≤ result) × (result ≤ length input.now) }
-{
-    let mut at = from;
-    while at < input.len() {
-        if input[at] == b'\n' {
-            return at;
-        }
-        at += 1;
-    }
-    at
-}
-
 // Runs each line of the input.
 fn run_lines<W: Write>(out: &mut W, input: &[u8]) -> io::Result<()> {
-    let mut at = 0;
-    while at < input.len() {
-        let end = line_end(input, at);
-        run_line(out, &input[at..end])?;
-        at = end + 1;
+    for line in input.split_inclusive(|b| *b == b'\n') {
+        run_line(out, line.strip_suffix(b"\n").unwrap_or(line))?;
     }
     Ok(())
 }

@@ -4,42 +4,42 @@ use Rattle.csv_content.specs.Content.{same_bytes}
 use Rattle.std.proofs.Common.{drop, List, ℕ, sym, ap, ◌∙◌, arith}
 use Rattle.csv_content.proofs.same_undoubled.Goals as goal
 
-pub loop-i-preserved-then-is_second : goal.loop-i-preserved-then-is_second
-loop-i-preserved-then-is_second c =
+pub loop-x-preserved-then-is_second : goal.loop-x-preserved-then-is_second
+loop-x-preserved-then-is_second c =
     let a = c.args in
-    let l = c.loop-i in (
+    let l = c.loop-x in (
       l.invariant.0,
       l.invariant.1 ∙ ap (λ (x : List ℕ). same_bytes x (drop l.j a.b.now))
-          (undouble-skip a.a.now l.i l.kept c.loop-i-test.true (sym c.is_second.ensures ∙ c.if-is_second.true)),
+          (undouble-skip a.a.now l.x-index l.kept c.loop-x-test.true (sym c.is_second.ensures ∙ c.if-is_second.true)),
     )
 
 pub returns-then-b-j : goal.returns-then-b-j
 returns-then-b-j c =
     let a = c.args in
-    let l = c.loop-i in
+    let l = c.loop-x in
     let b = a.b.now in
     sym (l.invariant.1 ∙ ap (λ (x : List ℕ). same_bytes x (drop l.j b))
-    (undouble-keep a.a.now l.i l.kept c.loop-i-test.true
+    (undouble-keep a.a.now l.x-index l.kept c.loop-x-test.true
     (sym c.is_second.ensures ∙ c.if-is_second.false)) ∙ same-short b l.j _ _ c.if-b-j.true)
 
 pub returns-then-x-b : goal.returns-then-x-b
 returns-then-x-b c =
     let a = c.args in
-    let l = c.loop-i in
+    let l = c.loop-x in
     let b = a.b.now in
     sym (l.invariant.1 ∙ ap (λ (x : List ℕ). same_bytes x (drop l.j b))
-    (undouble-keep a.a.now l.i l.kept c.loop-i-test.true
+    (undouble-keep a.a.now l.x-index l.kept c.loop-x-test.true
     (sym c.is_second.ensures ∙ c.if-is_second.false)) ∙ same-differ b l.j _ _
     c.if-b-j.false c.if-x-b.true)
 
-pub loop-i-preserved : goal.loop-i-preserved
-loop-i-preserved c =
+pub loop-x-preserved : goal.loop-x-preserved
+loop-x-preserved c =
     let a = c.args in
-    let l = c.loop-i in
+    let l = c.loop-x in
     let b = a.b.now in (
       omega arith,
       l.invariant.1 ∙ ap (λ (x : List ℕ). same_bytes x (drop l.j b))
-          (undouble-keep a.a.now l.i l.kept c.loop-i-test.true
+          (undouble-keep a.a.now l.x-index l.kept c.loop-x-test.true
           (sym c.is_second.ensures ∙ c.if-is_second.false)) ∙ same-cons b l.j _ _
           c.if-b-j.false c.if-x-b.false,
     )
@@ -47,7 +47,7 @@ loop-i-preserved c =
 pub returns : goal.returns
 returns c =
     let a = c.args in
-    let l = c.loop-i in
+    let l = c.loop-x in
     let b = a.b.now in
-    sym (l.invariant.1 ∙ ap (λ (x : List ℕ). same_bytes x (drop l.j b)) (undouble-end a.a.now l.i l.kept c.loop-i-test.false)
+    sym (l.invariant.1 ∙ ap (λ (x : List ℕ). same_bytes x (drop l.j b)) (undouble-end a.a.now l.x-index l.kept c.loop-x-test.false)
     ∙ same-nothing b l.j l.invariant.0)
