@@ -31,7 +31,7 @@ impl File {
 }
 
 // A record that stands next in a file: its row, where it starts, where it ends before its line end, and where the record behind it starts.
-#[derive(Clone, Copy)]
+#[derive(Clone, Copy, Debug, PartialEq, Eq, Hash)]
 pub struct Next {
     pub row: Row,
     pub start: usize,
@@ -70,11 +70,7 @@ pub(crate) fn step(text: &[u8], next: Option<Next>, taken: bool, process_limit: 
     ensures { told_next result ≡ stepped taken process_limit text.now (told_next next) }
 {
     if taken {
-        let behind = match next {
-            Some(next) => next.behind,
-            None => 0,
-        };
-        return next_at(text, behind, process_limit);
+        return next_at(text, next.map_or(0, |next| next.behind), process_limit);
     }
     next
 }

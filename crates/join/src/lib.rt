@@ -21,7 +21,7 @@ use rows::refusal::{Refusal, Refused};
 use trace::Call;
 
 // The numbers of a join: the header words of both files, the model, and the limits of rows and processes.
-#[derive(Clone, Copy)]
+#[derive(Clone, Copy, Debug, PartialEq, Eq, Hash)]
 pub struct JoinCall {
     pub first_header: u32,
     pub second_header: u32,

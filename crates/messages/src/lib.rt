@@ -162,6 +162,7 @@ fn note(table: &mut [u16], row: Row)
 fn store(table: &mut [u16], message: u32, entry: u16)
     ensures { table.new ≡ set table.old message entry }
 {
+    // By its index: of an element that was lent by `get_mut` a proof keeps nothing.
     let m = message as usize;
     if m < table.len() {
         table[m] = entry;

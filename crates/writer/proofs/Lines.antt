@@ -1,5 +1,5 @@
 -- The header and the rows' lines, put into a slice one behind the other.
-use Rattle.std.proofs.Common.{ℕ, ◌+◌, ◌*◌, ◌-◌, ◌≤◌, arith, ◌≡◌, refl, sym, ap, ◌∙◌, Bool, true, false, cond, List, [], ◌∷◌, ◌++◌, append_assoc, append-nil, length, take, drop, length-append, ne_eqb}
+use Rattle.std.proofs.Common.{ℕ, ◌+◌, ◌*◌, ◌-◌, ◌≤◌, arith, ◌≡◌, refl, sym, ap, ◌∙◌, Bool, true, false, cond, List, [], ◌∷◌, ◌++◌, append_assoc, append-nil, length, take, drop, length-append}
 use lib.Dec.{eqb}
 use borrow.Rule.Slice.PartMut.{put_mid}
 use Rattle.print.specs.Puts.{lay, put_in, put_end}
@@ -15,10 +15,6 @@ use Rattle.writer.specs.Writing.{lines_of, header_line, header_of}
 -- The header is there where the header word is 1.
 pub header-there : {header : ℕ} → header ≡ 1 → header_of header ≡ header_line
 header-there e = rw e
-
--- There is no header where the header word is not 1.
-pub header-none : {header : ℕ} → (header ≡ 1 → ⊥) → header_of header ≡ []
-header-none {header} n = rw (ne_eqb header 1 n)
 
 -- The header's line has 41 bytes.
 pub header-size : {header : ℕ} → header ≡ 1 → 41 ≡ length (header_of header)
@@ -40,12 +36,6 @@ pub header-put : (xs : List ℕ) (at header : ℕ) {end : ℕ} {ys : List ℕ} �
 header-put xs at header e h p =
     let l = put-laid xs at header_line p (rw (header-there e) at h) in
     rw (header-there e) (l.behind, l.whole)
-
--- Without a header nothing is put.
-pub header-left : (xs : List ℕ) (at header : ℕ) → (header ≡ 1 → ⊥) → (at ≡ at + length (header_of header)) × (xs ≡ lay xs at (header_of header))
-header-left xs at header n =
-    let z : at ≡ at + 0 = omega arith in
-    rw (header-none n) (z, lay-none xs at)
 
 -- ---- Rows
 

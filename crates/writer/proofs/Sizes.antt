@@ -141,10 +141,6 @@ module _ (outLength place header : ℕ) (rows : List Row) where
   unfolding text_of
   text-size = length-append (header_of header) (lines_of rows)
 
-  -- Behind a place past the slice's end no text fits.
-  pub fits-past : outLength < place → false ≡ text_fits outLength place (text_of header rows)
-  fits-past h = let g : outLength < place + length (text_of header rows) = omega arith in sym (lt-leb (place + length (text_of header rows)) outLength g)
-
   module _ (h : place ≤ outLength) where
     -- A text fits where there is room for as many of the longest lines and for the header.
     pub fits-roomy : (n : ℕ) → length (lines_of rows) ≤ LINE_MOST * n → HEADER_MOST + LINE_MOST * n ≤ outLength - place →

@@ -10,6 +10,7 @@ ghost use Rattle.writer.specs.Answers.{told_asked};
 
 use messages::MessageTable;
 use rows::Row;
+use rows::kind::Kind;
 use rows::refusal::{Refusal, Refused};
 use trace_numbers::Used;
 
@@ -46,7 +47,7 @@ fn ask_row(table: &mut MessageTable, row: Row, process_limit: u32) -> Result<(),
 fn ask_numbers(row: Row, process_limit: u32) -> Result<(), Refusal>
     ensures { Asks (first_no (number_questions process_limit row)) result }
 {
-    if rows::KINDS <= row.kind {
+    if Kind::try_from(row.kind).is_err() {
         return Err(Refusal::KnownKind);
     }
     let used = trace_fields::used_by(row.kind);
