@@ -15,7 +15,8 @@ use extents_map::locate::LawfulMap;
 use extents_map::modes::{Mode, Range, ReadFresh, Refresh};
 use extents_map::scan;
 
-// A view and the published map: two maps of one space by their numbers in a slice, and how many runs of the view are unpublished.
+// A view and the published map: two maps of one space by their numbers in a slice, and how many runs of the view are unpublished. What functions
+// ask of it stands in their clauses: as facts of a type it would be no plainer, since the type would hold the lent slice, anew behind each write.
 #[derive(Clone, Copy, Debug, PartialEq, Eq, Hash)]
 pub struct Pair {
     pub space: usize,

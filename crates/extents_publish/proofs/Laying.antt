@@ -1,5 +1,5 @@
 -- A map in a slice on which runs are laid, and the unpublished runs of a view laid on it, from the first run on.
-use Rattle.std.proofs.Common.{ℕ, suc, ◌+◌, ◌*◌, ◌-◌, ◌≤◌, ◌<◌, arith, ◌≡◌, refl, sym, ap, subst, ◌∙◌, ◌⊎◌, inl, inr, Bool, true, false, cond, ◌&&◌, List, ◌∷◌, length, take, drop, length-drop, drop-cons, leb-true, ltb-true, eq-eqb, ne_eqb}
+use Rattle.std.proofs.Common.{ℕ, suc, ◌+◌, ◌*◌, ◌-◌, ◌≤◌, ◌<◌, arith, ◌≡◌, refl, sym, ap, subst, ◌∙◌, ◌⊎◌, inl, inr, Bool, true, false, cond, ◌&&◌, List, ◌∷◌, length, take, drop, length-drop, drop-cons, leb-true, ltb-true, eq-eqb, ne_eqb, Option, None, Some}
 use mathlib.Core.Bool.{false≢true}
 use lib.Dec.{leb}
 use borrow.Rule.Slice.PartMut.{put_mid}
@@ -15,11 +15,11 @@ use Rattle.extents_pair.specs.Marks.{marked}
 use Rattle.extents_pair.proofs.Parts.{lent, part_length, home, part-with, with_part_lem, bytes_fit, fits-lawful, fits-back}
 use Rattle.extents_pair.proofs.Gathering.{marked-fewer, marked-none}
 use Rattle.extents_pair.proofs.Bounds.{marked-first}
-use Rattle.extents_pair.proofs.Sweeps.{Fits, good-over}
+use Rattle.extents_pair.proofs.Sweeps.{Fits, good-over, over-out}
 use Rattle.extents_weave.specs.Rewrites.{Apart}
 use Rattle.extents_weave.proofs.Homes.{only-start, only-length, only-apart, only_then}
-use Rattle.extents_publish.specs.Publishing.{Below, Taken, Layable}
-use Rattle.extents_publish.specs.declared.Own.{Own}
+use Rattle.extents_map.specs.declared.modes.Range.{Range}
+use Rattle.extents_publish.specs.Publishing.{Below, Own, told_own, Taken, Layable}
 
 -- ---- The map at w changes
 
@@ -100,10 +100,10 @@ clear_fine c (inl e) = inl (omega arith)
 clear_fine c (inr h) = inr (omega arith)
 
 -- Nothing is laid of a published run.
-pub take_none : (r : Run) {cell : ℕ} → cell ≡ r.cell → mark_in cell ≡ 0 → Taken r (record { from = 0; to = 0; cell = cell; mark = 0 })
+pub take_none : (r : Run) {cell : ℕ} → cell ≡ r.cell → mark_in cell ≡ 0 → Taken r (record { from = 0; to = 0; cell = cleared r.cell; mark = 0 })
 take_none r e h =
     let none = ne_eqb (mark_in r.cell) 1 (omega arith) in
-    record { range = λ b. range-behind 0 0 b (omega arith) ∙ (λ i. sym none i && in_range r.start r.length b); cell = omega arith; mark = omega arith }
+    record { range = λ b. range-behind 0 0 b (omega arith) ∙ (λ i. sym none i && in_range r.start r.length b); cell = refl; mark = omega arith }
 
 -- An unpublished run is laid without its mark.
 pub take_all : (r : Run) {from to cell : ℕ} → from ≡ r.start → to ≡ end_of r → cell ≡ r.cell → (mark_in cell ≡ 0 → ⊥) →
@@ -260,3 +260,23 @@ module _ {size v w left : ℕ} {xs ys : List ℕ} (i : ℕ) (k : Laying size v w
       byte : (b : ℕ) → Half (view k) (old k) b (cell_at (drop i rs) b) (bytes_of (part_at w size ys) b) →
           Half (view k) (old k) b (cell_at us b) (overwrite s.from (s.to - s.from) s.cell (bytes_of (part_at w size ys)) b)
       byte b p = rw (taken.range b, taken.cell) (half-next (view k) (old k) r us law b (bytes_of (part_at w size ys) b) (rw next at p))
+
+  -- What is laid of it, as the code gives it.
+  module _ {o : Option Range} (q : Taken (run_no (runs (take (v + size - v) (drop v ys))) i)
+      (told_own (run_no (runs (take (v + size - v) (drop v ys))) i) o)) where
+    -- Where the code gives a range, that is laid.
+    pub lay-some : {run : Range} → o ≡ Some run →
+        Turn size v w xs i left ys (record { from = run.start; to = run.end; cell = run.cell; mark = 1 })
+    lay-some e =
+        let m = run_no (runs (take (v + size - v) (drop v ys))) i in lay-turn (subst (λ (x : Option Range). Taken m (told_own m x)) e q)
+
+    -- Where it gives nothing, the map stays as it is.
+    pub lay-none : o ≡ None → Laying size v w xs us left ys
+    lay-none e =
+        let m = run_no (runs (take (v + size - v) (drop v ys))) i in
+        let t = lay-turn (subst (λ (x : Option Range). Taken m (told_own m x)) e q) in
+        let f = bytes_of (part_at w size ys) in
+        let p = lay-in k in
+        let same : left - 0 ≡ left = omega arith in
+        subst (λ (n : ℕ). Laying size v w xs us n ys) same
+        (t.next (below-start p.0 p.1 (λ b. sym (over-out 0 0 (cleared m.cell) f b (λ l. omega arith)))))

@@ -11,20 +11,11 @@ ghost use Rattle.extents_map.specs.Beside.{run_no};
 ghost use Rattle.extents_map.specs.Mixes as modes;
 ghost use Rattle.extents_map.specs.Mixes.{mix};
 ghost use Rattle.extents_pair.specs.InPairs.{two_maps_in, view_in, below_in, OwnCounted};
-ghost use Rattle.extents_publish.specs.Publishing.{Below, published_in, Taken, Layable};
+ghost use Rattle.extents_publish.specs.Publishing.{Below, published_in, told_own, Taken, Layable};
 
 use extents_map::locate::LawfulMap;
 use extents_map::modes::{Publish, Range};
 use extents_pair::Pair;
-
-// What is laid of a run of a view: its range, empty where the run is published, its cell without the mark, and its mark.
-#[derive(Clone, Copy, Debug, PartialEq, Eq, Hash)]
-struct Own {
-    from: u32,
-    to: u32,
-    cell: u32,
-    mark: usize,
-}
 
 // Publishes a view and a range of a row number, 0 where the range is empty, on a published map that fits then. Where a run does not fit between the
 // others that are laid, the map is rewritten from what it is by then.
@@ -61,52 +52,50 @@ fn lay_all(maps: &mut [u32], size: usize, v: usize, w: usize, own: usize, range:
 {
     let mut left = own;
     let mut i = 0;
+    // No plainer as a `for`: the walk ends behind the last unpublished run, and not at an index that is known before.
     while 0 < left {
         let view = LawfulMap {
             numbers: &maps[v..v + size],
         };
-        let s = own_at(view, i);
-        if !put(maps, size, w, s.from, s.to, s.cell) {
+        let laid = own_at(view, i);
+        i += 1;
+        let Some(run) = laid else {
+            continue;
+        };
+        if !put(maps, size, w, run) {
             return false;
         }
-        left -= s.mark;
-        i += 1;
+        left -= 1;
     }
-    put(maps, size, w, range.start, range.end, range.cell)
+    put(maps, size, w, range)
 }
 
-// What is laid of run i: nothing where it is published.
-fn own_at(map: LawfulMap<'_>, i: usize) -> Own
+// What is laid of run i: its range and its cell without the mark, and nothing where it is published.
+fn own_at(map: LawfulMap<'_>, i: usize) -> Option<Range>
     requires { i < length (runs map.numbers.now) }
-    ensures { Taken (run_no (runs map.entry.numbers.now) i) result }
+    ensures { Taken (run_no (runs map.entry.numbers.now) i) (told_own (run_no (runs map.entry.numbers.now) i) result) }
 {
     let cell = map.cell_at(i);
     if cell % 2 == 0 {
-        return Own {
-            from: 0,
-            to: 0,
-            cell: cell,
-            mark: 0,
-        };
+        return None;
     }
-    Own {
-        from: map.start_at(i),
-        to: map.end_at(i),
+    Some(Range {
+        start: map.start_at(i),
+        end: map.end_at(i),
         cell: cell - 1,
-        mark: 1,
-    }
+    })
 }
 
 // Gives a range of the map at w a cell, where the map fits then. Answers whether it did; a range without bytes fits.
-fn put(maps: &mut [u32], size: usize, w: usize, start: u32, end: u32, cell: u32) -> bool
+fn put(maps: &mut [u32], size: usize, w: usize, range: Range) -> bool
     requires part_inside { (w + size ≤ length maps.old) × (lawful (part_at w size maps.old) ≡ true) }
-    requires legal_cell { (cell ≡ 0) ⊎ ((1 ≤ number_in cell) × (number_in cell ≤ ROWS)) }
-    ensures below { result ≡ true → Below size w (λ b c. c ≡ overwrite start (end - start) cell (bytes_of (part_at w size maps.old)) b)
+    requires legal_cell { (range.cell ≡ 0) ⊎ ((1 ≤ number_in range.cell) × (number_in range.cell ≤ ROWS)) }
+    ensures below { result ≡ true → Below size w (λ b c. c ≡ overwrite range.start (range.end - range.start) range.cell (bytes_of (part_at w size maps.old)) b)
         maps.old maps.new }
     ensures maps_unchanged { result ≡ false → maps.new ≡ maps.old }
 {
-    if end <= start {
+    if range.end <= range.start {
         return true;
     }
-    extents_lay::lay(&mut maps[w..w + size], start, end, cell)
+    extents_lay::lay(&mut maps[w..w + size], range.start, range.end, range.cell)
 }

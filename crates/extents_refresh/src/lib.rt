@@ -50,6 +50,7 @@ fn clear_marks(map: &mut [u32], own: usize) -> usize
 {
     let mut left = own;
     let mut i = 0;
+    // No plainer as a `for`: the walk ends behind the last unpublished run, and not at an index that is known before.
     while 0 < left {
         let at = i * 4 + 3;
         let next = i + 1;
@@ -105,9 +106,5 @@ pub fn copy(maps: &mut [u32], space: usize, j: usize, k: usize)
     let there = source.runs_in();
     let here = target.runs_in();
     let end = there.max(here) * 4;
-    let mut i = 0;
-    while i < end {
-        maps[to + i] = maps[from + i];
-        i += 1;
-    }
+    maps.copy_within(from..from + end, to);
 }

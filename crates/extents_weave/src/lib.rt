@@ -3,7 +3,7 @@
 // reads them there and writes the result's runs from the front.
 #![tactic(auto)]
 
-ghost use Rattle.std.specs.Prelude.{◌+◌, ◌*◌, ◌/◌, ◌≤◌, ◌≡◌, true, length};
+ghost use Rattle.std.specs.Prelude.{◌+◌, ◌*◌, ◌/◌, ◌≤◌, ◌≡◌, Bool, true, false, length};
 ghost use Rattle.extents_meaning.specs.Runs.{runs_of};
 ghost use Rattle.extents_meaning.specs.Maps.{map_for, with_part, with_map};
 ghost use Rattle.extents_map.specs.Cursors.{Part};
@@ -18,7 +18,8 @@ use extents_map::modes::{Mode, Range};
 use extents_map::scan;
 use extents_pair::Pair;
 
-// The runs written so far, and a run in hand: from a start to an end, of a cell, none where the cell is 0.
+// The runs written so far, and a run in hand: from a start to an end, of a cell, none where the cell is 0. No plainer with an `Option`: a cell 0
+// is a byte without a run in every definition, so that none in hand is the cell of the bytes before.
 #[derive(Clone, Copy, Debug, PartialEq, Eq, Hash)]
 struct Hand {
     written: usize,
@@ -35,6 +36,32 @@ struct Step {
     next: u32,
     i: usize,
     j: usize,
+}
+
+// One of the two walks of a rewrite.
+trait Walk {
+    ghost KEEPS: { Bool };
+
+    // Whether the walk writes the cells that the result needs of the target, and not the results.
+    const KEEPS: bool;
+}
+
+// The first walk keeps cells of the target.
+struct Keeping;
+
+impl Walk for Keeping {
+    ghost KEEPS = { true };
+
+    const KEEPS: bool = true;
+}
+
+// The second walk writes the results.
+struct Writing;
+
+impl Walk for Writing {
+    ghost KEEPS = { false };
+
+    const KEEPS: bool = false;
 }
 
 // Gives every byte of the view, or of the published map where the mode is Publish, the cell that a mix makes of it, where the result fits.
@@ -66,26 +93,25 @@ fn weave_map<M: Mode>(maps: &mut [u32], size: usize, t: usize, o: usize, range: 
     };
     let all = target.runs_in();
     let place = all.max(room);
-    let kept = rewrite::<M>(maps, size, t, o, 0, range, true);
+    let kept = rewrite::<M, Keeping>(maps, size, t, o, 0, range);
     let from = place - kept;
     extents_lay::move_up(&mut maps[t..t + size], 0, kept * 4, from * 4);
-    let n = rewrite::<M>(maps, size, t, o, from, range, false);
+    let n = rewrite::<M, Writing>(maps, size, t, o, from, range);
     extents_lay::clear_between(&mut maps[t..t + size], n * 4, place * 4);
 }
 
 // Writes runs into the front of the map at t, from its runs from run `from` on and from the map at o: the cells to keep, or the results. The loop
 // reads a run before it writes the run's place.
-fn rewrite<M: Mode>(
+fn rewrite<M: Mode, W: Walk>(
     maps: &mut [u32],
     size: usize,
     t: usize,
     o: usize,
     from: usize,
     range: Range,
-    keep: bool,
 ) -> usize
-    requires { Ready size t o from (mix_for M.meaning range) keep maps.old }
-    ensures { Rewritten size t o from (mix_for M.meaning range) keep maps.old result maps.new }
+    requires { Ready size t o from (mix_for M.meaning range) W.KEEPS maps.old }
+    ensures { Rewritten size t o from (mix_for M.meaning range) W.KEEPS maps.old result maps.new }
 {
     let mut h = Hand {
         written: 0,
@@ -96,15 +122,15 @@ fn rewrite<M: Mode>(
     let mut i = from;
     let mut j = 0;
     let mut x = 0;
+    // Each step goes on to the next byte at which a map or the range changes, so this is no `for`.
     while x < rows::OFFSET_MAX {
-        let s = step_at::<M>(
+        let s = step_at::<M, W>(
             &maps[t..t + size],
             i,
             &maps[o..o + size],
             j,
             range,
             h.cell,
-            keep,
             x,
         );
         h = turn(&mut maps[t..t + size], h, x, s.next, s.cell, s.need);
@@ -117,22 +143,21 @@ fn rewrite<M: Mode>(
 }
 
 // What a walk writes at byte x: the result, or, of the cell in hand, 0 and the target's cell, the first that gives the result.
-fn step_at<M: Mode>(
+fn step_at<M: Mode, W: Walk>(
     map: &[u32],
     i: usize,
     other: &[u32],
     j: usize,
     range: Range,
     hand: u32,
-    keep: bool,
     x: u32,
 ) -> Step
     requires { Part map.now i x × Part other.now j x × (range.start ≤ range.end) }
-    ensures { Stepped map.now i other.now j (mix_for M.meaning range) hand keep x result }
+    ensures { Stepped map.now i other.now j (mix_for M.meaning range) hand W.KEEPS x result }
 {
     let s = scan::see_both(map, i, other, j, range, x);
     let here = becomes::<M>(s.inside, range.cell, s.cell, s.other);
-    if !keep {
+    if !W::KEEPS {
         return Step {
             cell: here,
             need: true,

@@ -1,13 +1,41 @@
 -- `extents_refresh::copy` meets its contract.
-use Rattle.std.proofs.Common.{arith}
-use Rattle.extents_refresh.proofs.Copying.{copy_start, copy_next}
+use Rattle.std.proofs.Common.{◌+◌, ◌-◌, ◌*◌, arith, ◌≡◌, ◌∙◌, drop}
+use lib.Seq.{paste}
+use Rattle.extents_refresh.proofs.Copying.{copied}
 use Rattle.extents_refresh.proofs.copy.Goals as goal
 
-pub loop-i-init : goal.loop-i-init
-loop-i-init c = copy_start c.args.space c.args.j c.args.k c.args.maps.now (c.requires.map_inside, c.requires.lawful_maps) c.runs_in-there.ensures c.runs_in-here.ensures c.max-end.ensures
-
 pub overflow_mul-end : goal.overflow_mul-end
-overflow_mul-end c = omega (arith, (copy_start c.args.space c.args.j c.args.k c.args.maps.now (c.requires.map_inside, c.requires.lawful_maps) c.runs_in-there.ensures c.runs_in-here.ensures c.max-end.ensures).fit, (copy_start c.args.space c.args.j c.args.k c.args.maps.now (c.requires.map_inside, c.requires.lawful_maps) c.runs_in-there.ensures c.runs_in-here.ensures c.max-end.ensures).ready.0.0)
+overflow_mul-end c =
+    let a = c.args in
+    let f =
+    (copied a.space a.j a.k a.maps.now (c.requires.map_inside, c.requires.lawful_maps) c.runs_in-there.ensures c.runs_in-here.ensures c.max-end.ensures).0 in
+    omega (arith, f, c.requires.map_inside.0, c.well_formed)
 
-pub loop-i-preserved : goal.loop-i-preserved
-loop-i-preserved c = copy_next c.loop-i.invariant c.loop-i-test.true
+pub overflow_add-from : goal.overflow_add-from
+overflow_add-from c =
+    let a = c.args in
+    let f =
+    (copied a.space a.j a.k a.maps.now (c.requires.map_inside, c.requires.lawful_maps) c.runs_in-there.ensures c.runs_in-here.ensures c.max-end.ensures).0 in
+    omega (arith, f, c.requires.map_inside.0, c.well_formed)
+
+pub copy_within-requires-clause-in_bounds : goal.copy_within-requires-clause-in_bounds
+copy_within-requires-clause-in_bounds c =
+    let a = c.args in
+    let f =
+    (copied a.space a.j a.k a.maps.now (c.requires.map_inside, c.requires.lawful_maps) c.runs_in-there.ensures c.runs_in-here.ensures c.max-end.ensures).0 in
+    omega (arith, f, c.requires.map_inside.0)
+
+pub copy_within-requires-clause-dest_in_bounds : goal.copy_within-requires-clause-dest_in_bounds
+copy_within-requires-clause-dest_in_bounds c =
+    let a = c.args in
+    let f =
+    (copied a.space a.j a.k a.maps.now (c.requires.map_inside, c.requires.lawful_maps) c.runs_in-there.ensures c.runs_in-here.ensures c.max-end.ensures).0 in
+    omega (arith, f, c.requires.map_inside.1)
+
+pub returns : goal.returns
+returns c =
+    let a = c.args in
+    let from = a.j * (4 * a.space) in
+    let n : from + c.max-end.result * 4 - from ≡ c.max-end.result * 4 = omega arith in
+    c.copy_within.ensures.after ∙ (λ i. paste a.maps.now (a.k * (4 * a.space)) (drop from a.maps.now) (n i))
+    ∙ (copied a.space a.j a.k a.maps.now (c.requires.map_inside, c.requires.lawful_maps) c.runs_in-there.ensures c.runs_in-here.ensures c.max-end.ensures).1
