@@ -20,7 +20,7 @@ pub const STANDS: usize = rows::PROCESSES as usize;
 // The table by barrier has one entry for each barrier number.
 pub const NUMBERS: usize = rows::MESSAGES as usize;
 
-// Answers question 22 of the first n rows: the place of its No, if it is answered so.
+// Answers question 22 of the first n rows: the place of its No, if it is answered so. The rows come as a slice and a count, as C lends them.
 pub fn place_of(rows: &[u32], n: u32) -> Option<u32>
     requires { (k : ℕ) → k < n → ((row_in rows.now k).process < PROCESSES) × ((row_in rows.now k).message < MESSAGES) }
     ensures { AtPlace (barrier_place (rows_in n rows.now)) result }
@@ -153,6 +153,7 @@ impl BarrierTable {
 fn note_stand(stands: &mut [u32], row: Row)
     ensures { stands.new ≡ noted_stand stands.old row }
 {
+    // By its index: of an element that was lent by `get_mut` a proof keeps nothing.
     let p = row.process as usize;
     if p < stands.len() {
         stands[p] = stand_of(row);

@@ -12,6 +12,7 @@ pub const FLAGS: usize = rows::PROCESSES as usize;
 fn set_flag(flags: &mut [bool], process: u32)
     ensures { flags.new ≡ set flags.old process true }
 {
+    // By its index: of an element that was lent by `get_mut` a proof keeps nothing.
     let p = process as usize;
     if p < flags.len() {
         flags[p] = true;
@@ -25,7 +26,7 @@ pub fn flag_at(flags: &[bool], process: u32) -> bool
     flags.get(process as usize).copied().unwrap_or(false)
 }
 
-// Answers the flags with those of the processes of the first n rows set.
+// Answers the flags with those of the processes of the first n rows set. The rows come as a slice and a count, as C lends them.
 #[tactic(auto, unfolding(crate::specs::Participants::flagged))]
 pub fn flag_processes(before: [bool; FLAGS], rows: &[u32], n: usize) -> [bool; FLAGS]
     ensures { result ≡ flagged before (rows_in n rows.now) }

@@ -20,7 +20,8 @@ use participants::FLAGS;
 use rows::refusal::{Refusal, Refused};
 use trace::Call;
 
-// The numbers of a join: the header words of both files, the model, and the limits of rows and processes.
+// The numbers of a join: the header words of both files, the model, and the limits of rows and processes. Each is a number, of which one of the
+// questions 1 to 3 asks whether it is in its range.
 #[derive(Clone, Copy, Debug, PartialEq, Eq, Hash)]
 pub struct JoinCall {
     pub first_header: u32,
@@ -116,7 +117,8 @@ fn ask_join(
     Ok(())
 }
 
-// Puts the questions from 4 on: those of the first file, those of the second, 19, and those of the joined rows.
+// Puts the questions from 4 on: those of the first file, those of the second, 19, and those of the joined rows. The files are two slices of one
+// lifetime, as a part of one of them is handed over.
 fn join_files<'a>(
     first: &'a [u8],
     second: &'a [u8],

@@ -15,6 +15,7 @@ use rows::refusal::{Refusal, Refused};
 
 // Writes the text of the first n rows from the place on. The questions 1 to 3 come first, then row by row those from 8 on, then 22 of all rows,
 // and 18 last: does the text fit behind the place? Every byte before the place and behind the text keeps its value, and a refusal writes nothing.
+// The rows come as a slice and a count, as C lends them, and the header word as a number, which question 3 asks.
 pub fn write_trace(
     rows: &[u32],
     n: u32,
