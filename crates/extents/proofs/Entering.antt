@@ -35,6 +35,11 @@ refused k a ys xs e h = record { answer = rw (e, ne_eqb k 0 (omega arith)) refl;
 pub accepted : {r : ℕ} (a : Answer) (ys xs : List ℕ) {zs : List ℕ} → r ≡ 0 → zs ≡ ys → Entry r a ys xs a zs
 accepted a ys xs e q = record { answer = rw e refl; left = rw e q }
 
+-- what is not true
+pub untrue : (b : Bool) → (b ≡ true → false ≡ true) → b ≡ false
+untrue true f = sym (f refl)
+untrue false f = refl
+
 -- ---- Writing one map
 
 module _ (xs : List ℕ) (start n number : ℕ) (mark : Bool) where

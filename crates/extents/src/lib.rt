@@ -9,6 +9,7 @@ ghost use Rattle.extents.specs.Entries.{WriteEntry, ListEntry, PublishEntry, Ref
 
 pub mod lawful;
 
+use extents_map::locate::LawfulMap;
 use rows::refusal::Refusal;
 
 // The row number and the mark of a byte, and the first byte behind it where either differs, 4,294,967,295 where there is none.
@@ -53,20 +54,20 @@ pub fn write(
 pub fn list_range(map: &[u32], start: u32, length: u32, out: &mut [u32]) -> Result<u32, Refusal>
     ensures { ListEntry map.now start length out.old (told_listed result) out.new }
 {
-    if !extents_map::scan::is_lawful(map) {
+    let Some(map) = LawfulMap::of(map) else {
         return Err(Refusal::State);
-    }
-    lawful::list_range(map, start, length, out)
+    };
+    lawful::list_range(map.numbers, start, length, out)
 }
 
 // Looks a byte up in a map.
 pub fn lookup(map: &[u32], byte: u32) -> Result<Stretch, Refusal>
     ensures { LookupEntry map.now byte (told_lookup result) }
 {
-    if !extents_map::scan::is_lawful(map) {
+    let Some(map) = LawfulMap::of(map) else {
         return Err(Refusal::State);
-    }
-    lawful::lookup(map, byte)
+    };
+    lawful::lookup(map.numbers, byte)
 }
 
 // Publishes a view.

@@ -1,8 +1,8 @@
 -- Pieces listed from the first byte on: one is in hand while the value stays, and is put when the value changes.
-use Rattle.std.proofs.Common.{ℕ, suc, ◌+◌, ◌*◌, ◌-◌, ◌/◌, ◌≤◌, ◌<◌, min, add-zero, arith, ◌≡◌, refl, sym, ap, ◌∙◌, List, [], ◌∷◌, ◌++◌, append_assoc, append-nil, length, take, drop, length-append, take-append-drop, take_at, drop_at, drop-drop, le-leb}
+use Rattle.std.proofs.Common.{ℕ, suc, ◌+◌, ◌*◌, ◌-◌, ◌/◌, ◌≤◌, ◌<◌, min, add-zero, arith, ◌≡◌, refl, sym, ap, ◌∙◌, List, [], ◌∷◌, ◌++◌, append_assoc, append-nil, length, take, drop, length-append, take-append-drop, take_at, drop_at, drop-drop}
 use native.Mathlib.Decide.{dec_lt, ℕ_discrete}
 use Rattle.rows.specs.Limits.{OFFSET_MAX}
-use Rattle.rows.specs.Rows.{with_group}
+use borrow.Rule.Slice.PartMut.{put_mid}
 use Rattle.extents_meaning.specs.Cells.{Bytes, number_in}
 use Rattle.extents_meaning.specs.Runs.{Run}
 use Rattle.extents_meaning.specs.Maps.{threes, bytes_of, with_part, listed_in}
@@ -49,18 +49,18 @@ module _ {xs : List ℕ} {hand : Piece} {x value : ℕ} where
       }
 
   -- another value puts the one in hand
-  pub turn-put : (hand.value ≡ 0 → ⊥) → (value ≡ hand.value → ⊥) → hand.count * 3 + 3 ≤ length xs → {ys : List ℕ} →
-      ys ≡ with_group 3 hand.count (hand.start ∷ ((x - hand.start) ∷ ((hand.value - 1) ∷ []))) xs →
-      Turned xs hand x value (piece_of (hand.count + 1) x value) ys
-  unfolding threes with_group
-  turn-put z n h e =
+  pub turn-put : (hand.value ≡ 0 → ⊥) → (value ≡ hand.value → ⊥) → {ys : List ℕ} → ys ≡ hand.start ∷ ((x - hand.start) ∷ ((hand.value - 1) ∷ [])) →
+      (let k = hand.count * 3 in Turned xs hand x value (piece_of (hand.count + 1) x value) (put_mid k (k + 3 - k) xs ys))
+  unfolding threes
+  turn-put z n {ys} e =
       let k = hand.count * 3 in
       let ns = hand.start ∷ ((x - hand.start) ∷ ((hand.value - 1) ∷ [])) in
+      let d : k + (k + 3 - k) ≡ k + 3 = omega arith in
       record {
         same = λ l q. absurd (n q);
         other = λ f.
             rw (put_some hand.start x hand.value [] z)
-            (refl, e ∙ rw (le-leb (k + 3) (length xs) h) (sym (append_assoc (take k xs) ns (drop (k + 3) xs))));
+            (refl, (λ t. take k xs ++ (e t ++ (drop-drop (k + 3 - k) k xs ∙ (λ v. drop (d v) xs)) t)) ∙ sym (append_assoc (take k xs) ns (drop (k + 3) xs)));
       }
 
 -- ---- A listing

@@ -1,9 +1,7 @@
 -- `extents::lookup` meets its contract.
-use Rattle.std.proofs.Common.{arith, sym, ◌∙◌}
-use Rattle.extents.proofs.Entering.{lookup_unlawful}
+use Rattle.extents.proofs.Entering.{untrue, lookup_unlawful}
+use Rattle.std.proofs.Common.{arith}
 use Rattle.extents.proofs.lookup.Goals as goal
 
-pub returns-then-not-is_lawful : goal.returns-then-not-is_lawful
-returns-then-not-is_lawful c =
-    let a = c.args in
-    lookup_unlawful a.map.now a.byte (omega arith) (sym c.is_lawful.ensures ∙ c.if-not-is_lawful.true)
+pub returns-in_default : goal.returns-in_default
+returns-in_default c = let a = c.args in lookup_unlawful a.map.now a.byte (omega arith) (untrue _ c.in_default.ensures.tested.1)

@@ -6,6 +6,4 @@ pub returns-then-hand-eq0 : goal.returns-then-hand-eq0
 returns-then-hand-eq0 c = turn-none c.if-hand-eq0.true
 
 pub returns : goal.returns
-returns c =
-    let room = c.requires.room c.if-hand-eq0.false c.if-value-hand.false in
-    turn-put c.if-hand-eq0.false c.if-value-hand.false room c.put_group.ensures
+returns c = turn-put c.if-hand-eq0.false c.if-value-hand.false c.copy_from_slice.ensures.after
