@@ -4,7 +4,6 @@ use lib.ListN.{length-replicate}
 use Rattle.rows.specs.Limits.{MODELS, ROWS}
 use Rattle.csv_records.specs.Reading.{records}
 use Rattle.rows.specs.declared.row.Row.{Row}
-use Rattle.std.specs.Result.{IsErrAnd}
 use Rattle.rows.specs.Refusals.{number_of}
 use Rattle.rows.specs.declared.refusal.Refusal.{Refusal}
 use Rattle.rows.specs.declared.refusal.Refused as refusal
@@ -25,8 +24,7 @@ use Rattle.races.proofs.Held.{rows-held, held-passes, held_found, held-counts, h
 use Rattle.races_meaning.specs.Lists.{race_pairs}
 use Rattle.races.specs.Listing as listing
 use Rattle.races.specs.Listing.{list_questions, list_left, told_listed}
-use Rattle.checker.specs.declared.Judged as judged
-use Rattle.checker.specs.Judging.{Refused, told_rows, judged_rows, Decides}
+use Rattle.checker.specs.Judging.{told_rows, judged_rows, Decides}
 use Rattle.checker.specs.Listing.{Lists}
 
 -- ---- The questions of the verdict
@@ -60,30 +58,6 @@ module _ (text : List ℕ) (header model R P limit : ℕ) (xs us : List ℕ) whe
     -- the outcome is this refusal
     pub no_trace : outcome ≡ refused (number_of e.refusal) e.place
     no_trace = refused-told outcome l.answered
-
-    -- the whole call answers a refusal of the trace
-    pub decides-refused : (answer : Result judged.Judged refusal.Refused) → IsErrAnd answer (λ r. r ≡ e) → Decides model P outcome answer xs ys us vs
-    decides-refused (Ok j) q = absurd q
-    decides-refused (Err r) q =
-        rw no_trace
-        (record {
-          answered = ap (λ (r : refusal.Refused). Refused (number_of r.refusal) r.place) q;
-          rows_after = l.rows_after ∙ ap (λ (o : Outcome). rows_left o xs) no_trace;
-          counts_after = l.counts_after ∙ ap (λ (o : Outcome). counts_left o us) no_trace;
-        })
-
-    -- the call that lists every race answers a refusal of the trace
-    pub lists_refused : (list : List ℕ) (answer : Result ℕ refusal.Refused) → IsErrAnd answer (λ r. r ≡ e) →
-        Lists model P outcome answer xs ys us vs list list
-    lists_refused list (Ok n) q = absurd q
-    lists_refused list (Err r) q =
-        rw no_trace
-        (record {
-          answered = ap (λ (r : refusal.Refused). listing.Refused (number_of r.refusal) r.place) q;
-          rows_after = l.rows_after ∙ ap (λ (o : Outcome). rows_left o xs) no_trace;
-          counts_after = l.counts_after ∙ ap (λ (o : Outcome). counts_left o us) no_trace;
-          list_after = refl;
-        })
 
   module _ {ys vs : List ℕ} {n : ℕ} (l : Leaves outcome (Ok n) xs ys us vs) where
     -- the accepted rows

@@ -1,5 +1,5 @@
 -- The whole call: an accepted join passes the questions of the verdict, and the verdict's answer is the call's.
-use Rattle.std.proofs.Common.{Option, None, Some, Result, Ok, Err, ℕ, ◌*◌, ◌-◌, ◌≤◌, ◌<◌, arith, mul-le-mul_right, ◌≡◌, refl, sym, ap, ◌∙◌, List, ◌++◌, length, replicate}
+use Rattle.std.proofs.Common.{Option, None, Some, Ok, Err, ℕ, ◌*◌, ◌-◌, ◌≤◌, ◌<◌, arith, mul-le-mul_right, ◌≡◌, refl, sym, ap, ◌∙◌, List, ◌++◌, length, replicate}
 use lib.ListN.{length-replicate}
 use Rattle.rows.specs.Limits.{ROWS}
 use Rattle.rows.specs.Questions.{first_no}
@@ -9,24 +9,19 @@ use Rattle.trace.proofs.Sounds.{sound_row}
 use Rattle.happens_before.specs.Order.{counts_of}
 use Rattle.happens_before.specs.Filling.{filled_left}
 use Rattle.races_meaning.specs.Races.{Verdict, free, racing, verdict_of}
-use Rattle.std.specs.Result.{IsErrAnd}
-use Rattle.rows.specs.Refusals.{number_of}
 use Rattle.rows.specs.declared.refusal.Refusal.{Refusal}
 use Rattle.races.specs.declared.Race as race
 use Rattle.races.specs.Answers.{Found, told_found, judge_questions, verdict_found, found_of}
 use Rattle.races.proofs.Held.{held_found, held-counts}
 use Rattle.join_meaning.specs.Files.{Entry, rows_of}
-use Rattle.join_meaning.specs.Joining.{Joining, refused, joined, join_traces}
+use Rattle.join_meaning.specs.Joining.{Joining, joined, join_traces}
 use Rattle.join_meaning.proofs.Accepted.{Allowed, accepted-allowed, accepted-sound}
 use Rattle.join_meaning.proofs.Merging.{rows-length}
 use Rattle.join.specs.declared.JoinCall.{JoinCall}
-use Rattle.join.specs.Answers.{told_file}
-use Rattle.join.specs.declared.JoinRefused.{JoinRefused}
 use Rattle.join.specs.Leaving.{rows_left, counts_left, parts_left, Leaves}
-use Rattle.join.proofs.Whole.{no_told, yes-told}
-use Rattle.checker.specs.declared.Judged.{Judged}
+use Rattle.join.proofs.Whole.{yes-told}
 use Rattle.checker.proofs.Verdicts.{never_refused}
-use Rattle.join_checker.specs.Judging.{Refused, told_rows, judged_rows, Decides}
+use Rattle.join_checker.specs.Judging.{told_rows, judged_rows, Decides}
 
 -- The first race with a row count says what the verdict says.
 judged-found : (n : ℕ) (r : Option race.Race) (v : Verdict) → told_found (Ok r) ≡ verdict_found v → told_rows n r ≡ judged_rows n v
@@ -40,24 +35,6 @@ module _ (first second : List ℕ) (call : JoinCall) (xs us ps : List ℕ) where
   abbrev pub outcome : Joining
   outcome =
       join_traces first second call.first_header call.second_header call.model call.row_limit call.process_limit (length xs) (length us) (length ps)
-
-  module _ {e : JoinRefused} {ys vs qs : List ℕ} (l : Leaves outcome (Err e) xs ys us vs ps qs) where
-    -- The outcome is this refusal.
-    no_join : outcome ≡ refused (number_of e.refusal) e.place (told_file e.file)
-    no_join = no_told outcome l.answered
-
-    -- The whole call answers a refusal of the join.
-    pub decides-refused : (answer : Result Judged JoinRefused) → IsErrAnd answer (λ r. r ≡ e) →
-        Decides call.model call.process_limit outcome answer xs ys us vs ps qs
-    decides-refused (Ok j) q = absurd q
-    decides-refused (Err r) q =
-        rw no_join
-        (record {
-          answered = ap (λ (r : JoinRefused). Refused (number_of r.refusal) r.place (told_file r.file)) q;
-          rows_after = l.rows_after ∙ ap (λ (o : Joining). rows_left o xs) no_join;
-          counts_after = l.counts_after ∙ ap (λ (o : Joining). counts_left o us) no_join;
-          parts_after = l.parts_after ∙ ap (λ (o : Joining). parts_left o ps) no_join;
-        })
 
   module _ {ys vs qs : List ℕ} {n : ℕ} (l : Leaves outcome (Ok n) xs ys us vs ps qs) where
     -- The joined entries.

@@ -95,11 +95,12 @@ module _ {n P model : ℕ} {xs counts : List ℕ} (g : Given n P model xs counts
     pub no-publish : {b : Bool} → b ≡ publishes model (get_or xs (c * 6 + 1) 0) → b ≡ false → false ≡ noted rows model y o c
     no-publish e q = rw (kind_at hc, sym e ∙ q)
 
-    module _ {b : Bool} (e : b ≡ publishes model (get_or xs (c * 6 + 1) 0)) (q : b ≡ true) where
-      -- A row of another file is not noted.
-      pub other-file : (get_or xs (y * 6 + 2) 0 ≡ get_or xs (c * 6 + 2) 0 → ⊥) → false ≡ noted rows model y o c
-      other-file f = rw (kind_at hc, sym e ∙ q, file-at hy, file-at hc, ne_eqb (get_or xs (y * 6 + 2) 0) (get_or xs (c * 6 + 2) 0) f)
+    -- A row of another file is not noted.
+    pub other-file : (get_or xs (y * 6 + 2) 0 ≡ get_or xs (c * 6 + 2) 0 → ⊥) → false ≡ noted rows model y o c
+    other-file f =
+        sym (rw (file-at hy, file-at hc, ne_eqb (get_or xs (y * 6 + 2) 0) (get_or xs (c * 6 + 2) 0) f) (and-false (publishes model (row_at rows c).kind)))
 
+    module _ {b : Bool} (e : b ≡ publishes model (get_or xs (c * 6 + 1) 0)) (q : b ≡ true) where
       -- Of a row that publishes the file, the counts decide.
       pub by-counts : {r : Bool} → get_or xs (y * 6 + 2) 0 ≡ get_or xs (c * 6 + 2) 0 →
           r ≡ leb (count rows (row_at rows c).process c) (count rows (row_at rows c).process o) → r ≡ noted rows model y o c

@@ -356,10 +356,10 @@ impl<'a> Later<'a> {
         if rows[at + rows::KIND_AT] <= rows::WRITE {
             return false;
         }
-        if !models::is_publish(self.search.model, rows[at + rows::KIND_AT]) {
+        if rows[to + rows::FILE_AT] != rows[at + rows::FILE_AT] {
             return false;
         }
-        if rows[to + rows::FILE_AT] != rows[at + rows::FILE_AT] {
+        if !models::is_publish(self.search.model, rows[at + rows::KIND_AT]) {
             return false;
         }
         self.search.counts_before(rows[at] as usize, c, refresh)

@@ -1,12 +1,6 @@
 -- `checker::judge` meets its contract.
-use Rattle.checker.proofs.Verdicts.{decides-refused, decides, never_err}
+use Rattle.checker.proofs.Verdicts.{decides, never_err}
 use Rattle.checker.proofs.judge.Goals as goal
-
-pub returns-in_err-n : goal.returns-in_err-n
-returns-in_err-n c =
-    let a = c.args in
-    decides-refused a.text.now a.call.header a.call.model a.call.row_limit a.call.process_limit a.call.byte_limit a.rows.now a.counts.now
-    c.in_err-n.ensures _ c.from_residual.ensures.1
 
 pub returns-in_err-race : goal.returns-in_err-race
 returns-in_err-race c =

@@ -1,12 +1,6 @@
 -- `checker::list_races` meets its contract.
-use Rattle.checker.proofs.Verdicts.{lists_refused, lists}
+use Rattle.checker.proofs.Verdicts.{lists}
 use Rattle.checker.proofs.list_races.Goals as goal
-
-pub returns-in_err-n : goal.returns-in_err-n
-returns-in_err-n c =
-    let a = c.args in
-    lists_refused a.text.now a.call.header a.call.model a.call.row_limit a.call.process_limit a.call.byte_limit a.rows.now a.counts.now
-    c.in_err-n.ensures a.list.now _ c.from_residual.ensures.1
 
 pub returns : goal.returns
 returns c =

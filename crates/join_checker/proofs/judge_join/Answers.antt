@@ -1,11 +1,6 @@
 -- `join_checker::judge_join` meets its contract.
-use Rattle.join_checker.proofs.Verdicts.{decides-refused, decides, never_err}
+use Rattle.join_checker.proofs.Verdicts.{decides, never_err}
 use Rattle.join_checker.proofs.judge_join.Goals as goal
-
-pub returns-in_err-n : goal.returns-in_err-n
-returns-in_err-n c =
-    let a = c.args in
-    decides-refused a.first.now a.second.now a.call a.rows.now a.counts.now a.parts.now c.in_err-n.ensures _ c.from_residual.ensures.1
 
 pub returns-in_err-race : goal.returns-in_err-race
 returns-in_err-race c =

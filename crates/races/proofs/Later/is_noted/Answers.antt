@@ -17,7 +17,7 @@ returns-then-not-is_publish c =
 pub returns-then-rows-to : goal.returns-then-rows-to
 returns-then-rows-to c =
     let s = c.args.self in
-    λ h q. other-file s.search.given (told_row s.refresh - 1) s.is_row c.requires c.is_publish.ensures c.if-not-is_publish.false c.if-rows-to.true
+    λ h q. other-file s.search.given (told_row s.refresh - 1) s.is_row c.requires c.if-rows-to.true
 
 pub counts_before-requires-clause-second : goal.counts_before-requires-clause-second
 counts_before-requires-clause-second c = let s = c.args.self in refresh_low _ _ s.refresh_is s.is_row c.in-Some.is
