@@ -1,5 +1,7 @@
 -- What a field is, by what the code found of it.
 use Rattle.std.proofs.Common.{ℕ, ◌+◌, ◌-◌, ◌≡◌, sym, ap, ◌∙◌, Bool, true, false, cond, List, drop}
+use Rattle.std.proofs.Common.{◌≤◌, arith, length, length-drop}
+use Rattle.csv_field.proofs.Runs.{closed_in}
 use native.Mathlib.Nat.{add-sub_cancel_left}
 use lib.ListN.{get_or}
 use lib.Dec.{eqb}
@@ -27,6 +29,10 @@ module _ (s : List ℕ) (cut : Bool) (at : ℕ) where
   quoted-closed {n} {d} e f =
       (λ i. record { span = record { start = at; len = n; doubled = d }; end = at + n + 1; stop = f i }) ∙ sym (ap (quoted_to s cut at) e)
 
+  -- the closing quote stands within the bytes
+  pub closed-room : {n : ℕ} {d : Bool} → quotes 0 false (drop at s) ≡ Closed n d → at + n + 1 ≤ length s
+  closed-room e = omega (arith, closed_in (drop at s) 0 false _ _ e, length-drop at s)
+
   -- a field that starts with a quote is a field in quotes
   pub field-quoted : eqb (get_or s at 0) DQUOTE ≡ true → field_at s cut at ≡ quoted_at s cut (at + 1)
   unfolding field_at
@@ -43,3 +49,6 @@ module _ (s : List ℕ) (cut : Bool) (at : ℕ) where
         end = f i;
         stop = (g ∙ ap (λ (k : ℕ). stop_of cut (drop k s)) f) i;
       })
+
+-- a field by what was found of it, for a search
+pub ruleset fields = (quoted-broken, quoted-open, quoted-closed, closed-room, field-quoted, field-bare)

@@ -14,7 +14,8 @@ pub struct Span {
 }
 
 // The bytes after an opening quote: they hold no closing quote; a byte that quotes may not hold comes first; or the closing quote stands
-// after `.0` bytes, and `.1` says that two quotes side by side stand before it.
+// after `.0` bytes, and `.1` says that two quotes side by side stand before it. An enum of its own: as a Result of an Option the two ways to have no
+// closing quote would lose their names.
 #[derive(Clone, Copy, Debug, PartialEq, Eq, Hash)]
 pub enum Quotes {
     Unclosed,
@@ -150,6 +151,7 @@ fn stop_at(s: &[u8], cut: bool, at: usize) -> Stop
 }
 
 // Finds the field at `at`. `cut` says that the text goes on behind s, past the limit.
+#[tactic(auto, using(crate::proofs::ScannedFields::fields))]
 pub fn field_at(s: &[u8], cut: bool, at: usize) -> ScannedField
     ensures { result ≡ field_at s.now cut at }
 {
@@ -167,6 +169,7 @@ pub fn field_at(s: &[u8], cut: bool, at: usize) -> ScannedField
 }
 
 // Finds a field in quotes; `at` is the byte after the opening quote.
+#[tactic(auto, using(crate::proofs::ScannedFields::fields))]
 fn quoted_field(s: &[u8], cut: bool, at: usize) -> ScannedField
     ensures { result ≡ quoted_at s.now cut at }
 {

@@ -36,6 +36,7 @@ pub fn read_file(
         byte_limit: text.len(),
     };
     ask_file(call, rows.len())?;
+    // Cleared by two arms, as `trace::check_trace` does: one function for both is no plainer, since the clause of each speaks of its own slices.
     match read_text(text, call, rows) {
         Ok(n) => {
             rows[n as usize * rows::FIELDS..].fill(0);

@@ -78,7 +78,8 @@ fn filled_as_used(text: &[u8], spans: [Span; 6], used: Used) -> bool
         && as_used(text, spans[rows::MESSAGE_AT], used.message)
 }
 
-// Puts the questions 8 to 11 to a record of six fields.
+// Puts the questions 8 to 11 to a record of six fields. The text and the spans stay two parameters: a struct of both is no plainer, since every
+// clause would name the two through it.
 pub fn judge_fields(text: &[u8], spans: [Span; 6], process_limit: u32) -> Result<Row, Refusal>
     ensures { told_row result ≡ judged_fields process_limit (fields_of text.now spans) }
 {
