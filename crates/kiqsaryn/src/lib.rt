@@ -13,11 +13,8 @@ ghost use Rattle.join_meaning.specs.Joining.{join_traces};
 ghost use Rattle.writer.specs.Writing.{write_trace};
 ghost use Rattle.kiqsaryn.specs.Packing.{Gives, JudgeGives, FileGives, JoinGives, Fills, Judges, ListGives, RowsListGives, NO_MODEL, header_from, row_from, Makes, StepGives, ReplayGives, WriteGives, LookupGives};
 
-use extents::Answer;
-use happens_before::Filled;
 use join::JoinCall;
-use kiqsaryn_packing::UPPER;
-use machine::Made;
+use kiqsaryn_packing::{Packed, number_or_zero};
 use machine_state::Machine;
 use rows::Row;
 use trace::Call;
@@ -49,8 +46,7 @@ pub extern "C" fn kiqsaryn_check_trace(
         process_limit,
         byte_limit,
     };
-    let answer = trace::check_trace(text, call, rows, counts);
-    kiqsaryn_packing::pack_checked(answer)
+    trace::check_trace(text, call, rows, counts).pack()
 }
 
 // Makes the whole call on a trace, as checker::judge does: its rows, their counts and the verdict under the model. The answer is four words of 16
@@ -78,8 +74,7 @@ pub extern "C" fn kiqsaryn_judge(
         process_limit,
         byte_limit,
     };
-    let answer = checker::judge(text, call, rows, counts);
-    kiqsaryn_packing::pack_judged(answer)
+    checker::judge(text, call, rows, counts).pack()
 }
 
 // Lists every race of a trace under the model, as checker::list_races does: its rows, their counts, and in the list two numbers for each race. The
@@ -107,8 +102,7 @@ pub extern "C" fn kiqsaryn_list_races(
         process_limit,
         byte_limit,
     };
-    let answer = checker::list_races(text, call, rows, counts, list);
-    kiqsaryn_packing::pack_listed(answer)
+    checker::list_races(text, call, rows, counts, list).pack()
 }
 
 // Reads one file of a join by itself, as join_reading::read_file does: the questions 1 to 11. The answer is the row count of an accepted file, below
@@ -123,8 +117,7 @@ pub extern "C" fn kiqsaryn_read_file(
 ) -> u64
     ensures { FileGives (check_file text.now header row_limit process_limit (length rows.old)) result rows.old rows.new }
 {
-    let answer = join_reading::read_file(text, header, row_limit, process_limit, rows);
-    kiqsaryn_packing::pack_checked(answer)
+    join_reading::read_file(text, header, row_limit, process_limit, rows).pack()
 }
 
 // Makes the whole call on the traces of two controllers, as join_checker::judge_join does: the joined rows, their counts, for each row three numbers in
@@ -156,8 +149,7 @@ pub extern "C" fn kiqsaryn_join<'a>(
         row_limit,
         process_limit,
     };
-    let answer = join_checker::judge_join(first, second, call, rows, counts, parts);
-    kiqsaryn_packing::pack_join(answer)
+    join_checker::judge_join(first, second, call, rows, counts, parts).pack()
 }
 
 // Fills the happens-before counts of the first n rows, as happens_before::fill_counts does. The answer is 0, and the number of a refusal.
@@ -171,10 +163,7 @@ pub extern "C" fn kiqsaryn_fill_counts(
     ensures { Fills (fill_questions n process_limit rows.now (length counts.old)) n process_limit result
         rows.now counts.old counts.new }
 {
-    match happens_before::fill_counts(rows, n, process_limit, counts) {
-        Filled::Done => 0,
-        Filled::Refused(number) => number,
-    }
+    number_or_zero(happens_before::fill_counts(rows, n, process_limit, counts))
 }
 
 // Answers the verdict on the first n rows under a model, as races::verdict does. The answer is 0 for a free trace, the earlier row's number times
@@ -190,8 +179,7 @@ pub extern "C" fn kiqsaryn_verdict(
     ensures { Judges (judge_questions n process_limit model rows.now (length counts.old)) n process_limit model result
         rows.now counts.old counts.new }
 {
-    let answer = races::verdict(rows, n, process_limit, model, counts);
-    kiqsaryn_packing::pack_found(answer)
+    races::verdict(rows, n, process_limit, model, counts).pack()
 }
 
 // Lists every race of the first n rows under a model, as races::list_races does. The answer is the number of pairs, below 2^32, and of a refusal its
@@ -208,8 +196,7 @@ pub extern "C" fn kiqsaryn_races(
     ensures { RowsListGives n process_limit model result
         rows.now counts.old counts.new list.old list.new }
 {
-    let answer = races::list_races(rows, n, process_limit, model, counts, list);
-    kiqsaryn_packing::pack_listed(answer)
+    races::list_races(rows, n, process_limit, model, counts, list).pack()
 }
 
 // Puts what the program verdict prints of a trace with header at the front of a slice of 256 bytes or more, as checker::report does. The
@@ -234,10 +221,8 @@ pub extern "C" fn kiqsaryn_make(
     ensures { Makes (making_questions (header_from model process_limit file map_space) (length maps.old)) (4 * map_space * (process_limit + 1)) result
         maps.old maps.new }
 {
-    match machine::make(Machine::fresh(model, process_limit, file, map_space), maps) {
-        Made::Made => 0,
-        Made::Refused(number) => number,
-    }
+    let header = Machine::fresh(model, process_limit, file, map_space);
+    number_or_zero(machine::make(header, maps))
 }
 
 // Makes a plain file over a slice, as machine::make_plain does. The answer is 0, and the number of a refusal.
@@ -251,13 +236,8 @@ pub extern "C" fn kiqsaryn_make_plain(
     ensures { Makes (plain_making_questions (header_from NO_MODEL process_limit file map_space) (length map.old)) (4 * map_space) result
         map.old map.new }
 {
-    match machine::make_plain(
-        Machine::fresh(NO_MODEL, process_limit, file, map_space),
-        map,
-    ) {
-        Made::Made => 0,
-        Made::Refused(number) => number,
-    }
+    let header = Machine::fresh(NO_MODEL, process_limit, file, map_space);
+    number_or_zero(machine::make_plain(header, map))
 }
 
 // Puts a row to a machine under a row number, as machine::step does. The answer is the count of pieces, below 2^32, 0 for a row that is no
@@ -281,24 +261,15 @@ pub extern "C" fn kiqsaryn_step(
         result maps.new out.new }
 {
     let row = Row {
-        process: process,
-        kind: kind,
+        process,
+        kind,
         file: row_file,
         offset: offset,
         length: size,
         message: 0,
     };
-    match machine::step(
-        Machine::fresh(model, process_limit, file, map_space),
-        maps,
-        row,
-        number,
-        out,
-    ) {
-        Answer::Done => 0,
-        Answer::Listed(count) => count as u64,
-        Answer::Refused(k) => k as u64 * UPPER,
-    }
+    let header = Machine::fresh(model, process_limit, file, map_space);
+    machine::step(header, maps, row, number, out).pack()
 }
 
 // Puts a row to a plain file under a row number, as machine::step_plain does. The answer is the count of pieces, below 2^32, 0 for a row that
@@ -321,24 +292,15 @@ pub extern "C" fn kiqsaryn_step_plain(
         result map.new out.new }
 {
     let row = Row {
-        process: process,
-        kind: kind,
+        process,
+        kind,
         file: row_file,
         offset: offset,
         length: size,
         message: 0,
     };
-    match machine::step_plain(
-        Machine::fresh(NO_MODEL, process_limit, file, map_space),
-        map,
-        row,
-        number,
-        out,
-    ) {
-        Answer::Done => 0,
-        Answer::Listed(count) => count as u64,
-        Answer::Refused(k) => k as u64 * UPPER,
-    }
+    let header = Machine::fresh(NO_MODEL, process_limit, file, map_space);
+    machine::step_plain(header, map, row, number, out).pack()
 }
 
 // Replays the rows behind the first ones, up to row n, as machine::replay does. The answer is how many rows the replay has gone through, those
@@ -360,8 +322,7 @@ pub extern "C" fn kiqsaryn_replay(
         result maps.new counts.new out.new }
 {
     let header = Machine::fresh(model, process_limit, file, map_space);
-    let r = machine::replay(header, maps, rows, first, n, counts, out);
-    r.refusal as u64 * UPPER + r.rows as u64
+    machine::replay(header, maps, rows, first, n, counts, out).pack()
 }
 
 // Replays the rows behind the first ones, up to row n, as machine::replay_plain does. The answer is how many rows the replay has gone through,
@@ -382,8 +343,7 @@ pub extern "C" fn kiqsaryn_replay_plain(
         result map.new counts.new out.new }
 {
     let header = Machine::fresh(NO_MODEL, process_limit, file, map_space);
-    let r = machine::replay_plain(header, map, rows, first, n, counts, out);
-    r.refusal as u64 * UPPER + r.rows as u64
+    machine::replay_plain(header, map, rows, first, n, counts, out).pack()
 }
 
 // Writes the first n rows as a trace from the place on, as writer::write_trace does. The answer is the text's length, below 2^32, and of a refusal
@@ -400,8 +360,7 @@ pub extern "C" fn kiqsaryn_write(
     ensures { WriteGives (write_trace rows.now n header process_limit (length out.old) place)
         result place out.old out.new }
 {
-    let answer = writer::write_trace(rows, n, header, process_limit, out, place);
-    kiqsaryn_packing::pack_written(answer)
+    writer::write_trace(rows, n, header, process_limit, out, place).pack()
 }
 
 // Looks a byte up in a map of pieces, as extents::lookup does. The answer is the first byte behind it where the row number or the mark differs, plus
@@ -410,6 +369,5 @@ pub extern "C" fn kiqsaryn_write(
 pub extern "C" fn kiqsaryn_lookup(map: &[u32], byte: u32) -> u64
     ensures { LookupGives map.now byte result }
 {
-    let answer = extents::lookup(map, byte);
-    kiqsaryn_packing::pack_lookup(answer)
+    extents::lookup(map, byte).pack()
 }

@@ -7,35 +7,31 @@ use Rattle.rows.specs.declared.row.Row.{Row}
 use Rattle.rows.proofs.Slices.{length-rows}
 use Rattle.races_meaning.specs.Races.{Verdict, free, racing, verdict_of}
 use Rattle.races_meaning.proofs.Verdicts.{racing-within}
-use Rattle.races.specs.declared.Found.{Found}
-use Rattle.races.specs.declared.Found.TheVariants as found
-use Rattle.races.specs.Answers.{judge_questions, verdict_found, found_of}
+use Rattle.races.specs.Answers.{Found, judge_questions, verdict_found, found_of}
+use Rattle.races.specs.Answers as found
 use Rattle.races_meaning.specs.Lists.{race_pairs}
-use Rattle.races.specs.declared.Listed.{Listed}
-use Rattle.races.specs.declared.Listed.TheVariants as listed
-use Rattle.races.specs.Listing.{list_questions, listed_of}
+use Rattle.races.specs.Listing.{Listed, list_questions, listed_of}
+use Rattle.races.specs.Listing as listed
 use Rattle.races.proofs.Whole.{few-judged, few-listed, pairs-in, square_most}
 use Rattle.trace.specs.Questions.{check_trace}
-use Rattle.checker.specs.declared.Judged.{Judged}
-use Rattle.checker.specs.declared.Judged.TheVariants as judged
-use Rattle.checker.specs.Judging.{judged_of}
+use Rattle.checker.specs.Judging.{Judged, judged_of}
+use Rattle.checker.specs.Judging as judged
 use Rattle.checker.proofs.Sizes as judging
 use Rattle.checker.proofs.Sizes.{judged-small, SmallList, listed_small}
 use Rattle.checker.specs.Listing as listing
 use Rattle.extents.specs.declared.Stretch.{Stretch}
-use Rattle.extents.specs.declared.LookupAnswer.{LookupAnswer}
-use Rattle.extents.specs.declared.LookupAnswer.TheVariants as looked
+use Rattle.extents.specs.LookupAnswers.{LookupAnswer}
+use Rattle.extents.specs.LookupAnswers as looked
 use Rattle.extents.specs.Entries.{looked_up}
 use Rattle.extents.proofs.Sizes as lookup
 use Rattle.extents.proofs.Sizes.{lookup_small}
 use Rattle.join_meaning.specs.Joining.{join_traces}
-use Rattle.join_checker.specs.declared.JudgedJoin.{JudgedJoin}
-use Rattle.join_checker.specs.declared.JudgedJoin.TheVariants as join
-use Rattle.join_checker.specs.Judging as judging-joins
+use Rattle.join_checker.specs.Judging.{JudgedJoin}
+use Rattle.join_checker.specs.Judging as join
 use Rattle.join_checker.proofs.Sizes as joining
 use Rattle.join_checker.proofs.Sizes.{join-small}
-use Rattle.writer.specs.declared.Written.{Written}
-use Rattle.writer.specs.declared.Written.TheVariants as written
+use Rattle.writer.specs.Answers.{Written}
+use Rattle.writer.specs.Answers as written
 use Rattle.writer.specs.Writing.{write_trace, written_of}
 use Rattle.writer.proofs.Sizes.{Small, written_small}
 use Rattle.kiqsaryn_packing.specs.Packing.{UPPER, WORD, WORD_3, WORD_4, packed_judged, packed_words, FitsWords, unpacked_judged, packed_join, packed_join_words, FitsJoinWords, unpacked_join, packed_found, unpacked_found, packed_listed, unpacked_listed, packed_written, unpacked_written, MARKS, packed_lookup, packed_lookup_words, stretch_in, unpacked_lookup}
@@ -156,8 +152,8 @@ join-read_back (join.Refused number place file) s =
 
 -- Every answer of the whole call on two files is read back from its number.
 pub join-back : (first second : List ℕ) (h₁ h₂ model R P a b c : ℕ) →
-    unpacked_join (packed_join (judging-joins.judged_of model (join_traces first second h₁ h₂ model R P a b c)))
-    ≡ judging-joins.judged_of model (join_traces first second h₁ h₂ model R P a b c)
+    unpacked_join (packed_join (join.judged_of model (join_traces first second h₁ h₂ model R P a b c)))
+    ≡ join.judged_of model (join_traces first second h₁ h₂ model R P a b c)
 join-back first second h₁ h₂ model R P a b c = join-read_back _ (join-small first second h₁ h₂ model R P a b c)
 
 -- ---- Verdicts

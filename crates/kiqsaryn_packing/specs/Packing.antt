@@ -1,21 +1,31 @@
 -- How the answers of a check, of a whole call on one trace or on two files, of a verdict, of a list of races, of writing and of a lookup are packed
 -- into one number each, and read back.
-use Rattle.std.specs.Prelude.{ℕ, ◌+◌, ◌*◌, ◌/◌, ◌%◌, ◌<◌, cond, eqb}
-use Rattle.races.specs.declared.Found.{Found}
-use Rattle.races.specs.declared.Found.TheVariants as found
-use Rattle.races.specs.declared.Listed.{Listed}
-use Rattle.races.specs.declared.Listed.TheVariants as listed
-use Rattle.trace.specs.declared.Checked.{Checked}
-use Rattle.trace.specs.declared.Checked.TheVariants as checked
-use Rattle.checker.specs.declared.Judged.{Judged}
-use Rattle.checker.specs.declared.Judged.TheVariants as judged
+use Rattle.std.specs.Prelude.{ℕ, ◌+◌, ◌*◌, ◌/◌, ◌%◌, ◌<◌, cond, eqb, Result, Ok, Err, Option, None, Some}
+use Rattle.rows.specs.Refusals.{number_of}
+use Rattle.rows.specs.declared.refusal.Refusal.{Refusal}
+use Rattle.rows.specs.declared.refusal.Refused as refusal
+use Rattle.races.specs.declared.Race as race
+use Rattle.races.specs.Answers.{Found, told_found}
+use Rattle.races.specs.Answers as found
+use Rattle.races.specs.Listing.{Listed}
+use Rattle.races.specs.Listing as listed
+use Rattle.trace.specs.Questions.{Checked, told}
+use Rattle.trace.specs.Questions as checked
+use Rattle.checker.specs.Judging.{Judged, told_judged}
+use Rattle.checker.specs.Judging as judged
+use Rattle.checker.specs.declared.Judged as checking
 use Rattle.extents.specs.declared.Stretch.{Stretch}
-use Rattle.extents.specs.declared.LookupAnswer.{LookupAnswer}
-use Rattle.extents.specs.declared.LookupAnswer.TheVariants as looked
-use Rattle.join_checker.specs.declared.JudgedJoin.{JudgedJoin}
-use Rattle.join_checker.specs.declared.JudgedJoin.TheVariants as join
-use Rattle.writer.specs.declared.Written as writer
-use Rattle.writer.specs.declared.Written.TheVariants as written
+use Rattle.extents.specs.Answers as answers
+use Rattle.extents.specs.LookupAnswers.{LookupAnswer, told_lookup}
+use Rattle.extents.specs.LookupAnswers as looked
+use Rattle.join.specs.declared.JoinRefused.{JoinRefused}
+use Rattle.join_checker.specs.Judging.{JudgedJoin}
+use Rattle.join_checker.specs.Judging as join
+use Rattle.machine_state.specs.Answers.{told_step}
+use Rattle.machine_state.specs.declared.files.Replayed.{Replayed}
+use Rattle.machine_state.specs.Replays.{told_end}
+use Rattle.writer.specs.Answers as written
+use Rattle.writer.specs.Answers.{told_written}
 
 -- The factor of the upper half of a number, which has 32 bits.
 abbrev pub UPPER : ℕ
@@ -125,12 +135,12 @@ unpacked_listed answer =
     cond (eqb high 0) (listed.Pairs low) (listed.Refused high low)
 
 -- The answer of writing: the text's length, or the refusal's number in the upper half and its place in the lower.
-abbrev pub packed_written : writer.Written → ℕ
+abbrev pub packed_written : written.Written → ℕ
 packed_written (written.Length length) = length
 packed_written (written.Refused number place) = number * UPPER + place
 
 -- The answer of writing that such a number tells. The number of a refusal is not 0.
-abbrev pub unpacked_written : ℕ → writer.Written
+abbrev pub unpacked_written : ℕ → written.Written
 unpacked_written answer =
     let high = answer / UPPER in
     let low = answer % UPPER in
@@ -157,3 +167,53 @@ abbrev pub unpacked_lookup : ℕ → LookupAnswer
 unpacked_lookup answer =
     let number = answer / WORD_4 in
     cond (eqb number 0) (looked.Found (stretch_in (answer / UPPER) (answer % UPPER))) (looked.Refused number)
+
+-- ---- What the code packs
+
+-- A check's answer or a list's.
+abbrev pub packed_count : Result ℕ refusal.Refused → ℕ
+packed_count answer = packed (told answer)
+
+-- The answer of writing.
+abbrev pub packed_length : Result ℕ refusal.Refused → ℕ
+packed_length answer = packed_written (told_written answer)
+
+-- A trace's row count and its first race, if it has one.
+abbrev pub packed_race : ℕ → Option race.Race → ℕ
+packed_race n None = packed_words (judged.Free n)
+packed_race n (Some r) = packed_words (judged.Race n r.earlier r.later)
+
+-- The whole call's answer.
+abbrev pub packed_judgement : Result checking.Judged refusal.Refused → ℕ
+packed_judgement answer = packed_words (told_judged answer)
+
+-- The answer of the whole call on two files.
+abbrev pub packed_join_judgement : Result checking.Judged JoinRefused → ℕ
+packed_join_judgement answer = packed_join_words (join.told_judged answer)
+
+-- A verdict.
+abbrev pub packed_verdict : Result (Option race.Race) Refusal → ℕ
+packed_verdict answer = packed_found (told_found answer)
+
+-- A step's answer by what the code says of it: the count of pieces, 0 for a row that is no read, or a refusal's number in the upper half.
+abbrev pub packed_answer : answers.Answer → ℕ
+packed_answer answers.Done = 0
+packed_answer (answers.Listed count) = count
+packed_answer (answers.Refused number) = number * UPPER
+
+-- A step's answer.
+abbrev pub packed_pieces : Result (Option ℕ) Refusal → ℕ
+packed_pieces answer = packed_answer (told_step answer)
+
+-- The answer of a lookup.
+abbrev pub packed_stretch : Result Stretch Refusal → ℕ
+packed_stretch answer = packed_lookup_words (told_lookup answer)
+
+-- The number of a refusal, and 0 for none.
+abbrev pub number_if : Result Unit Refusal → ℕ
+number_if (Ok done) = 0
+number_if (Err refusal) = number_of refusal
+
+-- A replay's answer: how many rows it has gone through, and its refusal's number in the upper half, 0 for none.
+abbrev pub packed_replay : Replayed → ℕ
+packed_replay r = told_end r.refusal * UPPER + r.rows

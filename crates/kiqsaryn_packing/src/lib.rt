@@ -1,16 +1,17 @@
-// Packs the answers of a check, of a whole call on one trace or on two files, of a verdict, of a list of races, of writing and of a lookup into one
-// number each, for C.
+// Packs the answers of a check, of a whole call on one trace or on two files, of a verdict, of a list of races, of a machine, of writing and of a
+// lookup into one number each, for C.
 #![tactic(auto)]
 
-ghost use Rattle.std.specs.Prelude.{◌≡◌, ◌%◌};
-ghost use Rattle.kiqsaryn_packing.specs.Packing.{WORD, packed, packed_words, packed_join_words, packed_found, packed_listed, packed_written, packed_lookup_words};
+ghost use Rattle.std.specs.Prelude.{◌≡◌, ◌%◌, ◌+◌, ◌*◌, ℕ};
+ghost use Rattle.rows.specs.Refusals.{number_of};
+ghost use Rattle.kiqsaryn_packing.specs.Packing.{WORD, UPPER, packed_race, number_if};
 
 use checker::Judged;
-use extents::LookupAnswer;
-use join_checker::JudgedJoin;
-use races::{Found, Listed};
-use trace::Checked;
-use writer::Written;
+use extents::Stretch;
+use join::JoinRefused;
+use machine::Replayed;
+use races::Race;
+use rows::refusal::{Refusal, Refused};
 
 // The factor of the upper half of a number, which has 32 bits.
 pub const UPPER: u64 = 4294967296;
@@ -25,13 +26,48 @@ const WORD_4: u64 = 281474976710656;
 // The factor of the row number in the upper half of a lookup's answer. Below it there is room for a mark of two bits.
 const MARKS: u64 = 4;
 
-// Packs what a check answers: the row count of an accepted trace, and of a refusal its number in the upper half and its place in the lower.
-pub fn pack_checked(answer: Checked) -> u64
-    ensures { result ≡ packed answer }
+// An answer that is packed into one number.
+pub trait Packed {
+    ghost packed: { Self → ℕ };
+
+    // The number that holds the answer.
+    fn pack(self) -> u64
+        ensures { result ≡ packed self };
+}
+
+// A refusal with its place: its number in the upper half and its place in the lower.
+fn pack_refused(refused: Refused) -> u64
+    ensures { result ≡ number_of refused.refusal * UPPER + refused.place }
 {
-    match answer {
-        Checked::Accepted(n) => n as u64,
-        Checked::Refused(number, place) => number as u64 * UPPER + place as u64,
+    refused.refusal.number() as u64 * UPPER + refused.place as u64
+}
+
+// What a check or a list of races answers: the count of an accepted trace's rows or of the pairs, and of a refusal its number in the upper half
+// and its place in the lower.
+impl Packed for Result<u32, Refused> {
+    ghost use Rattle.kiqsaryn_packing.specs.Packing.{packed_count};
+
+    ghost packed = { packed_count };
+
+    fn pack(self) -> u64 {
+        match self {
+            Ok(n) => n as u64,
+            Err(refused) => pack_refused(refused),
+        }
+    }
+}
+
+// What writing answers: the text's length, and of a refusal its number in the upper half and its place in the lower.
+impl Packed for Result<usize, Refused> {
+    ghost use Rattle.kiqsaryn_packing.specs.Packing.{packed_length};
+
+    ghost packed = { packed_length };
+
+    fn pack(self) -> u64 {
+        match self {
+            Ok(length) => length as u64,
+            Err(refused) => pack_refused(refused),
+        }
     }
 }
 
@@ -42,77 +78,117 @@ fn word(n: u32) -> u64
     n as u64 % WORD
 }
 
-// Packs what the whole call answers into four words of 16 bits. Of an accepted trace, from the lowest: the row count, the later and the earlier
-// row of the first race, both 0 for free, and 0. Of a refusal: its place in the lowest, its number in the highest, and 0 between. A word holds the lowest 16 bits of
-// its number; the numbers of the whole call have no more.
-pub fn pack_judged(answer: Judged) -> u64
-    ensures { result ≡ packed_words answer }
+// A trace's rows, and its first race: from the lowest word the row count, the later and the earlier row, both 0 for free, and 0.
+fn pack_race(rows: u32, race: Option<Race>) -> u64
+    ensures { result ≡ packed_race rows race }
 {
-    match answer {
-        Judged::Free(n) => word(n),
-        Judged::Race(n, earlier, later) => { word(n) + word(later) * WORD + word(earlier) * WORD_3 }
-        Judged::Refused(number, place) => word(number) * WORD_4 + word(place),
-    }
-}
-
-// Packs what the whole call on two files answers into four words of 16 bits. Of an accepted join, from the lowest: the row count, the later and the
-// earlier row of the first race, both 0 for free, and 0. Of a refusal: its place, its file, 0, and its number in the highest. A word holds the
-// lowest 16 bits of its number; the numbers of the whole call have no more.
-pub fn pack_join(answer: JudgedJoin) -> u64
-    ensures { result ≡ packed_join_words answer }
-{
-    match answer {
-        JudgedJoin::Free(n) => word(n),
-        JudgedJoin::Race(n, earlier, later) => {
-            word(n) + word(later) * WORD + word(earlier) * WORD_3
-        }
-        JudgedJoin::Refused(number, place, file) => {
-            word(number) * WORD_4 + word(file) * WORD + word(place)
+    match race {
+        None => word(rows),
+        Some(Race { earlier, later }) => {
+            word(rows) + word(later) * WORD + word(earlier) * WORD_3
         }
     }
 }
 
-// Packs a verdict: 0 for free, the earlier row's number in the upper half and the later row's in the lower for a race, and of a refusal its
-// number in the upper half.
-pub fn pack_found(answer: Found) -> u64
-    ensures { result ≡ packed_found answer }
-{
-    match answer {
-        Found::Free => 0,
-        Found::Race(earlier, later) => earlier as u64 * UPPER + later as u64,
-        Found::Refused(number) => number as u64 * UPPER,
-    }
-}
+// What the whole call answers, in four words of 16 bits. Of an accepted trace, from the lowest: the row count, the later and the earlier row of the
+// first race, both 0 for free, and 0. Of a refusal: its place in the lowest, its number in the highest, and 0 between. A word holds the lowest 16
+// bits of its number; the numbers of the whole call have no more.
+impl Packed for Result<Judged, Refused> {
+    ghost use Rattle.kiqsaryn_packing.specs.Packing.{packed_judgement};
 
-// Packs what a list of races answers: the number of pairs, and of a refusal its number in the upper half and its place in the lower.
-pub fn pack_listed(answer: Listed) -> u64
-    ensures { result ≡ packed_listed answer }
-{
-    match answer {
-        Listed::Pairs(n) => n as u64,
-        Listed::Refused(number, place) => number as u64 * UPPER + place as u64,
-    }
-}
+    ghost packed = { packed_judgement };
 
-// Packs what writing answers: the text's length, and of a refusal its number in the upper half and its place in the lower.
-pub fn pack_written(answer: Written) -> u64
-    ensures { result ≡ packed_written answer }
-{
-    match answer {
-        Written::Length(length) => length as u64,
-        Written::Refused(number, row) => number as u64 * UPPER + row as u64,
-    }
-}
-
-// Packs what a lookup answers: the next byte in the lower half, four times the row number and the mark in the upper one, and of a refusal its number
-// in the highest word. A lookup's row number has 13 bits and its mark one; a larger number is packed by its lowest bits.
-pub fn pack_lookup(answer: LookupAnswer) -> u64
-    ensures { result ≡ packed_lookup_words answer }
-{
-    match answer {
-        LookupAnswer::Found(s) => {
-            (word(s.number) * MARKS + s.mark as u64 % MARKS) * UPPER + s.next as u64
+    fn pack(self) -> u64 {
+        match self {
+            Ok(judged) => pack_race(judged.rows, judged.race),
+            Err(refused) => word(refused.refusal.number()) * WORD_4 + word(refused.place),
         }
-        LookupAnswer::Refused(number) => word(number) * WORD_4,
+    }
+}
+
+// What the whole call on two files answers, in four words of 16 bits. Of an accepted join, from the lowest: the row count, the later and the earlier
+// row of the first race, both 0 for free, and 0. Of a refusal: its place, its file, 0, and its number in the highest. A word holds the lowest 16 bits
+// of its number; the numbers of the whole call have no more.
+impl Packed for Result<Judged, JoinRefused> {
+    ghost use Rattle.kiqsaryn_packing.specs.Packing.{packed_join_judgement};
+
+    ghost packed = { packed_join_judgement };
+
+    fn pack(self) -> u64 {
+        match self {
+            Ok(judged) => pack_race(judged.rows, judged.race),
+            Err(refused) => {
+                let file = refused.file.map_or(0, |file| file.number());
+                word(refused.refusal.number()) * WORD_4 + word(file) * WORD + word(refused.place)
+            }
+        }
+    }
+}
+
+// A verdict: 0 for free, the earlier row's number in the upper half and the later row's in the lower for a race, and of a refusal its number in the
+// upper half.
+impl Packed for Result<Option<Race>, Refusal> {
+    ghost use Rattle.kiqsaryn_packing.specs.Packing.{packed_verdict};
+
+    ghost packed = { packed_verdict };
+
+    fn pack(self) -> u64 {
+        match self {
+            Ok(None) => 0,
+            Ok(Some(Race { earlier, later })) => earlier as u64 * UPPER + later as u64,
+            Err(refusal) => refusal.number() as u64 * UPPER,
+        }
+    }
+}
+
+// What a step answers: the count of pieces, 0 for a row that is no read, and of a refusal its number in the upper half.
+impl Packed for Result<Option<u32>, Refusal> {
+    ghost use Rattle.kiqsaryn_packing.specs.Packing.{packed_pieces};
+
+    ghost packed = { packed_pieces };
+
+    fn pack(self) -> u64 {
+        match self {
+            Ok(None) => 0,
+            Ok(Some(count)) => count as u64,
+            Err(refusal) => refusal.number() as u64 * UPPER,
+        }
+    }
+}
+
+// What a lookup answers: the next byte in the lower half, four times the row number and the mark in the upper one, and of a refusal its number in the
+// highest word. A lookup's row number has 13 bits and its mark one; a larger number is packed by its lowest bits.
+impl Packed for Result<Stretch, Refusal> {
+    ghost use Rattle.kiqsaryn_packing.specs.Packing.{packed_stretch};
+
+    ghost packed = { packed_stretch };
+
+    fn pack(self) -> u64 {
+        match self {
+            Ok(s) => (word(s.number) * MARKS + s.mark as u64 % MARKS) * UPPER + s.next as u64,
+            Err(refusal) => word(refusal.number()) * WORD_4,
+        }
+    }
+}
+
+// The number of a refusal, and 0 for none.
+pub fn number_or_zero(answer: Result<(), Refusal>) -> u32
+    ensures { result ≡ number_if answer }
+{
+    match answer {
+        Ok(()) => 0,
+        Err(refusal) => refusal.number(),
+    }
+}
+
+// What a replay answers: how many rows it has gone through, and the number of the refusal that ended it in the upper half, 0 for none.
+impl Packed for Replayed {
+    ghost use Rattle.kiqsaryn_packing.specs.Packing.{packed_replay};
+
+    ghost packed = { packed_replay };
+
+    fn pack(self) -> u64 {
+        let number = self.refusal.map_or(0, |refusal| refusal.number());
+        number as u64 * UPPER + self.rows as u64
     }
 }

@@ -6,4 +6,4 @@ pub returns : goal.returns
 returns c =
     let a = c.args in
     packs-join a.first.now a.second.now a.first_header a.second_header a.model a.row_limit a.process_limit a.rows.now a.counts.now a.parts.now
-    c.judge_join-answer.ensures c.pack_join.ensures
+    c.judge_join.ensures c.pack.ensures

@@ -3,6 +3,4 @@ use Rattle.kiqsaryn.proofs.Packs.{packs-lookup}
 use Rattle.kiqsaryn.proofs.kiqsaryn_lookup.Goals as goal
 
 pub returns : goal.returns
-returns c =
-    let a = c.args in
-    packs-lookup a.map.now a.byte c.lookup-answer.ensures c.pack_lookup.ensures
+returns c = packs-lookup c.args.map.now c.args.byte c.lookup.result c.lookup.ensures c.pack.ensures
