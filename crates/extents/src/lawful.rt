@@ -50,10 +50,7 @@ fn cell_of(number: u32, unpublished: bool) -> u32
     requires { number ≤ ROWS }
     ensures { result ≡ cell_of number (mark_bit unpublished) }
 {
-    if unpublished {
-        return number * 2 + 1;
-    }
-    number * 2
+    number * 2 + u32::from(unpublished)
 }
 
 // Puts the pieces of a range into an answer slice.
@@ -108,10 +105,10 @@ pub fn publish(maps: &mut [u32], space: usize, view: usize, below: usize) -> Res
 {
     let own = extents_pair::own_runs(maps, space, view);
     let pair = Pair {
-        space: space,
-        view: view,
-        below: below,
-        own: own,
+        space,
+        view,
+        below,
+        own,
     };
     if !extents_pair::fits::<Publish>(maps, pair, Range::NONE) {
         return Err(Refusal::MapSpace);
@@ -128,10 +125,10 @@ pub fn refresh(maps: &mut [u32], space: usize, view: usize, below: usize) -> Res
 {
     let own = extents_pair::own_runs(maps, space, view);
     let pair = Pair {
-        space: space,
-        view: view,
-        below: below,
-        own: own,
+        space,
+        view,
+        below,
+        own,
     };
     if !extents_pair::fits::<Refresh>(maps, pair, Range::NONE) {
         return Err(Refusal::MapSpace);
@@ -147,10 +144,10 @@ pub fn sync(maps: &mut [u32], space: usize, view: usize, below: usize) -> Result
 {
     let own = extents_pair::own_runs(maps, space, view);
     let pair = Pair {
-        space: space,
-        view: view,
-        below: below,
-        own: own,
+        space,
+        view,
+        below,
+        own,
     };
     if !extents_pair::fits::<Publish>(maps, pair, Range::NONE) {
         return Err(Refusal::MapSpace);
@@ -186,10 +183,10 @@ pub fn write_through(
     let cell = number * 2;
     let own = extents_pair::own_runs(maps, space, view);
     let pair = Pair {
-        space: space,
-        view: view,
-        below: below,
-        own: own,
+        space,
+        view,
+        below,
+        own,
     };
     let range = Range { start, end, cell };
     if !extents_pair::fits::<Publish>(maps, pair, range) {
@@ -225,10 +222,10 @@ pub fn read(
     let end = start + length;
     let own = extents_pair::own_runs(maps, space, view);
     let pair = Pair {
-        space: space,
-        view: view,
-        below: below,
-        own: own,
+        space,
+        view,
+        below,
+        own,
     };
     if !extents_pair::fits::<Refresh>(maps, pair, Range::NONE) {
         return Err(Refusal::MapSpace);

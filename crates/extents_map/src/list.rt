@@ -1,13 +1,14 @@
 // A read's pieces, put into an answer slice.
-ghost use Rattle.std.specs.Prelude.{◌+◌, ◌*◌, ◌-◌, ◌≤◌, ◌<◌, ◌≡◌, true, length};
+ghost use Rattle.std.specs.Prelude.{◌+◌, ◌*◌, ◌-◌, ◌≤◌, ◌<◌, ◌≡◌, length};
 ghost use Rattle.extents_meaning.specs.Runs.{pieces_of};
-ghost use Rattle.extents_meaning.specs.Maps.{bytes_of, lawful, listed_in};
+ghost use Rattle.extents_meaning.specs.Maps.{bytes_of, listed_in};
 ghost use Rattle.extents_map.specs.Pieces.{Room, Turned};
 
 use crate::locate::LawfulMap;
 use crate::scan;
 
-// How many pieces are put, and the one in hand, whose bytes from `start` on have the value; none is in hand where the value is 0.
+// How many pieces are put, and the one in hand, whose bytes from `start` on have the value; none is in hand where the value is 0. It is no Option,
+// since `Turned` says of these numbers what a turn makes of them.
 #[derive(Clone, Copy, Debug, PartialEq, Eq, Hash)]
 struct Piece {
     count: usize,
@@ -29,6 +30,7 @@ pub fn list(map: LawfulMap<'_>, from: u32, to: u32, out: &mut [u32]) -> usize
         start: from,
         value: 0,
     };
+    // No `for`: each step goes to the next byte that has another cell.
     while x < to {
         let s = scan::see(map.numbers, i, x);
         hand = turn(out, hand, x, s.cell / 2 + 1);
@@ -48,7 +50,7 @@ fn turn(out: &mut [u32], hand: Piece, x: u32, value: u32) -> Piece
         return Piece {
             count: hand.count,
             start: x,
-            value: value,
+            value,
         };
     }
     if value == hand.value {
@@ -60,6 +62,6 @@ fn turn(out: &mut [u32], hand: Piece, x: u32, value: u32) -> Piece
     Piece {
         count: hand.count + 1,
         start: x,
-        value: value,
+        value,
     }
 }

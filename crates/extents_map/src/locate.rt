@@ -8,7 +8,8 @@ ghost use Rattle.extents_map.specs.Cursors.{Passing};
 
 use crate::scan;
 
-// The part of a run that stays beside a range: its start, its length, which may be 0, and its cell; and where the range then ends on this side.
+// The part of a run that stays beside a range: its start, its length and its cell; and where the range then ends on this side. It is no Option: a
+// length of 0 is no part, as `side_of` says.
 #[derive(Clone, Copy, Debug, PartialEq, Eq, Hash)]
 pub struct Side {
     pub start: u32,

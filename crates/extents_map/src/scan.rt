@@ -1,5 +1,5 @@
 // Reading maps: whether a map is lawful, which cell a byte has, and how many runs a mix of two maps has.
-ghost use Rattle.std.specs.Prelude.{◌+◌, ◌*◌, ◌-◌, ◌≤◌, ◌<◌, ◌≡◌, true, cond, not, ◌&&◌, length, eqb};
+ghost use Rattle.std.specs.Prelude.{◌-◌, ◌≤◌, ◌≡◌, cond, not, ◌&&◌, length, eqb};
 ghost use Rattle.extents_meaning.specs.Cells.{number_in, mark_in, in_range};
 ghost use Rattle.extents_meaning.specs.Runs.{runs_from};
 ghost use Rattle.extents_meaning.specs.Maps.{runs, bytes_of, all_zero, follows, lawful, no_marks, lawful_published};
@@ -186,6 +186,7 @@ pub fn count<M: Mode>(
     let mut last = 0;
     let mut i = map.seek(from);
     let mut j = below.seek(from);
+    // No `for`: each step goes to the next byte at which a map or the range changes.
     while x < to {
         let s = see_both(map.numbers, i, below.numbers, j, range, x);
         let here = M::mixed(s.inside, range.cell, s.cell, s.other);
