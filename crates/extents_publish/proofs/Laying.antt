@@ -1,5 +1,5 @@
 -- A map in a slice on which runs are laid, and the unpublished runs of a view laid on it, from the first run on.
-use Rattle.std.proofs.Common.{ℕ, suc, ◌+◌, ◌*◌, ◌-◌, ◌≤◌, ◌<◌, arith, ◌≡◌, refl, sym, ap, subst, ◌∙◌, ◌⊎◌, inl, inr, Bool, true, false, cond, ◌&&◌, List, ◌∷◌, length, take, drop, length-drop, drop-cons, leb-true, ltb-true, eq-eqb, ne_eqb, Option, None, Some}
+use Rattle.std.proofs.Common.{ℕ, suc, ◌+◌, ◌*◌, ◌-◌, ◌≤◌, ◌<◌, arith, ◌≡◌, refl, sym, ap, subst, ◌∙◌, ◌⊎◌, inl, inr, Bool, true, false, cond, ◌&&◌, List, ◌∷◌, length, take, drop, length-drop, drop-cons, leb-true, ltb-true, eq-eqb, Option, None, Some}
 use mathlib.Core.Bool.{false≢true}
 use lib.Dec.{leb}
 use borrow.Rule.Slice.PartMut.{put_mid}
@@ -8,7 +8,7 @@ use Rattle.rows.proofs.Bools.{and_out}
 use Rattle.extents_meaning.specs.Cells.{Bytes, mark_in, unpublished, cleared, in_range, overwrite, published}
 use Rattle.extents_meaning.specs.Runs.{Run, run_of, cell_at, runs_of, Lawful}
 use Rattle.extents_meaning.specs.Maps.{map_for, space_in, runs, bytes_of, lawful, part_at, with_part}
-use Rattle.extents_meaning.proofs.Longest.{Fine, range-behind, rising-earlier, mean-before}
+use Rattle.extents_meaning.proofs.Longest.{Fine, rising-earlier, mean-before}
 use Rattle.extents_meaning.proofs.Trips.{length-map, lawful-map}
 use Rattle.extents_map.specs.Beside.{end_of, run_no}
 use Rattle.extents_pair.specs.Marks.{marked}
@@ -98,12 +98,6 @@ module _ (size w start end cell : ℕ) (xs : List ℕ) (h : w + size ≤ length 
 pub clear_fine : (c : ℕ) → Fine c → Fine (cleared c)
 clear_fine c (inl e) = inl (omega arith)
 clear_fine c (inr h) = inr (omega arith)
-
--- Nothing is laid of a published run.
-pub take_none : (r : Run) {cell : ℕ} → cell ≡ r.cell → mark_in cell ≡ 0 → Taken r (record { from = 0; to = 0; cell = cleared r.cell; mark = 0 })
-take_none r e h =
-    let none = ne_eqb (mark_in r.cell) 1 (omega arith) in
-    record { range = λ b. range-behind 0 0 b (omega arith) ∙ (λ i. sym none i && in_range r.start r.length b); cell = refl; mark = omega arith }
 
 -- An unpublished run is laid without its mark.
 pub take_all : (r : Run) {from to cell : ℕ} → from ≡ r.start → to ≡ end_of r → cell ≡ r.cell → (mark_in cell ≡ 0 → ⊥) →

@@ -128,10 +128,6 @@ pub record Clearing (xs₀ xs : List ℕ) (left i : ℕ) : Type 0 where
   pub done : Cleared xs₀ left xs
   pub passed : length (marked (drop i (runs xs))) ≡ length (marked (runs xs))
 
--- At first no mark is cleared.
-pub clear_start : (xs₀ : List ℕ) {own : ℕ} → lawful xs₀ ≡ true → own ≡ length (marked (runs xs₀)) → Clearing xs₀ xs₀ own 0
-clear_start xs₀ law e = record { done = record { law = law; same = refl; mean = λ b. refl; all = e }; passed = refl }
-
 module _ {xs₀ xs : List ℕ} {left i : ℕ} (k : Clearing xs₀ xs left i) (h : 0 < left) where
   -- While an unpublished run is left there is a run i.
   here : i < length (runs xs)

@@ -17,17 +17,10 @@ use Rattle.extents_pair.proofs.Pairing.{Told, two-told, two-apart, last-law, len
 use Rattle.extents_pair.proofs.Gathering.{refreshed-none}
 use Rattle.extents_refresh.specs.Clearing.{Cleared}
 use Rattle.extents_refresh.proofs.Clearing.{cleared-all}
-use Rattle.extents_refresh.proofs.Copying.{CopyReady}
 
 -- ---- A view without unpublished runs
 
 module _ (space view below : ℕ) (xs : List ℕ) (two : two_maps space view below xs ≡ true) where
-  -- the published map may be copied
-  pub copy_ready : CopyReady space below view xs
-  copy_ready =
-      let t = two-told space view below xs two in
-      ((t.below_within, t.view_within, λ q. two-apart space view below xs two (sym q)), (t.below-law, t.view-law))
-
   -- The slice with the copy is what a refresh leaves.
   pub view-copied : {own : ℕ} → own ≡ length (marked (runs (map_at space view xs))) → own ≡ 0 → {zs : List ℕ} →
       zs ≡ with_map space view (map_at space below xs) xs →

@@ -1,14 +1,14 @@
 -- A pair of maps as the two parts of a slice that a rewrite takes.
-use Rattle.std.proofs.Common.{ℕ, ◌+◌, ◌*◌, ◌/◌, ◌≤◌, arith, add-mul, one-mul, ◌≡◌, sym, ap, ◌∙◌, ◌⊎◌, inl, inr, true, false, List, length}
+use Rattle.std.proofs.Common.{ℕ, ◌+◌, ◌*◌, ◌≤◌, arith, add-mul, one-mul, ◌≡◌, sym, ap, ◌∙◌, ◌⊎◌, inl, inr, true, false, List, length}
 use Rattle.extents_meaning.specs.Cells.{Bytes}
 use Rattle.extents_meaning.specs.Runs.{runs_of}
-use Rattle.extents_meaning.specs.Maps.{map_of, map_for, lawful, part_at, with_map, with_part}
+use Rattle.extents_meaning.specs.Maps.{lawful, part_at}
 use Rattle.extents_meaning.proofs.Longest.{runs_same}
 use Rattle.extents_map.specs.Mixes.{Mix, view_is_target, mix_in}
 use Rattle.extents_pair.specs.InPairs.{two_maps_in, view_in, below_in}
 use Rattle.extents_pair.specs.declared.Pair.{Pair}
 use Rattle.extents_pair.proofs.Pairing.{rows_apart, two-told, two-apart}
-use Rattle.extents_weave.specs.Rewrites.{woven_in, target_in, Apart, Weavable}
+use Rattle.extents_weave.specs.Rewrites.{woven_in, Apart, Weavable}
 
 module _ (pair : Pair) (mix : Mix) (xs : List ℕ) (two : two_maps_in pair xs ≡ true) where
   -- the numbers of a map, and where both maps start
@@ -48,20 +48,12 @@ module _ (pair : Pair) (mix : Mix) (xs : List ℕ) (two : two_maps_in pair xs �
       weavable stand law =
           record { two = stand; law = law; order = order; few = omega (arith, few, ap length same_runs); fit = omega (arith, fit) }
 
-      woven-home : {ys : List ℕ} → ys ≡ with_part t size (map_for (size / 4) (woven_in size t o mix xs)) xs → ys ≡ with_part t size (map_for pair.space made) xs
-      woven-home q = let s : size / 4 ≡ pair.space = omega arith in q ∙ (λ i. with_part t size (map_of (s i) (same_runs i)) xs)
-
     module _ (e : view_is_target mix.mode ≡ true) where
       -- The view can be rewritten.
       pub view-weavable : Weavable size v w mix room xs
       view-weavable =
           let t = two-told pair.space pair.view pair.below xs two in
           weavable v w (λ b. rw e) (record { target_within = maps-in.0; other_in = maps-in.1; apart = apart; other_law = t.below-law }) t.view-law
-
-      -- The view rewritten is the mix.
-      pub view-home : {ys : List ℕ} → ys ≡ with_part v size (map_for (size / 4) (woven_in size v w mix xs)) xs →
-          ys ≡ with_map pair.space (target_in mix pair) (map_for pair.space made) xs
-      view-home q = woven-home v w (λ b. rw e) q ∙ rw e
 
     module _ (e : view_is_target mix.mode ≡ false) where
       turn : (w + size ≤ v) ⊎ (v + size ≤ w) → (v + size ≤ w) ⊎ (w + size ≤ v)
@@ -73,8 +65,3 @@ module _ (pair : Pair) (mix : Mix) (xs : List ℕ) (two : two_maps_in pair xs �
       below-weavable =
           let t = two-told pair.space pair.view pair.below xs two in
           weavable w v (λ b. rw e) (record { target_within = maps-in.1; other_in = maps-in.0; apart = turn apart; other_law = t.view-law }) t.below-law
-
-      -- The published map rewritten is the mix.
-      pub below-home : {ys : List ℕ} → ys ≡ with_part w size (map_for (size / 4) (woven_in size w v mix xs)) xs →
-          ys ≡ with_map pair.space (target_in mix pair) (map_for pair.space made) xs
-      below-home q = woven-home w v (λ b. rw e) q ∙ rw e

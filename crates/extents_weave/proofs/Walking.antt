@@ -121,10 +121,6 @@ module _ {size t o from : ℕ} {mix : Mix} {keep : Bool} {xs₀ : List ℕ} (y :
     abbrev lent-o : List ℕ
     lent-o = take (o + size - o) (drop o xs)
 
-    -- the slice is as long as it was
-    pub walk-length : length xs ≡ length xs₀
-    walk-length = only-length y.two.target_within w.only
-
     -- the map at o is as it was
     other-is : lent-o ≡ part_at o size xs₀
     other-is = lent o size xs ∙ only-apart y.two.target_within w.only o y.two.apart

@@ -94,10 +94,6 @@ module _ {size t o : ℕ} {mix : Mix} {room : ℕ} {xs : List ℕ} (p : Weavable
         let n : space_in part ≡ space = ap (λ (j : ℕ). j / 4) s.0 in
         (omega (arith, r.count, keeps_few, e), omega (arith, all-is, whole.fit, n, s.1, p.fit, e))
 
-    -- The slice is as long as it was.
-    pub kept-length : length ys ≡ length xs
-    kept-length = only-length p.two.target_within r.only
-
     -- The kept runs can be moved up.
     pub move-fits : k * 4 + (place - k) * 4 ≤ length (take (t + size - t) (drop t ys))
     move-fits = omega (arith, place-fits.0, place-fits.1, ap length (lent t size ys), r.only.filled)
@@ -210,9 +206,6 @@ module _ {size t o : ℕ} {mix : Mix} {room : ℕ} {xs : List ℕ} (p : Weavable
         clear-fits =
             (omega (arith, many, p.few, e), omega (arith, place-fits.1, ap length (lent t size us), w.only.filled))
 
-        pub woven-length : length us ≡ length xs
-        woven-length = only-length p.two.target_within only-woven
-
         behind : drop (4 * place) (part_at t size us) ≡ replicate (4 * (space - place)) 0
         behind =
             let i : source_end size t o mix zs from ≡ place = omega (arith, ap length source_runs, r.count, place-fits.0) in
@@ -241,7 +234,3 @@ module _ {size t o : ℕ} {mix : Mix} {room : ℕ} {xs : List ℕ} (p : Weavable
           woven-home =
               only-with p.two.target_within (home-only p.two.target_within only-woven last last-filled)
               (home-part p.two.target_within only-woven last last-filled ∙ last-is)
-
-          -- The slice is as long as it was.
-          pub end-length : length (put_mid t (t + size - t) us last) ≡ length xs
-          end-length = only-length p.two.target_within (home-only p.two.target_within only-woven last last-filled)
