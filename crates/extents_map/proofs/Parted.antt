@@ -288,23 +288,7 @@ module _ {rs : List Run} (g : Rising OFFSET_MAX 0 0 rs) {first end cell i : ℕ}
 
 -- ---- The first run met, and the first behind
 
--- run 0 ends behind the start, or there is none: it is met
-pub met_first : {rs : List Run} {start cell all i : ℕ} → (i < all → start < end_of (run_no rs i)) → i ≡ 0 → all ≡ length rs → Met rs start cell 0
-met_first {rs} {start} m z n =
-    record {
-      most = omega arith;
-      passed = omega arith;
-      apart = λ p q o. omega arith;
-      meets = λ k. let f : start < end_of (run_no rs 0) = rw z at m (omega arith) in omega arith;
-    }
-
 module _ {rs : List Run} {start cell i : ℕ} (h : i ≤ length rs) where
-  -- run i does, and the run before it ends earlier, or at the start with another cell: run i is the first met
-  pub met_here : end_of (run_before rs i) ≤ start → (i < length rs → start < end_of (run_no rs i)) → 0 < i →
-      (end_of (run_no rs (i - 1)) ≡ start → (run_no rs (i - 1)).cell ≡ cell → ⊥) → Met rs start cell i
-  met_here l m o f =
-      record { most = h; passed = l; apart = rw (before_last rs i o) (λ p q w. f p q); meets = λ k. omega (arith, m k) }
-
   -- the run before it ends at the start: that one is
   pub met_last : Rising OFFSET_MAX 0 0 rs → 0 < i → end_of (run_no rs (i - 1)) ≡ start → Met rs start cell (i - 1)
   met_last g o e =
@@ -318,15 +302,7 @@ pub record Reaching (rs : List Run) (first end i : ℕ) : Type 0 where
   pub within : i ≤ length rs
   pub reached : first < i → (run_before rs i).start ≤ end
 
--- At first no run is met.
-pub reach_start : (rs : List Run) (first end : ℕ) → first ≤ length rs → Reaching rs first end first
-reach_start rs first end h = record { low = omega arith; within = h; reached = λ l. absurd (omega arith) }
-
 module _ {rs : List Run} {first end i : ℕ} (k : Reaching rs first end i) where
-  -- run i is met too
-  pub reach_next : i < length rs → (run_no rs i).start ≤ end → Reaching rs first end (i + 1)
-  reach_next h l = record { low = omega (arith, k.low); within = omega arith; reached = λ o. rw (before-next rs i) l }
-
   -- run i is not, or there is none
   pub reach_stop : Rising OFFSET_MAX 0 0 rs → (cell : ℕ) → (i < length rs → end ≤ (run_no rs i).start) →
       (i < length rs → (run_no rs i).start ≡ end → (run_no rs i).cell ≡ cell → ⊥) → Behind rs first end cell i

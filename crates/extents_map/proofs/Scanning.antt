@@ -1,13 +1,12 @@
 -- Scans of one map: whether numbers are all 0, and the numbers of a run that may follow.
-use Rattle.std.proofs.Common.{ℕ, ◌+◌, ◌*◌, ◌≤◌, ◌<◌, add-one, arith, ◌≡◌, sym, ap, ◌∙◌, Bool, false, not, ◌&&◌, List, length, drop, drop_of_length-le, drop-cons, bit_or, eq-eqb, ne_eqb}
+use Rattle.std.proofs.Common.{ℕ, ◌+◌, ◌*◌, ◌≤◌, ◌<◌, add-one, arith, ◌≡◌, sym, ap, ◌∙◌, Bool, ◌&&◌, List, length, drop, drop_of_length-le, drop-cons, bit_or, eq-eqb, ne_eqb}
 use native.Mathlib.Decide.{ℕ_discrete}
 use mathlib.Core.Bool.{and-true, and-false, and_assoc}
 use lib.ListN.{get_or}
 use lib.Dec.{eqb}
 use lib.Bits.{or_zero_r, or_add_and, and_le_l}
-use borrow.Author.Tests.{not-false}
 use Rattle.extents_meaning.specs.Maps.{all_zero, follows}
-use Rattle.extents_meaning.proofs.Trips.{May, may_out, follows_at}
+use Rattle.extents_meaning.proofs.Trips.{follows_at}
 
 -- ---- Zeros
 
@@ -31,11 +30,6 @@ module _ (xs : List ℕ) (bits i : ℕ) where
   zero_on h = rw (add-one, drop-cons xs i 0 h, bits_none bits (get_or xs i 0)) (sym (and_assoc (eqb bits 0) (eqb (get_or xs i 0) 0) _))
 
 -- ---- A run that may follow
-
--- The numbers of a run that may follow are in range.
-pub may_range : (xs : List ℕ) (i end cell : ℕ) {r : Bool} → r ≡ follows_at end cell i xs → not r ≡ false →
-    May end cell (get_or xs (4 * i) 0) (get_or xs (4 * i + 1) 0) (get_or xs (4 * i + 2) 0) (get_or xs (4 * i + 3) 0)
-may_range xs i end cell {r} t e = may_out end cell _ _ _ _ (sym t ∙ not-false r e)
 
 -- The test of a run that was read is that of the numbers at its place.
 pub follows_read : (xs : List ℕ) (i end cell : ℕ) {s l n k : ℕ} {r : Bool} → r ≡ follows end cell s l n k → s ≡ get_or xs (4 * i) 0 →
