@@ -1,4 +1,5 @@
 // The machine as callers see it: the layered file and the plain file, made over a lent slice, stepped row by row, and replayed from a trace.
+// Each file has names of its own here, since the exports for C and the documents call them so.
 #![tactic(auto)]
 
 ghost use Rattle.std.specs.Prelude.{◌*◌, ◌≡◌, length};

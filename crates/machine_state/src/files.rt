@@ -13,7 +13,7 @@ use crate::Machine;
 use rows::Row;
 use rows::refusal::Refusal;
 
-// A file in the maps of a lent slice.
+// A file in the maps of a lent slice. Its functions take a header by value and the slice beside it, as document 01 has them.
 pub trait File {
     // What is asked of the maps.
     ghost lawful: { Header → List ℕ → Bool };
