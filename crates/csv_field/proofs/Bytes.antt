@@ -1,11 +1,11 @@
 -- The tests of a byte are the grammar's rules.
 use Rattle.std.proofs.Common.{ℕ, ◌≤◌, ◌<◌, arith, ◌≡◌, refl, sym, ap, ◌∙◌, ◌↔◌, ◌⊎◌, inl, inr, Bool, true, false, not, ◌&&◌, ◌||◌, le-leb, leb-true, eq-eqb, ne_eqb}
 use native.Mathlib.Decide.{dec_lt, ℕ_discrete}
-use mathlib.Core.Bool.{or-true, or-false, false≢true}
+use mathlib.Core.Bool.{or-true, false≢true}
 use lib.Dec.{leb, eqb}
 use borrow.Author.Tests.{lt-leb}
-use Rattle.csv_field.specs.FieldGrammar.{COMMA, DQUOTE, CR, LF, TextData, x20_21, x23_2b, x2d_7e}
-use Rattle.csv_field.specs.FieldReading.{byte_between, is_text, is_quoted}
+use Rattle.csv_field.specs.FieldGrammar.{COMMA, DQUOTE, TextData, x20_21, x23_2b, x2d_7e}
+use Rattle.csv_field.specs.FieldReading.{byte_between, is_text}
 
 -- one of two tests passed
 pub or_cases : (x y : Bool) → x || y ≡ true → (x ≡ true) ⊎ (y ≡ true)
@@ -97,28 +97,6 @@ quote-text b e = not_text b (λ t. (text-bounds t).2 e)
 
 -- the TEXTDATA below %x2D, for a search
 pub ruleset low_texts = (below-text, quote-text, low-text)
-
--- what quotes may hold besides TEXTDATA
-abbrev pub Also : ℕ → Type 0
-Also b = (b ≡ LF) ⊎ ((b ≡ CR) ⊎ (b ≡ COMMA))
-
--- a comma, CR or LF may stand between quotes
-pub quoted-also : (b : ℕ) → Also b → is_quoted b ≡ true
-unfolding is_quoted
-quoted-also b (inl e) = simp (eq-eqb b LF e, or-true)
-quoted-also b (inr (inl e)) = simp (eq-eqb b CR e, or-true)
-quoted-also b (inr (inr e)) = simp (eq-eqb b COMMA e, or-true)
-
--- TEXTDATA may stand between quotes.
-pub quoted-any : (b : ℕ) → is_text b ≡ true → is_quoted b ≡ true
-unfolding is_quoted
-quoted-any b e = rw e
-
--- of any other byte, the test of quotes is the test of TEXTDATA
-pub quoted-text : (b : ℕ) → (Also b → ⊥) → is_quoted b ≡ is_text b
-unfolding is_quoted
-quoted-text b h =
-    simp (ne_eqb b LF (λ e. h (inl e)), ne_eqb b CR (λ e. h (inr (inl e))), ne_eqb b COMMA (λ e. h (inr (inr e))), or-false)
 
 -- TEXTDATA has no quote
 pub text-unquote : {b : ℕ} → TextData b → eqb b DQUOTE ≡ false

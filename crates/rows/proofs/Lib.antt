@@ -7,4 +7,3 @@ pub mod Asking
 pub mod Slices
 pub mod Products
 pub mod Tests
-pub mod Searching

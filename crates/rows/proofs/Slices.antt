@@ -1,12 +1,12 @@
 -- Rows in a slice of six numbers each.
-use Rattle.std.proofs.Common.{ℕ, zero, suc, ◌+◌, ◌-◌, ◌*◌, ◌/◌, ◌≤◌, ◌<◌, add-one, arith, ◌≡◌, refl, sym, ap, ◌∙◌, List, [], ◌∷◌, ◌++◌, append_assoc, append-nil, length, take, drop, length-drop, drop_of_length-le, take-add, take_at, drop-drop, get_or-drop, le-leb}
+use Rattle.std.proofs.Common.{ℕ, zero, suc, ◌+◌, ◌-◌, ◌*◌, ◌/◌, ◌≤◌, ◌<◌, add-one, arith, ◌≡◌, refl, sym, ap, ◌∙◌, List, [], ◌∷◌, ◌++◌, append_assoc, append-nil, length, take, drop, length-drop, take-add, take_at, drop-drop, le-leb}
 use native.Mathlib.Numerals.{add-two, add-three, add-four, add_five}
-use lib.ListN.{get_or, set}
+use lib.ListN.{set}
 use lib.Seq.{drop-append-add, sets-eq}
 use borrow.Author.Tests.{lt-leb}
 use Rattle.rows.specs.declared.row.Row.{Row}
 use Rattle.rows.specs.Limits.{FIELDS}
-use Rattle.rows.specs.Rows.{no_row, row_at, six, numbers, row_here, rows_in, row_in, with_row}
+use Rattle.rows.specs.Rows.{row_at, six, numbers, row_here, rows_in, row_in, with_row}
 
 -- Each row has six numbers.
 pub length-numbers : (rows : List Row) → length (numbers rows) ≡ 6 * length rows
@@ -93,28 +93,6 @@ pub laid : (l : List ℕ) (at : ℕ) (r : Row) → at + 6 ≤ length l →
 unfolding six
 laid l at r h =
     rw (add-one, add-two, add-three, add-four, add_five) (sets-eq (six r) l at h ∙ append_assoc (take at l) (six r) (drop (at + 6) l))
-
--- The six numbers from k * 6 on are row k.
-pub row_read : (xs : List ℕ) (k : ℕ) →
-    record {
-      process = get_or xs (k * 6) 0;
-      kind = get_or xs (k * 6 + 1) 0;
-      file = get_or xs (k * 6 + 2) 0;
-      offset = get_or xs (k * 6 + 3) 0;
-      length = get_or xs (k * 6 + 4) 0;
-      message = get_or xs (k * 6 + 5) 0;
-    } ≡ row_in xs k
-unfolding row_here
-row_read xs k =
-    let first : k * 6 ≡ k * 6 + 0 = omega arith in
-    let zeroth = (λ j. get_or xs (first j) 0) ∙ sym (get_or-drop (k * 6) xs 0 0) in
-    let at : (n : ℕ) → get_or xs (k * 6 + n) 0 ≡ get_or (drop (k * 6) xs) n 0 = λ n. sym (get_or-drop (k * 6) xs n 0) in
-    λ i. record { process = zeroth i; kind = at 1 i; file = at 2 i; offset = at 3 i; length = at 4 i; message = at 5 i }
-
--- Past the last row that has a number, a row is zeros.
-pub row-past : (xs : List ℕ) (k : ℕ) → length xs / 6 < k → no_row ≡ row_in xs k
-unfolding row_here
-row-past xs k h = let l : length xs ≤ k * 6 = omega arith in sym (ap row_here (drop_of_length-le xs l))
 
 module _ (k : ℕ) (r : Row) (xs : List ℕ) where
   -- A slice without room for the row stays as it is.

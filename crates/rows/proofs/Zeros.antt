@@ -1,5 +1,5 @@
 -- Slices of zeros.
-use Rattle.std.proofs.Common.{ℕ, zero, suc, ◌-◌, ◌≤◌, arith, ◌≡◌, refl, ap, ◌∙◌, List, [], ◌++◌, append-nil, length, take, drop, replicate, length-append, length-drop, drop_of_length-le, length-take-le, take_at, drop_at, take_all}
+use Rattle.std.proofs.Common.{ℕ, zero, suc, ◌-◌, ◌≤◌, arith, ◌≡◌, refl, ap, ◌∙◌, List, [], ◌++◌, append-nil, length, take, drop, replicate, length-append, length-drop, drop_of_length-le, take_at, drop_at, take_all}
 use lib.ListN.{get_or, length-replicate}
 use borrow.Rule.Slice.PartMut.{put_mid}
 
@@ -15,11 +15,6 @@ cleared d {l} {i} e s h =
     let n : i ≡ length d = omega (arith, simp (length-append, length-replicate, length-drop) at (ap length e)) in
     let m : length d ≤ i = omega arith in
     e ∙ (λ j. replicate (n j) 0 ++ drop_of_length-le d m j) ∙ append-nil (replicate (length d) 0)
-
--- A slice whose first n numbers were lent and cleared has n zeros at its front.
-pub first-cleared : (n : ℕ) (xs : List ℕ) {last : List ℕ} → n ≤ length xs → last ≡ replicate (length (take n xs)) 0 →
-    last ++ drop n xs ≡ replicate n 0 ++ drop n xs
-first-cleared n xs h e = λ i. (e ∙ ap (λ k. replicate {A = ℕ} k 0) (length-take-le n xs h)) i ++ drop n xs
 
 -- Some numbers stand at a slice's front, and the slice behind them is lent and cleared: the numbers stay, and 0 follows to the end.
 pub cleared-behind : (front xs ys : List ℕ) {at : ℕ} {last : List ℕ} → length front ≡ at → ys ≡ front ++ drop at xs →

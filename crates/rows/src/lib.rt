@@ -1,5 +1,5 @@
-// The limits of the product, the kinds and refusals by their numbers, a row, and the slice that holds six numbers for each row.
-// specs/Limits.antt, specs/Kinds.antt and specs/Refusals.antt have these numbers for the contracts.
+// The limits of the product, the kinds of rows, the refusals, a row, and the slice that holds six numbers for each row. specs/Limits.antt,
+// specs/Kinds.antt and specs/Refusals.antt have the numbers for the contracts.
 #![tactic(auto)]
 
 mod first;
@@ -8,11 +8,12 @@ pub mod kind;
 pub mod refusal;
 mod row;
 
-ghost use Rattle.std.specs.Prelude.{◌≡◌, length, replicate};
+ghost use Rattle.std.specs.Prelude.{◌≡◌};
 ghost use Rattle.rows.specs.Questions.{is_process_limit};
 
 pub use first::{FirstRows, first_rows};
 pub use group::put_group;
+use kind::Kind;
 pub use row::{Row, put_row, row_at};
 
 // Models are numbered from 0.
@@ -30,30 +31,29 @@ pub const OFFSET_MAX: u32 = 4294967295;
 // The fields of a record, and the numbers of a row.
 pub const FIELDS: usize = 6;
 
-pub const READ: u32 = 0;
+// The kinds' numbers, for a `match` on the kind that a row has, which may be no kind's (docs/DECISIONS.md, Forms).
+pub const READ: u32 = Kind::Read as u32;
 
-pub const WRITE: u32 = 1;
+pub const WRITE: u32 = Kind::Write as u32;
 
-pub const COMMIT: u32 = 2;
+pub const COMMIT: u32 = Kind::Commit as u32;
 
-pub const OPEN: u32 = 3;
+pub const OPEN: u32 = Kind::Open as u32;
 
-pub const CLOSE: u32 = 4;
+pub const CLOSE: u32 = Kind::Close as u32;
 
-pub const SYNC: u32 = 5;
+pub const SYNC: u32 = Kind::Sync as u32;
 
-pub const SEND: u32 = 6;
+pub const SEND: u32 = Kind::Send as u32;
 
-// A process posts a receive. The receive is over at its wait.
-pub const RECV: u32 = 7;
+pub const RECV: u32 = Kind::Recv as u32;
 
-pub const WAIT: u32 = 8;
+pub const WAIT: u32 = Kind::Wait as u32;
 
-// A process arrives at a barrier. Its message field holds the barrier's number.
-pub const BARRIER: u32 = 9;
+pub const BARRIER: u32 = Kind::Barrier as u32;
 
 // The kind of the row at which a message arrives: the order runs from the send to this row.
-pub const ARRIVAL: u32 = WAIT;
+pub const ARRIVAL: u32 = Kind::ARRIVAL as u32;
 
 // How many kinds there are.
 pub const KINDS: u32 = 10;
@@ -79,26 +79,4 @@ pub fn is_process_limit(n: u32) -> bool
         return false;
     }
     n <= PROCESSES
-}
-
-// Fills a slice with 0.
-pub fn clear(numbers: &mut [u32])
-    ensures { numbers.new ≡ replicate (length numbers.old) 0 }
-{
-    let mut i = 0;
-    while i < numbers.len() {
-        numbers[i] = 0;
-        i += 1;
-    }
-}
-
-// Fills a slice of counts with 0.
-pub fn clear_counts(counts: &mut [u16])
-    ensures { counts.new ≡ replicate (length counts.old) 0 }
-{
-    let mut i = 0;
-    while i < counts.len() {
-        counts[i] = 0;
-        i += 1;
-    }
 }

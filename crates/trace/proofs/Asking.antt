@@ -1,5 +1,5 @@
 -- The first No of the questions: of a call, of a header and of a row's record.
-use Rattle.std.proofs.Common.{ℕ, ◌*◌, ◌≤◌, ◌<◌, arith, ◌≡◌, refl, sym, ◌∙◌, Bool, true, false, cond, ◌&&◌, List, [], ◌∷◌, length, lt-ltb, le-ltb, le-leb, eq-eqb, ne_eqb, eqb-true}
+use Rattle.std.proofs.Common.{ℕ, ◌*◌, ◌≤◌, ◌<◌, arith, ◌≡◌, refl, sym, ◌∙◌, Bool, true, false, cond, ◌&&◌, List, [], ◌∷◌, length, lt-ltb, le-leb, eqb-true}
 use mathlib.Core.Bool.{and-true}
 use lib.ListN.{get_or}
 use lib.Dec.{leb, eqb}
@@ -9,12 +9,12 @@ use Rattle.csv_content.specs.Content.{content_of, same_bytes}
 use Rattle.csv_field.specs.declared.Span.{Span}
 use Rattle.rows.specs.Limits.{MODELS, ROWS}
 use Rattle.rows.specs.declared.row.Row.{Row}
-use Rattle.trace_numbers.specs.Numbers.{ReadRow, Kept, No}
+use Rattle.trace_numbers.specs.Numbers.{Kept, No}
 use Rattle.trace.specs.Rows.{header_names, same_fields, row_of}
 use Rattle.trace.specs.Questions.{in_limits, call_questions, field_questions, record_questions}
 use Rattle.rows.specs.Questions.{first_no, is_process_limit}
 use Rattle.rows.proofs.Asking.{From}
-use Rattle.trace.specs.Reads.{fields_of, judged_by, judged_fields, headed}
+use Rattle.trace.specs.Reads.{fields_of, judged_by, headed}
 
 -- ---- The questions 1 to 3
 
@@ -32,20 +32,11 @@ module _ (header model rowLimit processLimit rowsLength countsLength : ℕ) wher
     long-rows : leb (6 * rowLimit) rowsLength ≡ true
     long-rows = le-leb (6 * rowLimit) rowsLength (omega arith)
 
-    -- 1: the counts' slice is too short
-    pub few-counts : countsLength < rowLimit * processLimit → 1 ≡ first
-    unfolding first_no call_questions
-    few-counts h = rw (long-rows, lt-leb (rowLimit * processLimit) countsLength h)
-
     module _ (k : rowLimit * processLimit ≤ countsLength) where
       -- 2: a number is out of its limits
       out : in_limits model rowLimit processLimit ≡ false → 2 ≡ first
       unfolding first_no call_questions
       out h = rw (long-rows, le-leb (rowLimit * processLimit) countsLength k, h)
-
-      -- 2: no model has the number
-      pub bad-model : MODELS ≤ model → 2 ≡ first
-      bad-model h = out (rw (le-ltb model MODELS h))
 
       module _ (m : model < MODELS) where
         -- 2: the row limit is 0
@@ -61,19 +52,11 @@ module _ (header model rowLimit processLimit rowsLength countsLength : ℕ) wher
             within : in_limits model rowLimit processLimit ≡ is_process_limit processLimit
             within = rw (lt-ltb model MODELS m, le-leb 1 rowLimit o, le-leb rowLimit ROWS w)
 
-            -- 2: the process limit is out of its range
-            pub bad-processes : is_process_limit processLimit ≡ false → 2 ≡ first
-            bad-processes e = out (within ∙ e)
-
             module _ (p : is_process_limit processLimit ≡ true) where
               -- 1 and 2 have Yes, and 3 decides
               third : first ≡ cond (leb header 1) 0 3
               unfolding first_no call_questions
               third = rw (long-rows, le-leb (rowLimit * processLimit) countsLength k, within, p)
-
-              -- 3: the header word is neither 0 nor 1
-              pub bad-header : 1 < header → 3 ≡ first
-              bad-header h = sym (third ∙ rw (lt-leb header 1 h))
 
               -- every answer is Yes
               pub all_asked : header ≤ 1 → 0 ≡ first
@@ -128,23 +111,3 @@ module _ (first : ℕ) (fields : List (List ℕ)) where
       go : (x : Bool) → eqb first 0 ≡ x → cond x (Kept (row_of fields)) (No first) ≡ Kept row → (first ≡ 0) × (row ≡ row_of fields)
       go true q e = (eqb-true first 0 q, cc)
       go false q e = let z : ◌≡◌ {A = ℕ} 0 1 = cc in absurd (omega arith)
-
--- The answer to the questions 6 to 11 of a record.
-abbrev pub record_answer : ℕ → ℕ → ℕ → ℕ → List (List ℕ) → ReadRow
-record_answer rowLimit processLimit n count fields = judged_by (first_no (record_questions rowLimit processLimit n count fields)) fields
-
-module _ (rowLimit processLimit n count : ℕ) (fields : List (List ℕ)) where
-  -- 6 has No
-  pub row-over : rowLimit ≤ n → No 6 ≡ record_answer rowLimit processLimit n count fields
-  unfolding record_questions first_no
-  row-over h = rw (le-ltb n rowLimit h)
-
-  -- 7 has No
-  pub other-count : n < rowLimit → (count ≡ 6 → ⊥) → No 7 ≡ record_answer rowLimit processLimit n count fields
-  unfolding record_questions first_no
-  other-count h s = rw (lt-ltb n rowLimit h, ne_eqb count 6 s)
-
-  -- 6 and 7 have Yes, and 8 to 11 decide
-  pub fields-decide : n < rowLimit → count ≡ 6 → {j : ReadRow} → j ≡ judged_fields processLimit fields → j ≡ record_answer rowLimit processLimit n count fields
-  unfolding record_questions first_no judged_fields
-  fields-decide h s e = e ∙ rw (lt-ltb n rowLimit h, eq-eqb count 6 s)
