@@ -202,7 +202,8 @@ fn put_part(map: &mut [u32], i: usize, start: u32, length: u32, cell: u32) -> us
     i + 1
 }
 
-// Stores the four numbers of a run from a place on.
+// Stores the four numbers of a run from a place on. It stays beside `rows::put_group`, whose tests of the room took a listing over 1.1 times its
+// instructions: a rewrite puts each of its runs here.
 pub fn put_run(map: &mut [u32], at: usize, start: u32, length: u32, cell: u32)
     requires { (at < size_of map.old) × (at + 1 < size_of map.old) × (at + 2 < size_of map.old) × (at + 3 < size_of map.old) }
     ensures { map.new
