@@ -231,10 +231,6 @@ module _ {n P model x y : ℕ} {xs counts : List ℕ} (k : Given n P model xs co
     no-race-kind q = sym (rw (split, sym e ∙ q))
 
     module _ {o : Bool} (t : o ≡ is_in_order (rows_in n xs) model x y) where
-      -- A row that is in order does not race.
-      pub no-race-order : o ≡ true → false ≡ seen (rows_in n xs) model y x
-      no-race-order q = sym (rw (sym t ∙ q) (and-false (conflict (row_at (rows_in n xs) x) (row_at (rows_in n xs) y))))
-
       -- Rows that conflict if they share a byte, and are not in order, race where they share one.
       pub by_byte : {r : Bool} → b ≡ true → o ≡ false → r ≡ share_byte (row_in xs x) (row_in xs y) → r ≡ seen (rows_in n xs) model y x
       by_byte q u w = w ∙ sym (rw (split, sym e ∙ q, sym t ∙ u) (and-true (share_byte (row_in xs x) (row_in xs y))))
@@ -299,14 +295,6 @@ module _ {rows : List Row} {model y before found x : ℕ} {list₀ list : List �
             many = rw (is ∙ t, append-nil) (v ∙ k.many);
             put = rw (is ∙ t, append-nil) (u ∙ k.put);
           }
-
-  -- After all rows below y, the list holds the races of row y.
-  pub putting_done : y ≤ x → (found ≡ before + length (pairs_with rows model y y)) × (list ≡ with_pairs before (pairs_with rows model y y) list₀)
-  putting_done h =
-      let d : x ≡ y = omega (arith, k.low) in (
-        k.many ∙ ap (λ (i : ℕ). before + length (pairs_with rows model y i)) d,
-        k.put ∙ ap (λ (i : ℕ). with_pairs before (pairs_with rows model y i) list₀) d,
-      )
 
 -- ---- All later rows
 

@@ -5,7 +5,7 @@ use Rattle.rows.specs.Limits.{PROCESSES}
 use Rattle.rows.specs.Rows.{rows_in}
 use Rattle.rows.proofs.Slices.{length-rows}
 use Rattle.races.proofs.Putting.{pair_group}
-use Rattle.races.proofs.Passes.{process-at, process-low, putting_start, putting_few, putting_next, putting_done}
+use Rattle.races.proofs.Passes.{process-at, process-low, putting_start, putting_few, putting_next}
 use Rattle.races.proofs.Later.put_found.Goals as goal
 use Rattle.races.proofs.Later.put_found.Goals.{else-is_race, then-is_race}
 
@@ -39,6 +39,3 @@ loop-x-preserved c =
       | then-is_race w ↦ inl (w.if-is_race.true, w.list-is ∙ w.put_group.ensures ∙ pair_group c.loop-x.found (c.loop-x.x + 1) (s.y + 1) c.loop-x.list, w.found-is)
       | else-is_race w ↦ inr (w.if-is_race.false, w.list-is, w.found-is)
     ])
-
-pub returns : goal.returns
-returns c = let both = putting_done c.loop-x.invariant c.loop-x-test.false in record { answer = both.0; listed = both.1 }
