@@ -197,9 +197,19 @@ fn the_list_of_contracts_is_that_of_the_sources() {
 }
 
 /// What may ask something of its callers: question 22, for callers that have asked question 10 of every row; the code of maps below `extents`, and
-/// its entries for callers that know their maps to be lawful.
-const MAY_ASK: [&str; 8] =
-    ["barriers", "extents_map", "extents_lay", "extents_pair", "extents_weave", "extents_publish", "extents_refresh", "extents::lawful"];
+/// its entries for callers that know their maps to be lawful; and the step that a kind of file brings along, which `machine_state` takes once it has
+/// asked question 13.
+const MAY_ASK: [&str; 9] = [
+    "barriers",
+    "extents_map",
+    "extents_lay",
+    "extents_pair",
+    "extents_weave",
+    "extents_publish",
+    "extents_refresh",
+    "extents::lawful",
+    "machine_state::File",
+];
 
 /// Every public function has a comment and an `ensures`, and none but those of `MAY_ASK` has a `requires`.
 #[test]

@@ -6,7 +6,7 @@ use Rattle.rows.specs.Limits.{PROCESSES, MESSAGES}
 use Rattle.rows.specs.Questions.{first_no}
 use Rattle.rows.specs.declared.refusal.Refusal.{Refusal}
 use Rattle.rows.specs.Refusals.{ROW_LIMIT, STUCK, number_of}
-use Rattle.messages.proofs.Asks.{refusal-number}
+use Rattle.rows.proofs.Asking.{number-some}
 use Rattle.rows.specs.Rows.{row_at, numbers, with_row}
 use Rattle.rows.specs.Tests.{any}
 use Rattle.rows.proofs.Bools.{or_right}
@@ -221,7 +221,7 @@ module _ {R P : ℕ} {first second : List ℕ} {both : List Row} {o : Joining} {
     -- A row with a No is refused by its number.
     pub row-no : (r : Refusal) → number_of r ≡ no → (Refused (number_of r) (n + 1) 0 ≡ joined_of o) × Holds o xs₀ xs ps₀ ps
     row-no r is =
-        let low : 1 ≤ number_of r = refusal-number r in
+        let low : 1 ≤ number_of r = number-some r in
         let refuses : o ≡ refused (number_of r) (n + 1) 0 = row-refused (λ z. omega (arith, is)) ∙ ap (λ (m : ℕ). refused m (n + 1) 0) (sym is) in
         refusal xs₀ xs ps₀ ps refuses
 

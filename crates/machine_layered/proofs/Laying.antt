@@ -1,10 +1,10 @@
 -- What a row answers and leaves, from what the entries of the map of pieces answer and leave.
-use Rattle.std.proofs.Common.{ℕ, suc, ◌+◌, ◌*◌, ◌-◌, ◌/◌, ◌≤◌, ◌<◌, add-one, arith, ◌≡◌, refl, sym, ap, ◌∙◌, Bool, true, false, cond, ◌&&◌, List, [], ◌∷◌, length, take, drop, lt-ltb, le-ltb, le-leb, leb-true, ne_eqb, eqb-true}
+use Rattle.std.proofs.Common.{ℕ, suc, ◌+◌, ◌*◌, ◌-◌, ◌/◌, ◌≤◌, ◌<◌, add-one, mul-le-mul_left, arith, ◌≡◌, refl, sym, ap, ◌∙◌, Bool, true, false, cond, ◌&&◌, List, [], ◌∷◌, length, take, drop, lt-ltb, le-ltb, le-leb, leb-true, ne_eqb, eqb-true}
 use mathlib.Core.Bool.{and-false, and_comm}
 use lib.Dec.{leb, ltb, eqb}
 use borrow.Author.Tests.{lt-leb, eqb-false}
 use borrow.Rule.Slice.PartMut.{put_mid}
-use Rattle.rows.specs.Limits.{MODELS, FILES, ROWS, OFFSET_MAX}
+use Rattle.rows.specs.Limits.{MODELS, PROCESSES, FILES, ROWS, OFFSET_MAX}
 use Rattle.rows.specs.Kinds.{READ, WRITE}
 use Rattle.models.specs.Table.{publishes, refreshes}
 use Rattle.rows.specs.declared.row.Row.{Row}
@@ -15,6 +15,7 @@ use Rattle.extents_meaning.specs.Cells.{Bytes, cell_of, overwrite, published, as
 use Rattle.extents_meaning.specs.Runs.{Run, runs_of, pieces_of}
 use Rattle.extents_meaning.specs.Maps.{map_for, threes, bytes_of, lawful, lawful_published, map_at, with_map, listed_in}
 use Rattle.rows.proofs.Bools.{and_out}
+use Rattle.rows.proofs.Limits.{limit-told}
 use Rattle.extents_meaning.proofs.Sides.{with_same}
 use Rattle.machine_meaning.specs.Layers.{Layers, after_row, pieces_read}
 use Rattle.machine_meaning.specs.States.{Header, maps_length, lawful_state, layers_in, layers_to, layers_fit, plain_fits}
@@ -22,7 +23,7 @@ use Rattle.rows.specs.Counting.{all_below}
 use Rattle.machine_meaning.specs.Steps.{done, listed, row_asked, room_asked, answered, decided, step_of}
 use Rattle.machine_meaning.proofs.Slices.{Alike, alike-fit, alike-to}
 use Rattle.machine_meaning.proofs.Lawful.{here-fit, to_same}
-use Rattle.rows.proofs.Asking.{AllYes, all_yes, first-no, yes-behind}
+use Rattle.rows.proofs.Asking.{AllYes, all_yes, first-no, yes-behind, number-some}
 use Rattle.extents.specs.Answers.{Answer, Done, Refused}
 use Rattle.extents_meaning.specs.Pairs.{two_maps, view_of, below_of}
 use Rattle.extents.specs.Entries.{both_maps, or_refused, or_kept, listed_count, write_refusal, written_map, list_refusal, publish_refusal, published_maps, refresh_refusal, refreshed_maps, sync_refusal, synced_maps, write_through_refusal, written_through_maps, read_refusal}
@@ -30,9 +31,15 @@ use Rattle.extents.proofs.Lent.{home, two-told, lent_map, map_lent, map_space}
 use Rattle.machine_state.specs.Answers.{answer_of, Steps, Ready}
 use Rattle.machine_state.proofs.Maps.{first-map, state_two, state_view, state_in, anew, fit-both, to_both, to_view_alone, shared', view', row-both}
 use Rattle.machine_state.proofs.Questions.{room-named, asked-yes, asked-process, asked-range}
-use Rattle.machine_state.proofs.Answering.{numbered, same_kept, carried, refused}
+use Rattle.machine_state.proofs.Answering.{same_kept, carried, refused}
 
 -- ---- Is the state lawful?
+
+-- The space of all maps is a number of 64 bits.
+pub limit-fits : (space n : ℕ) → space < 4294967296 → is_process_limit n ≡ true → space * (n + 1) < 18446744073709551616
+limit-fits space n h e =
+    let m : n + 1 ≤ PROCESSES + 1 = omega (arith, (limit-told n e).1) in
+    omega (arith, mul-le-mul_left space m)
 
 -- The answer for the lent part of the slice is the answer for the map.
 pub lent-lawful : (size p : ℕ) (xs : List ℕ) (b : Bool) → let at = (p + 1) * size in
@@ -105,7 +112,7 @@ module _ (h : Header) (xs : List ℕ) (r : Row) (number : ℕ) (out : List ℕ) 
   unfolding step_of first_no
   asked-step law refusal e =
       let k = number_of refusal in
-      let low : 1 ≤ k = numbered refusal in
+      let low : 1 ≤ k = number-some refusal in
       let n : k ≡ 0 → ⊥ = λ z. omega arith in
       let s = after_row h.model r number (layers_in h xs) in
       let pieces = pieces_read r (s.view r.process) in

@@ -14,7 +14,7 @@ use Rattle.machine_meaning.specs.Layers.{after_plain, pieces_read}
 use Rattle.machine_meaning.specs.States.{Header, lawful_plain, plain_in, plain_to, plain_fits}
 use Rattle.machine_meaning.specs.Steps.{StepAnswer, done, listed, plain_making_questions, row_asked, room_asked, plain_step_of}
 use Rattle.machine_meaning.proofs.Lawful.{here-fit, here-again}
-use Rattle.rows.proofs.Asking.{AllYes, first-no, yes-behind}
+use Rattle.rows.proofs.Asking.{AllYes, first-no, yes-behind, number-some}
 use Rattle.rows.specs.Refusals.{number_of}
 use Rattle.rows.specs.declared.refusal.Refusal.{Refusal}
 use Rattle.extents.specs.Answers.{Answer, Done, Refused}
@@ -22,7 +22,7 @@ use Rattle.extents.specs.Entries.{or_refused, or_kept, listed_count, write_refus
 use Rattle.machine_state.specs.Answers.{answer_of, Steps}
 use Rattle.machine_state.proofs.Maps.{first-map, plain-making}
 use Rattle.machine_state.proofs.Questions.{asked-yes, asked-number, asked-range}
-use Rattle.machine_state.proofs.Answering.{numbered, same_kept, kept_append, carried, refused}
+use Rattle.machine_state.proofs.Answering.{same_kept, kept_append, carried, refused}
 
 -- ---- Lawful plain files
 
@@ -101,7 +101,7 @@ module _ (h : Header) (xs : List ℕ) (law : lawful_plain h xs ≡ true) where
     unfolding plain_step_of first_no
     plain-asked refusal e =
         let k = number_of refusal in
-        let low : 1 ≤ k = numbered refusal in
+        let low : 1 ≤ k = number-some refusal in
         let n : k ≡ 0 → ⊥ = λ z. omega arith in
         let first = first-no (row_asked h r number) (room_asked (plain_fits h (after_plain r number (plain_in h xs)))
         (pieces_read r (after_plain r number (plain_in h xs))) (length out)) (λ z. n (e ∙ z)) ∙ sym e in

@@ -1,39 +1,10 @@
 -- The code answers and leaves what a step does, whether it is refused or not.
-use Rattle.std.proofs.Common.{ℕ, ◌≤◌, arith, ◌≡◌, refl, sym, ◌∙◌, Bool, true, false, cond, List, ◌++◌, eqb-true, ne_eqb}
+use Rattle.std.proofs.Common.{ℕ, ◌≡◌, refl, sym, ◌∙◌, Bool, true, false, cond, List, ◌++◌, eqb-true, ne_eqb}
 use lib.Dec.{eqb}
 use Rattle.machine_meaning.specs.Steps.{refusing, Step, decided}
-use Rattle.rows.specs.Refusals.{number_of}
-use Rattle.rows.specs.declared.refusal.Refusal.{Refusal}
-use Rattle.rows.specs.declared.refusal.Refusal.TheVariants.{ShortSlice, Limits, HeaderWord, Malformed, Header, RowLimit, SixFields, KnownKind, UsedFields, Range, RangeEnd, MessageOrder, State, RowNumber, OfFile, MapSpace, AnswerSpace, TextSpace, SharedProcess, Stuck, WaitOrder, BarrierOrder, ListSpace}
 use Rattle.extents.specs.Answers.{Answer, Refused}
 use Rattle.extents.specs.Entries.{or_refused, or_kept}
 use Rattle.machine_state.specs.Answers.{answer_of, Steps}
-
--- No refusal has number 0.
-pub numbered : (e : Refusal) → 1 ≤ number_of e
-numbered ShortSlice = omega arith
-numbered Limits = omega arith
-numbered HeaderWord = omega arith
-numbered Malformed = omega arith
-numbered Header = omega arith
-numbered RowLimit = omega arith
-numbered SixFields = omega arith
-numbered KnownKind = omega arith
-numbered UsedFields = omega arith
-numbered Range = omega arith
-numbered RangeEnd = omega arith
-numbered MessageOrder = omega arith
-numbered State = omega arith
-numbered RowNumber = omega arith
-numbered OfFile = omega arith
-numbered MapSpace = omega arith
-numbered AnswerSpace = omega arith
-numbered TextSpace = omega arith
-numbered SharedProcess = omega arith
-numbered Stuck = omega arith
-numbered WaitOrder = omega arith
-numbered BarrierOrder = omega arith
-numbered ListSpace = omega arith
 
 -- A list that does not change is kept either way.
 pub same_kept : (n : ℕ) {ys xs : List ℕ} → ys ≡ xs → xs ≡ or_kept n ys xs

@@ -14,7 +14,7 @@ use Rattle.rows.specs.declared.refusal.Refusal.TheVariants.{ShortSlice, State}
 use Rattle.extents.specs.Answers.{Answer}
 use Rattle.machine_state.specs.Answers.{answer_of, refusal_of, count_of, told_step, Steps, put_to}
 use Rattle.machine_state.specs.Files.{Keeps, Preserves}
-use Rattle.machine_state.proofs.Answering.{numbered}
+use Rattle.rows.proofs.Asking.{number-some}
 use Rattle.machine_state.proofs.Keeping.{put-preserves}
 use Rattle.machine_state.specs.Replays.{Replay, refusal_in, count_in, tried, row_passed, stopped, onward, after, replay_questions, started, replay_by, Replays}
 
@@ -248,7 +248,7 @@ module _ {law : List ℕ → Bool} {step : List ℕ → Row → ℕ → List ℕ
         (take at out ++ (zs ++ drop (length out - at) (drop at out)))
     refused-turn q is =
         let told-so : number_of q ≡ refusal_of a = sym (ap refusal_of is) in
-        let low : 1 ≤ number_of q = numbered q in
+        let low : 1 ≤ number_of q = number-some q in
         let no : refusal_in t.answer ≡ 0 → ⊥ = λ z. omega (arith, told-so ∙ refusal_is ∙ z) in
         let still = kept.stays no in
         let ends = g.whole ∙ ap (λ (m : ℕ). after step file rows m s) next ∙ stop-next step file rows (n - (k + 1)) s refl no in

@@ -2,7 +2,7 @@
 // replaying any of them.
 #![tactic(auto)]
 
-pub mod files;
+mod files;
 
 ghost use Rattle.std.specs.Prelude.{◌+◌, ◌*◌, ◌≡◌, ◌&&◌, leb};
 ghost use Rattle.rows.specs.Questions.{first_no};

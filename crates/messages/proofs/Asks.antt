@@ -1,14 +1,12 @@
 -- What the first No of the questions from 12 on says, clause by clause.
-use Rattle.std.proofs.Common.{ℕ, ◌≤◌, ◌≡◌, refl, ◌↔◌, Bool, true, false, cond, not, ◌&&◌, List, arith, eqb-true}
+use Rattle.std.proofs.Common.{◌≡◌, refl, ◌↔◌, Bool, true, false, cond, not, ◌&&◌, List, arith, eqb-true}
 use mathlib.Core.Bool.{false≢true}
 use lib.Dec.{eqb}
 use borrow.Author.Tests.{not-true}
 use Rattle.rows.specs.declared.row.Row.{Row}
 use Rattle.rows.specs.Kinds.{SEND, RECV, WAIT}
 use Rattle.rows.specs.Questions.{first_no}
-use Rattle.rows.specs.declared.refusal.Refusal.{Refusal}
-use Rattle.rows.specs.declared.refusal.Refusal.TheVariants.{ShortSlice, Limits, HeaderWord, Malformed, Header, RowLimit, SixFields, KnownKind, UsedFields, Range, RangeEnd, MessageOrder, State, RowNumber, OfFile, MapSpace, AnswerSpace, TextSpace, SharedProcess, Stuck, WaitOrder, BarrierOrder, ListSpace}
-use Rattle.rows.specs.Refusals.{MESSAGE_ORDER, WAIT_ORDER, number_of}
+use Rattle.rows.specs.Refusals.{MESSAGE_ORDER, WAIT_ORDER}
 use Rattle.rows.proofs.Bools.{and_out}
 use Rattle.messages.specs.Questions.{sent, sent_by, posted, posted_by, waited_for, message_in_order, wait_in_order, message_questions}
 
@@ -75,29 +73,3 @@ in_order before r o =
     wait : (x : Bool) → eqb r.kind WAIT ≡ x → wait_in_order before r ≡ true
     wait true p = let k = eqb-true r.kind WAIT p in rw (p, o.posted-before k, o.sent-before k, o.unwaited k)
     wait false p = rw p
-
--- No refusal has the number 0.
-pub refusal-number : (e : Refusal) → 1 ≤ number_of e
-refusal-number ShortSlice = omega arith
-refusal-number Limits = omega arith
-refusal-number HeaderWord = omega arith
-refusal-number Malformed = omega arith
-refusal-number Header = omega arith
-refusal-number RowLimit = omega arith
-refusal-number SixFields = omega arith
-refusal-number KnownKind = omega arith
-refusal-number UsedFields = omega arith
-refusal-number Range = omega arith
-refusal-number RangeEnd = omega arith
-refusal-number MessageOrder = omega arith
-refusal-number State = omega arith
-refusal-number RowNumber = omega arith
-refusal-number OfFile = omega arith
-refusal-number MapSpace = omega arith
-refusal-number AnswerSpace = omega arith
-refusal-number TextSpace = omega arith
-refusal-number SharedProcess = omega arith
-refusal-number Stuck = omega arith
-refusal-number WaitOrder = omega arith
-refusal-number BarrierOrder = omega arith
-refusal-number ListSpace = omega arith

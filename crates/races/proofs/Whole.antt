@@ -9,7 +9,7 @@ use Rattle.rows.specs.declared.refusal.Refused as refused
 use Rattle.rows.specs.declared.refusal.Refusal.{Refusal}
 use Rattle.rows.specs.Rows.{rows_in}
 use Rattle.rows.specs.Questions.{long_enough, is_process_limit, first_no}
-use Rattle.rows.proofs.Asking.{all_yes, none-no, none-appended, first-no, rest-decides}
+use Rattle.rows.proofs.Asking.{all_yes, none-no, none-appended, first-no, rest-decides, number-some}
 use Rattle.happens_before.specs.Order.{count, counts_of}
 use Rattle.happens_before.specs.Filling.{count_limits, fill_questions, filled_left}
 use Rattle.rows.proofs.Bools.{and_out}
@@ -24,10 +24,6 @@ use Rattle.races.specs.Given.{Given}
 use Rattle.races.specs.Listing as listed
 use Rattle.races.specs.Listing.{told_listed, has_room, list_questions, listed_of, list_left, room_answer, room_left, with_pairs}
 use Rattle.races.proofs.Putting.{put_all, put_first}
-
--- A refusal's number is past 0.
-pub some-number : (e : Refusal) → 0 < number_of e
-some-number e = grind arith
 
 -- ---- The first race
 
@@ -179,19 +175,19 @@ module _ (n P model : ℕ) (xs : List ℕ) where
       -- The first No of a list is that of the verdict.
       list-first : first_no (list_questions n P model xs (length counts) (length list)) ≡ number_of e
       unfolding list_questions
-      list-first = first-no (judge_questions n P model xs (length counts)) _ (λ z. omega (arith, some-number e)) ∙ sym refuses
+      list-first = first-no (judge_questions n P model xs (length counts)) _ (λ z. omega (arith, number-some e)) ∙ sym refuses
 
       -- A list is refused with the same number.
       pub list-refuses : (answer : Result ℕ refused.Refused) → IsErrAnd answer (λ r. r ≡ refused_at e 0) →
           told_listed answer ≡ listed_of (first_no (list_questions n P model xs (length counts) (length list))) (race_pairs (rows_in n xs) model)
       list-refuses (Err r) q =
-          rw (list-first, ne_eqb (number_of e) 0 (λ z. omega (arith, some-number e)))
+          rw (list-first, ne_eqb (number_of e) 0 (λ z. omega (arith, number-some e)))
           (ap (λ (r : refused.Refused). listed.Refused (number_of r.refusal) r.place) q)
       list-refuses (Ok r) q = absurd q
 
       -- It stays as it was.
       pub list-stays : list ≡ list_left (first_no (list_questions n P model xs (length counts) (length list))) (race_pairs (rows_in n xs) model) list
-      list-stays = rw (list-first, ne_eqb (number_of e) 0 (λ z. omega (arith, some-number e))) refl
+      list-stays = rw (list-first, ne_eqb (number_of e) 0 (λ z. omega (arith, number-some e))) refl
 
     module _ (passed : first ≡ 0) where
       -- A model is known where every answer was Yes.

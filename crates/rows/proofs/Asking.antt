@@ -1,6 +1,8 @@
 -- What the first No says of a list of questions.
-use Rattle.std.proofs.Common.{ℕ, ◌≤◌, arith, ◌≡◌, refl, ◌∙◌, Bool, true, false, cond, List, [], ◌∷◌, ◌++◌}
+use Rattle.std.proofs.Common.{ℕ, ◌≤◌, ◌<◌, arith, ◌≡◌, refl, ◌∙◌, Bool, true, false, cond, List, [], ◌∷◌, ◌++◌}
 use Rattle.rows.specs.Questions.{Question, first_no}
+use Rattle.rows.specs.Refusals.{number_of}
+use Rattle.rows.specs.declared.refusal.Refusal.{Refusal}
 
 -- No question has a number below k.
 abbrev pub From : ℕ → List Question → Type 0
@@ -84,3 +86,7 @@ yes-parts (q ∷ qs) rest y = let b = yes-parts qs rest y.1 in ((y.0, b.0), b.1)
 pub from_append : (k : ℕ) (qs rest : List Question) → From k qs → From k rest → From k (qs ++ rest)
 from_append k [] rest m n = n
 from_append k (q ∷ qs) rest m n = (m.0, from_append k qs rest m.1 n)
+
+-- Every refusal has a number above 0.
+pub number-some : (e : Refusal) → 0 < number_of e
+number-some e = grind arith

@@ -1,36 +1,9 @@
 -- Refusals by their numbers, and the answers that hand on a refusal with more said.
-use Rattle.std.proofs.Common.{ℕ, ◌<◌, arith, ◌≡◌, refl, Result, Ok, Err}
+use Rattle.std.proofs.Common.{ℕ, arith, ◌≡◌, refl, Result, Ok, Err}
 use Rattle.std.specs.Result.{MatchResult}
-use Rattle.rows.specs.Refusals.{number_of, refused_at}
+use Rattle.rows.specs.Refusals.{refused_at}
 use Rattle.rows.specs.declared.refusal.Refused.{Refused}
 use Rattle.rows.specs.declared.refusal.Refusal.{Refusal}
-use Rattle.rows.specs.declared.refusal.Refusal.TheVariants.{ShortSlice, Limits, HeaderWord, Malformed, Header, RowLimit, SixFields, KnownKind, UsedFields, Range, RangeEnd, MessageOrder, State, RowNumber, OfFile, MapSpace, AnswerSpace, TextSpace, SharedProcess, Stuck, WaitOrder, BarrierOrder, ListSpace}
-
--- every refusal has a number
-pub number_some : (e : Refusal) → 0 < number_of e
-number_some ShortSlice = omega arith
-number_some Limits = omega arith
-number_some HeaderWord = omega arith
-number_some Malformed = omega arith
-number_some Header = omega arith
-number_some RowLimit = omega arith
-number_some SixFields = omega arith
-number_some KnownKind = omega arith
-number_some UsedFields = omega arith
-number_some Range = omega arith
-number_some RangeEnd = omega arith
-number_some MessageOrder = omega arith
-number_some State = omega arith
-number_some RowNumber = omega arith
-number_some OfFile = omega arith
-number_some MapSpace = omega arith
-number_some AnswerSpace = omega arith
-number_some TextSpace = omega arith
-number_some SharedProcess = omega arith
-number_some Stuck = omega arith
-number_some WaitOrder = omega arith
-number_some BarrierOrder = omega arith
-number_some ListSpace = omega arith
 
 -- What an answer was that has got a place.
 module _ {T : Type 0} (place : ℕ) where

@@ -4,14 +4,13 @@ use native.Mathlib.Decide.{ℕ_discrete}
 use lib.Dec.{eqb}
 use Rattle.messages.specs.Questions.{message_questions}
 use Rattle.messages.specs.Table.{table_questions, table_after}
-use Rattle.messages.proofs.Asks.{refusal-number}
 use Rattle.messages.proofs.Tables.{Tells, tells_none, tells-asks, tells-next}
 use Rattle.rows.specs.declared.row.Row.{Row}
 use Rattle.rows.specs.declared.refusal.Refusal.{Refusal}
 use Rattle.rows.specs.Limits.{PROCESSES, MESSAGES}
 use Rattle.rows.specs.Questions.{Question, first_no}
 use Rattle.rows.specs.Refusals.{number_of, Asks}
-use Rattle.rows.proofs.Asking.{From, first-no, rest-decides, none-appended, none-no}
+use Rattle.rows.proofs.Asking.{From, first-no, rest-decides, none-appended, none-no, number-some}
 use Rattle.trace.specs.Questions.{refused}
 use Rattle.trace.proofs.Laws.{WellFormed}
 use Rattle.writer.specs.Answers.{Passed, No}
@@ -69,7 +68,7 @@ module _ {P : ℕ} {all : List Row} {table : List ℕ} {taken left : List Row} {
       -- A first No refuses the row by its number.
       pub row-no : (e : Refusal) → number_of e ≡ asked → No (number_of e) (number + 1) ≡ asked_of (ask_rows P [] all)
       row-no e is =
-          let low : 1 ≤ number_of e = refusal-number e in
+          let low : 1 ≤ number_of e = number-some e in
           let some : number_of e ≡ 0 → ⊥ = λ z. omega arith in
           let refuses : cond (eqb (number_of e) 0) (ask_rows P (taken ++ (row ∷ [])) rest) (refused (number_of e) (length taken + 1)) ≡ refused (number_of e) (number + 1) =
           rw (ne_eqb (number_of e) 0 some, k.count) in
@@ -97,7 +96,7 @@ module _ (qs rest : List Question) where
   -- A first No among the first questions is the first of all.
   pub first-refuses : (e : Refusal) → number_of e ≡ first_no qs → number_of e ≡ first_no (qs ++ rest)
   first-refuses e is =
-      let low : 1 ≤ number_of e = refusal-number e in
+      let low : 1 ≤ number_of e = number-some e in
       is ∙ sym (first-no qs rest (λ z. omega (arith, is)))
 
   -- Behind a first part without a No the rest decides.

@@ -16,7 +16,7 @@ use Rattle.trace.proofs.Sounds.{sound_fit}
 use Rattle.rows.specs.declared.refusal.Refusal.{Refusal}
 use Rattle.rows.specs.declared.refusal.Refusal.TheVariants.{BarrierOrder, TextSpace}
 use Rattle.rows.specs.declared.refusal.Refused.{Refused as RefusedAt}
-use Rattle.messages.proofs.Asks.{refusal-number}
+use Rattle.rows.proofs.Asking.{number-some}
 use Rattle.writer.specs.Answers.{Passed, No, Length, told_asked, told_written}
 use Rattle.writer.specs.Writing.{LINE_MOST, lines_of, header_of, text_of, write_questions, ask_rows, asked_of, text_fits, Writing, not_written, written, on_asked, write_trace, written_of, out_left, Writes}
 use Rattle.writer.proofs.Formed.{passes-iff, asked-all}
@@ -57,7 +57,7 @@ module _ (xs : List ℕ) (n header P place : ℕ) (out : List ℕ) where
   pub call-no : (e : Refusal) → number_of e ≡ first → Writes whole (Err (refused_at e 0)) place out out
   unfolding write_trace
   call-no e is =
-      let low : 1 ≤ number_of e = refusal-number e in
+      let low : 1 ≤ number_of e = number-some e in
       let some : number_of e ≡ 0 → ⊥ = λ z. omega arith in
       let w : whole ≡ not_written (number_of e) 0 = rw (sym is, ne_eqb (number_of e) 0 some) in gives w (Err (refused_at e 0)) refl
 

@@ -1,7 +1,7 @@
 -- `join::join_rows` meets its contract.
 use Rattle.std.proofs.Common.{rules, arith, refl, sym, ap, ◌∙◌, length, replicate, ℕ, ◌≡◌, ◌≤◌}
 use Rattle.std.proofs.lemmas.Result.{err_from_is_err_and}
-use Rattle.messages.proofs.Asks.{refusal-number}
+use Rattle.rows.proofs.Asking.{number-some}
 use Rattle.rows.specs.Refusals.{number_of}
 use Rattle.join_meaning.specs.Joining.{join_traces}
 use Rattle.join.specs.Leaving.{joined_of, HeldOver}
@@ -18,7 +18,7 @@ returns-in_err-ask_join c =
     let counts = a.counts.now in
     let parts = a.parts.now in
     let e = c.in_err-ask_join.field-0.0 in
-    let low : 1 ≤ number_of e = refusal-number e in
+    let low : 1 ≤ number_of e = number-some e in
     let q = err_from_is_err_and c.from_residual.result c.from_residual.ensures.1 in
     rw (q.1, q.2)
     (leaves_all rows counts parts

@@ -3,7 +3,7 @@ use Rattle.std.proofs.Common.{length, replicate, ℕ, arith, refl, sym, ap, ◌�
 use Rattle.std.proofs.lemmas.Result.{err_from_is_err_and}
 use Rattle.csv_records.specs.Reading.{records}
 use Rattle.trace.specs.Questions.{check_trace, checked_of, Holds}
-use Rattle.trace.proofs.Refusing.{number_some}
+use Rattle.rows.proofs.Asking.{number-some}
 use Rattle.trace.proofs.Whole.{call-passed, call-refused, first_three, accepted-told, refused-told, leaves_all, leaves_none, leaves-rows, rows_within}
 use Rattle.trace.proofs.Laws.{legal, refused-from_four}
 use Rattle.trace.proofs.check_trace.Goals as goal
@@ -13,7 +13,7 @@ returns-in_err-ask_call c =
     let p = err_from_is_err_and c.from_residual.result c.from_residual.ensures.1 in
     leaves_all c.args.rows.now c.args.counts.now (rw (p.1, p.2) refl)
     (call-refused c.args.text.now c.args.call.header c.args.call.model c.args.call.row_limit c.args.call.process_limit c.args.call.byte_limit (length c.args.rows.now) (length c.args.counts.now)
-    c.in_err-ask_call.ensures (λ z. omega (arith, number_some c.in_err-ask_call.field-0.0)))
+    c.in_err-ask_call.ensures (λ z. omega (arith, number-some c.in_err-ask_call.field-0.0)))
     (first_three c.args.text.now c.args.call.header c.args.call.model c.args.call.row_limit c.args.call.process_limit c.args.call.byte_limit (length c.args.rows.now) (length c.args.counts.now) c.in_err-ask_call.ensures)
 
 pub read_trace-requires-clause-few : goal.read_trace-requires-clause-few

@@ -4,7 +4,7 @@ use Rattle.std.proofs.lemmas.Result.{err_from_is_err_and}
 use Rattle.csv_records.specs.declared.Unread.TheVariants as unread
 use Rattle.csv_records.specs.Reading.{read_at}
 use Rattle.csv_records.proofs.Answers.{tells}
-use Rattle.trace.proofs.Refusing.{number_some}
+use Rattle.rows.proofs.Asking.{number-some}
 use Rattle.trace.proofs.Turns.{end-step, malformed-step, limit-step, record-no, row-no, row-taken}
 use Rattle.trace.proofs.reading.next_row.Goals as goal
 
@@ -35,7 +35,7 @@ returns-in_err-ask-clause-answer g c =
     let e = rw c.in-Ok-Some.field-0-is at c.in-Ok-Some.ensures in
     let t = tells (read_at c.args.text.now c.args.at c.args.call.byte_limit) (Ok (Some c.in-Ok-Some.record)) e in
     let p = err_from_is_err_and c.from_residual-in_err-ask.result c.from_residual-in_err-ask.ensures.1 in
-    rw (p.1, p.2) (row-no _ _ _ _ _ _ _ t c.in_ok-row.ensures refl c.in_err-ask.ensures.answer (λ z. omega (arith, number_some c.in_err-ask.field-0.0)))
+    rw (p.1, p.2) (row-no _ _ _ _ _ _ _ t c.in_ok-row.ensures refl c.in_err-ask.ensures.answer (λ z. omega (arith, number-some c.in_err-ask.field-0.0)))
 
 pub returns-clause-answer : goal.returns-clause-answer
 returns-clause-answer g c =

@@ -2,7 +2,7 @@
 use Rattle.std.proofs.Common.{arith, []}
 use Rattle.std.proofs.lemmas.Result.{err_from_is_err_and}
 use Rattle.trace.specs.Reader.{judge_asked, rows_asked}
-use Rattle.trace.proofs.Refusing.{number_some}
+use Rattle.rows.proofs.Asking.{number-some}
 use Rattle.trace.proofs.Turns.{header-refused, header-passed, refusal}
 use Rattle.trace.proofs.reading.read_header_and_rows.Goals as goal
 
@@ -11,12 +11,12 @@ returns-in_err-start-clause-answer g c =
     let p = err_from_is_err_and c.from_residual.result c.from_residual.ensures.1 in
     rw (p.1, p.2)
     (refusal c.args.rows.now c.args.rows.now
-    (header-refused _ _ _ _ c.in_err-start.ensures.asked (λ z. omega (arith, number_some c.in_err-start.field-0.0)))).0
+    (header-refused _ _ _ _ c.in_err-start.ensures.asked (λ z. omega (arith, number-some c.in_err-start.field-0.0)))).0
 
 pub returns-in_err-start-clause-held : goal.returns-in_err-start-clause-held
 returns-in_err-start-clause-held g c =
     (refusal c.args.rows.now c.args.rows.now
-    (header-refused _ _ _ _ c.in_err-start.ensures.asked (λ z. omega (arith, number_some c.in_err-start.field-0.0)))).1
+    (header-refused _ _ _ _ c.in_err-start.ensures.asked (λ z. omega (arith, number-some c.in_err-start.field-0.0)))).1
 
 pub returns-clause-answer : goal.returns-clause-answer
 unfolding rows_asked
