@@ -1,4 +1,5 @@
-// The code of one map of pieces: scanning it, finding runs, listing pieces. Its functions have preconditions and serve the crates above.
+// The code of one map of pieces: scanning it, finding runs, listing pieces, and the modes by which two maps are mixed. Functions with preconditions serve
+// the crates above.
 #![tactic(auto)]
 
 pub mod list;

@@ -1,4 +1,4 @@
-// The table of the models: which rows publish and which refresh, by model and kind.
+// The models, and their table: which rows publish and which refresh, by model and kind.
 #![tactic(auto)]
 
 ghost use Rattle.std.specs.Prelude.{◌≡◌};

@@ -1,4 +1,4 @@
--- Rows of a trace: kinds and their words, the fields that a kind uses, numbers, and the row that a record stands for. The crates
+-- Rows of a trace: kinds and their words, the fields that a kind uses, numbers, and the row that a record stands for. The crates `rows`,
 -- `trace_fields` and `trace_numbers` define them.
 pub use Rattle.rows.specs.Kinds.{kind_words}
 pub use Rattle.trace_fields.specs.Rows.{kind_of, header_names, range_used, file_used, message_used, none_used, used_table}

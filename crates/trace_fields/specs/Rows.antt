@@ -1,4 +1,4 @@
--- Rows of a trace: kinds and their words, the fields that a kind uses, and the row that a record stands for.
+-- Rows of a trace: the kind of a word, the fields that a kind uses, and the row that a record stands for.
 use Rattle.std.specs.Prelude.{ℕ, ◌+◌, Bool, true, false, cond, ◌&&◌, List, [], ◌∷◌, get_or, Option, Some, None}
 use Rattle.csv_content.specs.Content.{same_bytes}
 use Rattle.rows.specs.declared.row.Row.{Row}
