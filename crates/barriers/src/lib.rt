@@ -117,6 +117,7 @@ impl BarrierTable {
         ensures left { result ≡ None → self.new.arrivals ≡ arrivals_after self.old.arrivals (rows_in n rows.now) }
         ensures processes { self.new.processes ≡ self.old.processes }
     {
+        // The row's number counts from 1 and has 32 bits, which `enumerate` has not.
         let mut number = 0;
         for row in rows::first_rows(rows, n as usize) {
             number += 1;

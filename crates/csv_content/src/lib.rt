@@ -48,6 +48,7 @@ fn same_undoubled(a: &[u8], b: &[u8]) -> bool
 {
     let mut j = 0;
     let mut kept = false;
+    // The place in `b` is counted by hand: it stays where a second quote is passed over.
     for x in a {
         if is_second(*x, kept) {
             kept = false;

@@ -1,4 +1,6 @@
-// The entries without question 13, for a caller that knows its maps to be lawful.
+// The entries without question 13, for a caller that knows its maps to be lawful. They keep their slices and the clauses on them: a type over a `&mut`
+// slice that says that its maps are lawful would hold the slice anew behind each write, and two maps are named by their places in one slice, since two
+// `&mut` parts of it would be lent and given back at each entry. Two lines in each entry make the pair, which a function of their own would not shorten.
 ghost use Rattle.std.specs.Prelude.{◌-◌, ◌≤◌, ◌≡◌, true, length, ltb};
 ghost use Rattle.rows.specs.Limits.{ROWS};
 ghost use Rattle.extents_meaning.specs.Cells.{cell_of};
@@ -69,6 +71,7 @@ pub fn list_range(map: &[u32], start: u32, length: u32, out: &mut [u32]) -> Resu
     Ok(n as u32)
 }
 
+// As extents_pair::lacks of one map alone, which lists other pieces: one function for both would be a `match` on which.
 // Has a range of a map more pieces than there is room for? A range has at most two for each run of the map, and one more: the walk counts them
 // only where the room may lack.
 fn lacks(map: LawfulMap<'_>, from: u32, to: u32, room: usize) -> bool

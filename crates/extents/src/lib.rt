@@ -12,7 +12,8 @@ pub mod lawful;
 use extents_map::locate::LawfulMap;
 use rows::refusal::Refusal;
 
-// The row number and the mark of a byte, and the first byte behind it where either differs, 4,294,967,295 where there is none.
+// The row number and the mark of a byte, 0 or 1 as maps have it, and the first byte behind it where either differs, 4,294,967,295 where there is none:
+// the definitions speak of these numbers.
 #[derive(Clone, Copy, Debug, PartialEq, Eq, Hash)]
 pub struct Stretch {
     pub number: u32,

@@ -28,6 +28,7 @@ pub fn is_lawful(map: &[u32]) -> bool
     let space = map.len() / 4;
     let mut end = 0;
     let mut cell = 0;
+    // By the runs' places: `locate::run_at` says why.
     for i in 0..space {
         let run = locate::run_at(map, i);
         if run.length == 0 {
@@ -79,6 +80,7 @@ pub fn is_published(map: &[u32]) -> bool
 fn has_no_marks(map: &[u32]) -> bool
     ensures { result ≡ no_marks (runs map.now) }
 {
+    // By the runs' places, as in is_lawful.
     for i in 0..map.len() / 4 {
         let run = locate::run_at(map, i);
         if run.length == 0 {
@@ -97,6 +99,7 @@ pub fn see(map: &[u32], from: usize, x: u32) -> Look
     ensures { Looked map.now from x result }
 {
     let space = map.len() / 4;
+    // By the runs' places, as in is_lawful.
     for i in from..space {
         let run = locate::run_at(map, i);
         if run.length == 0 {

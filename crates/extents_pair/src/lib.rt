@@ -1,4 +1,5 @@
-// One or two maps of a slice that has several, by their numbers.
+// One or two maps of a slice that has several, by their numbers. The clauses on two lawful maps stay with the functions: a type over the `&mut` slice
+// would hold it anew behind each write.
 #![tactic(auto)]
 
 ghost use Rattle.std.specs.Prelude.{ℕ, ◌+◌, ◌*◌, ◌-◌, ◌≤◌, ◌<◌, ◌≡◌, true, ◌⊎◌, length, leb, ltb};
@@ -157,6 +158,7 @@ fn marked_in(map: LawfulMap<'_>) -> usize
     let numbers = map.numbers;
     let all = map.runs_in();
     let mut n = 0;
+    // By the runs' places: through `as_chunks` such a walk takes longer (extents_map::locate).
     for i in 0..all {
         n += numbers[i * 4 + 3] as usize;
     }

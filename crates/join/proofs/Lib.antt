@@ -7,3 +7,4 @@ pub mod Flags
 pub mod Asking
 pub mod Whole
 pub mod Asked
+pub mod Searching

@@ -173,26 +173,27 @@ fn choice_of(file: File, next: Next) -> Choice
     }
 }
 
-// The bytes that a choice names.
-fn span_of(choice: Choice) -> Span
-    ensures { result ≡ record { start = choice.start; len = choice.end - choice.start; doubled = false } }
-{
-    Span {
-        start: choice.start,
-        len: choice.end.saturating_sub(choice.start),
-        doubled: false,
-    }
-}
-
-// Hands over the record that was chosen, as a part of the file that holds it, without its line end.
+// Hands over the record that was chosen, as a part of the file that holds it, without its line end. The file is named by its number, as the places of
+// a join's rows name it, and any number but 1 names the second: this clause holds for every number.
 #[tactic(auto, unfolding(crate::specs::Choosing::part_named))]
-pub fn hand_over<'a>(first: &'a [u8], second: &'a [u8], choice: Choice) -> &'a [u8]
-    ensures { result.now ≡ part_named first.now second.now (told_choice choice) }
+pub fn hand_over<'a>(
+    first: &'a [u8],
+    second: &'a [u8],
+    file: u32,
+    start: usize,
+    end: usize,
+) -> &'a [u8]
+    ensures { result.now ≡ part_named first.now second.now record { file = file; start = start; end = end } }
 {
-    let span = span_of(choice);
-    match choice.file {
-        File::First => csv_content::raw(first, span),
-        File::Second => csv_content::raw(second, span),
+    let span = Span {
+        start,
+        len: end.saturating_sub(start),
+        doubled: false,
+    };
+    if file == File::First.number() {
+        csv_content::raw(first, span)
+    } else {
+        csv_content::raw(second, span)
     }
 }
 

@@ -93,7 +93,9 @@ fn join_records<'a>(
     let mut n = 0;
     // A record is taken in its turn: the turn is computed from the tables, so this is no loop over a list.
     while let Some(choice) = tables.choose(a, b)? {
-        let row = choosing::row_of(choosing::hand_over(first, second, choice), limit);
+        let file = choice.file.number();
+        let part = choosing::hand_over(first, second, file, choice.start, choice.end);
+        let row = choosing::row_of(part, limit);
         tables.take(row, n, call.row_limit)?;
         rows::put_row(rows, n as usize, row);
         put_part(parts, n as usize, choice);

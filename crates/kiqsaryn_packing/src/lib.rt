@@ -4,7 +4,7 @@
 
 ghost use Rattle.std.specs.Prelude.{◌≡◌, ◌%◌, ◌+◌, ◌*◌, ℕ};
 ghost use Rattle.rows.specs.Refusals.{number_of};
-ghost use Rattle.kiqsaryn_packing.specs.Packing.{WORD, UPPER, packed_race, number_if};
+ghost use Rattle.kiqsaryn_packing.specs.Packing.{WORD, WORD_4, UPPER, packed_race, number_if};
 
 use checker::Judged;
 use extents::Stretch;
@@ -35,11 +35,26 @@ pub trait Packed {
         ensures { result ≡ packed self };
 }
 
-// A refusal with its place: its number in the upper half and its place in the lower.
+// Packs any two numbers by halves, as a refusal's number and its place: the first in the upper half, the second in the lower.
+pub fn pack_halves(number: u32, place: u32) -> u64
+    ensures { result ≡ number * UPPER + place }
+{
+    number as u64 * UPPER + place as u64
+}
+
+// Packs any three numbers by words of 16 bits, as a refusal's number, its file and its place: the first in the highest word, the second in the second
+// one and the third in the lowest. A word holds the lowest 16 bits of its number.
+pub fn pack_words(number: u32, file: u32, place: u32) -> u64
+    ensures { result ≡ number % WORD * WORD_4 + file % WORD * WORD + place % WORD }
+{
+    word(number) * WORD_4 + word(file) * WORD + word(place)
+}
+
+// A refusal with its place, by halves.
 fn pack_refused(refused: Refused) -> u64
     ensures { result ≡ number_of refused.refusal * UPPER + refused.place }
 {
-    refused.refusal.number() as u64 * UPPER + refused.place as u64
+    pack_halves(refused.refusal.number(), refused.place)
 }
 
 // What a check or a list of races answers: the count of an accepted trace's rows or of the pairs, and of a refusal its number in the upper half
@@ -79,7 +94,7 @@ fn word(n: u32) -> u64
 }
 
 // A trace's rows, and its first race: from the lowest word the row count, the later and the earlier row, both 0 for free, and 0.
-fn pack_race(rows: u32, race: Option<Race>) -> u64
+pub fn pack_race(rows: u32, race: Option<Race>) -> u64
     ensures { result ≡ packed_race rows race }
 {
     match race {
@@ -101,7 +116,7 @@ impl Packed for Result<Judged, Refused> {
     fn pack(self) -> u64 {
         match self {
             Ok(judged) => pack_race(judged.rows, judged.race),
-            Err(refused) => word(refused.refusal.number()) * WORD_4 + word(refused.place),
+            Err(refused) => pack_words(refused.refusal.number(), 0, refused.place),
         }
     }
 }
@@ -119,7 +134,7 @@ impl Packed for Result<Judged, JoinRefused> {
             Ok(judged) => pack_race(judged.rows, judged.race),
             Err(refused) => {
                 let file = refused.file.map_or(0, |file| file.number());
-                word(refused.refusal.number()) * WORD_4 + word(file) * WORD + word(refused.place)
+                pack_words(refused.refusal.number(), file, refused.place)
             }
         }
     }
@@ -135,8 +150,8 @@ impl Packed for Result<Option<Race>, Refusal> {
     fn pack(self) -> u64 {
         match self {
             Ok(None) => 0,
-            Ok(Some(Race { earlier, later })) => earlier as u64 * UPPER + later as u64,
-            Err(refusal) => refusal.number() as u64 * UPPER,
+            Ok(Some(Race { earlier, later })) => pack_halves(earlier, later),
+            Err(refusal) => pack_halves(refusal.number(), 0),
         }
     }
 }
@@ -151,7 +166,7 @@ impl Packed for Result<Option<u32>, Refusal> {
         match self {
             Ok(None) => 0,
             Ok(Some(count)) => count as u64,
-            Err(refusal) => refusal.number() as u64 * UPPER,
+            Err(refusal) => pack_halves(refusal.number(), 0),
         }
     }
 }
@@ -166,7 +181,7 @@ impl Packed for Result<Stretch, Refusal> {
     fn pack(self) -> u64 {
         match self {
             Ok(s) => (word(s.number) * MARKS + s.mark as u64 % MARKS) * UPPER + s.next as u64,
-            Err(refusal) => word(refusal.number()) * WORD_4,
+            Err(refusal) => pack_words(refusal.number(), 0, 0),
         }
     }
 }
@@ -189,6 +204,6 @@ impl Packed for Replayed {
 
     fn pack(self) -> u64 {
         let number = self.refusal.map_or(0, |refusal| refusal.number());
-        number as u64 * UPPER + self.rows as u64
+        pack_halves(number, self.rows)
     }
 }

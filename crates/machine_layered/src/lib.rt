@@ -95,6 +95,7 @@ fn are_lawful(maps: &[u32], size: usize, n: usize) -> bool
     requires { (n + 1) * size ≤ length maps.now }
     ensures { result ≡ all_below n (λ p. lawful (take size (drop (suc p * size) maps.now))) }
 {
+    // By the maps' places: a map's size is a number of the header, which may be 0, and `chunks_exact` takes none of 0.
     for p in 0..n {
         let at = (p + 1) * size;
         if !extents::is_lawful(&maps[at..at + size]) {
@@ -119,6 +120,7 @@ fn read(
     let view = row.process as usize + 1;
     let offset = row.offset;
     let length = row.length;
+    // By the kind's number, as the table of models is asked everywhere.
     if models::is_refresh(machine.model, rows::READ) {
         return extents::lawful::read(maps, space, view, 0, offset, length, out);
     }
@@ -136,6 +138,7 @@ fn write(machine: Machine, maps: &mut [u32], row: Row, number: u32) -> Result<()
     let view = row.process as usize + 1;
     let offset = row.offset;
     let length = row.length;
+    // By the kind's number, as the table of models is asked everywhere.
     if models::is_publish(machine.model, rows::WRITE) {
         return extents::lawful::write_through(maps, space, view, 0, offset, length, number);
     }

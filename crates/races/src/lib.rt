@@ -123,6 +123,7 @@ impl<'a> Search<'a> {
         for y in 0..self.n {
             let mut pair = [0; PAIR];
             let found = self.put_races_with(y, 0, &mut pair);
+            // How many pairs were put, which is 0 or 1 in a list of one: the search is that of list_races.
             if 0 < found {
                 return Some(Race {
                     earlier: pair[0],

@@ -7,7 +7,7 @@ ghost use Rattle.ranges.specs.Ranges.{TOP, overlap_of};
 // 2^63, above every start and end of a range: a difference that is raised by it does not fall below 0, and its top bit tells the sign.
 const TOP: u64 = 9223372036854775808;
 
-// The answer where some byte lies in both ranges.
+// The answer where some byte lies in both ranges. It is a number, which the arithmetic gives; a `bool` would be a comparison more.
 pub const YES: u64 = 1;
 
 // Answers YES where some byte lies in both ranges, else 0: none does where the larger start is the smaller end or more.

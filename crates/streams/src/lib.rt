@@ -16,7 +16,7 @@ pub const TRIES: u32 = 65536;
 const EINTR: i32 = 4;
 
 // What a call of C's read or write came to: the call moved so many bytes, the input has ended, a signal interrupted the call before it moved
-// a byte, or the call failed.
+// a byte, or the call failed. Four ends and no `Result`: the contract of `outcome` speaks of each by itself, over C's two numbers.
 #[derive(Clone, Copy, Debug, PartialEq, Eq, Hash)]
 pub enum Moved {
     Took(usize),

@@ -20,7 +20,8 @@ pub use reading::read_text;
 use rows::Row;
 use rows::refusal::{Refusal, Refused};
 
-// The numbers of a call: the header word, the model, and the limits of rows, processes and bytes.
+// The numbers of a call: the header word, the model, and the limits of rows, processes and bytes. Each is a number, since the questions 1 to 3 ask
+// whether it is in its range.
 #[derive(Clone, Copy, Debug, PartialEq, Eq, Hash)]
 pub struct Call {
     pub header: u32,

@@ -96,6 +96,7 @@ fn read_rows<Q: RowQuestions>(
 {
     let mut at = start;
     let mut n = 0;
+    // No `for`: where the record behind starts is known only once a record has been read.
     while let Some(found) = placed(next_row(text, at, n, call, questions), n + 1)? {
         rows::put_row(rows, n as usize, found.row);
         n += 1;

@@ -31,6 +31,7 @@ fn kind_of(text: &[u8], span: Span) -> Option<Kind>
 pub fn used_by(kind: u32) -> Used
     ensures { result ≡ used_by kind }
 {
+    // By the kind's number, as document 01 has it, since a row may have a number that is no kind.
     match kind {
         // read, write
         rows::READ | rows::WRITE => Used {

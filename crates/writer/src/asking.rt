@@ -25,6 +25,7 @@ pub(crate) fn ask_rows(
     requires new_table { table.old.entries ≡ replicate MESSAGES 0 }
     ensures { told_asked result ≡ asked_of (ask_rows process_limit [] (rows_in n rows.now)) }
 {
+    // The row's number counts from 1 and has 32 bits, which `enumerate` has not.
     let mut number = 0;
     for row in rows::first_rows(rows, n as usize) {
         number += 1;

@@ -54,7 +54,7 @@ returns-in_err-take c =
     let turn : Take (told_choice c.in-Some.choice) ≡ turn_by t.messages.entries t.barriers.stands t.barriers.arrivals t.barriers.processes (told_next l.a) (told_next l.b) = search rules in
     let e = c.in_err-take.field-0.0 in
     let p = err_from_is_err_and c.from_residual-in_err-take.result c.from_residual-in_err-take.ensures.1 in
-    let both = row-no l.invariant.0 c.requires.fits.few-processes turn refl c.hand_over.ensures c.row_of-row.ensures (refl, refl) e.refusal
+    let both = row-no l.invariant.0 c.requires.fits.few-processes turn refl (rw c.number-file.ensures at c.hand_over-part.ensures) c.row_of-row.ensures (refl, refl) e.refusal
     c.in_err-take.ensures.answer.0 in
     record { answer = rw (p.1, p.2, c.in_err-take.ensures.answer.1) both.0; held = both.1 }
 
@@ -64,7 +64,7 @@ loop-choice-smaller c =
     let t = l.tables in
     let turn : Take (told_choice c.in-Some.choice) ≡ turn_by t.messages.entries t.barriers.stands t.barriers.arrivals t.barriers.processes (told_next l.a) (told_next l.b) = search rules in
     let took : 0 ≡ first_no (table_takes c.args.call.row_limit l.n t.messages.entries c.row_of-row.result) = search rules in
-    omega (arith, room l.invariant.0 c.requires.fits.few-processes turn refl c.hand_over.ensures c.row_of-row.ensures (took, refl) refl)
+    omega (arith, room l.invariant.0 c.requires.fits.few-processes turn refl (rw c.number-file.ensures at c.hand_over-part.ensures) c.row_of-row.ensures (took, refl) refl)
 
 pub loop-choice-preserved : goal.loop-choice-preserved
 loop-choice-preserved c =
@@ -80,7 +80,7 @@ loop-choice-preserved c =
     let in_first : c.eq.result ≡ eqb (file_number choice.file) FIRST = c.eq.ensures ∙ is_first choice.file in
     let in_second : c.eq-in-Some.result ≡ eqb (file_number choice.file) SECOND = c.eq-in-Some.ensures ∙ is_second choice.file in (
       rw processes
-          (goes_on_lem l.invariant.0 c.requires.fits.few-processes turn refl c.hand_over.ensures c.row_of-row.ensures (took, messages) refl
+          (goes_on_lem l.invariant.0 c.requires.fits.few-processes turn refl (rw c.number-file.ensures at c.hand_over-part.ensures) c.row_of-row.ensures (took, messages) refl
           (fits_kept c.requires.fits l.invariant.1 l.invariant.2) c.put_row.ensures c.put_part.ensures (stands, arrivals)
           (c.step-a.ensures ∙ ap (λ (b : Bool). stepped b c.args.call.process_limit c.args.first.now (told_next l.a)) in_first)
           (c.step-b.ensures ∙ ap (λ (b : Bool). stepped b c.args.call.process_limit c.args.second.now (told_next l.b)) in_second)),
