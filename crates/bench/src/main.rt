@@ -180,6 +180,7 @@ fn put_step<W: Write>(
     }
 }
 
+// By hand, since a number that is too large goes on modulo 2^32, and std's `parse` refuses it.
 // A number with one more decimal digit, modulo 2^32. The number stays as it is where the byte is no digit or stands at another place.
 fn with_digit(value: u32, here: bool, byte: u8) -> u32 {
     if !here {

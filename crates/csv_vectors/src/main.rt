@@ -125,7 +125,7 @@ fn compare<W: Write>(out: &mut W, text: &[u8], word: &[u8]) -> io::Result<()> {
     put(out, if same { b"same\n" } else { b"other\n" })
 }
 
-// The value of a hexadecimal digit.
+// The value of a hexadecimal digit. By hand, since it is one of a byte: std's `to_digit` is one of a character.
 fn digit(b: u8) -> Option<u8>
     ensures { IfSome result (λ value. value < 16) }
 {

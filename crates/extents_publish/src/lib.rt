@@ -1,5 +1,5 @@
 // Publishing the unpublished runs of a view, and a range with a cell of its own, on the published map in the same slice, in place: run by run as long
-// as the map fits, and from there on by rewriting the published map.
+// as the map fits, and from there on by rewriting the published map. The clauses on two maps stay with the functions, as extents_pair says why.
 #![tactic(auto)]
 
 ghost use Rattle.std.specs.Prelude.{◌+◌, ◌*◌, ◌-◌, ◌≤◌, ◌<◌, ◌≡◌, true, false, ◌⊎◌, length};

@@ -1,4 +1,5 @@
-// Refreshing a view from the published map, both maps in one slice, and marking the runs of a view published.
+// Refreshing a view from the published map, both maps in one slice, and marking the runs of a view published. The clauses on two maps stay with the
+// functions, as extents_pair says why.
 #![tactic(auto)]
 
 ghost use Rattle.std.specs.Prelude.{◌+◌, ◌*◌, ◌≤◌, ◌<◌, ◌≡◌, true, false, length};

@@ -1,6 +1,6 @@
 // Rewriting a map in place: each byte of a target map gets the cell that a mix makes of it and of another map's cell at the byte. No room but the
 // map's own is used. A first walk keeps of the target what the result needs; the kept runs move up to the place behind which all is 0; a second walk
-// reads them there and writes the result's runs from the front.
+// reads them there and writes the result's runs from the front. The clauses on two maps stay with the functions, as extents_pair says why.
 #![tactic(auto)]
 
 ghost use Rattle.std.specs.Prelude.{◌+◌, ◌*◌, ◌/◌, ◌≤◌, ◌≡◌, Bool, true, false, length};

@@ -12,7 +12,7 @@ ghost use Rattle.join_reading.specs.Reading.{file_questions, check_file, ReadsFi
 use rows::refusal::{Refusal, Refused};
 use trace::{Call, Unasked};
 
-// A model's number, for questions that are put to a call without a model.
+// A model's number, as a call has it, for questions that are put to a call without a model.
 const SOME_MODEL: u32 = 0;
 
 // Reads one file of a join by itself into the lent rows, six numbers each: answers its row count. The questions 1 to 3 come first, and their
