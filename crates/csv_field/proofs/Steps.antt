@@ -1,10 +1,6 @@
 -- One step of each function of the reader, at a place of a list: what the functions' loops and branches cite.
-use Rattle.std.proofs.Common.{ℕ, suc, ◌+◌, ◌≤◌, ◌<◌, arith, ◌≡◌, refl, not, Bool, true, false, cond, List, length, drop, drop_of_length-le, drop-cons, add-one, eq-eqb, ne_eqb}
+use Rattle.std.proofs.Common.{ℕ, suc, ◌+◌, ◌≤◌, ◌<◌, arith, ◌≡◌, Bool, true, false, cond, List, length, drop, drop_of_length-le, drop-cons, add-one, eq-eqb, ne_eqb}
 use lib.ListN.{get_or}
-use Rattle.std.specs.List.{position, position_or_len}
-use lib.Dec.{ltb}
-use Rattle.std.proofs.Common.{unwrap_or, Some, None, lt-ltb, le-ltb}
-use Rattle.std.proofs.lemmas.List.Recursion.{is_position_or_len}
 use native.Mathlib.Decide.{dec_lt}
 use native.Mathlib.Numerals.{add-two}
 use lib.Dec.{eqb}
@@ -14,33 +10,20 @@ use Rattle.csv_field.specs.declared.Quotes.TheVariants.{Unclosed, Broken, Closed
 use Rattle.csv_field.specs.declared.Stop.TheVariants.{Comma, LineEnd, TextEnd, Bad, Cut}
 pub use Rattle.csv_field.proofs.Places.{quote_in, run_in}
 
--- the TEXTDATA at the front ends at the first byte that is none
-run_length : (t : List ℕ) → text_length t ≡ position_or_len (λ b. not (is_text b)) t
+-- a byte of TEXTDATA counts one
+pub run_on : (s : List ℕ) (i : ℕ) → i < length s → is_text (get_or s i 0) ≡ true → text_length (drop i s) ≡ suc (text_length (drop (i + 1) s))
 unfolding text_length
-run_length t = is_position_or_len text_length (λ b. not (is_text b)) refl (λ b r. each b r (is_text b)) t
-  where
-    each : (b : ℕ) (r : List ℕ) (x : Bool) → cond x (suc (text_length r)) 0 ≡ cond (not x) 0 (1 + text_length r)
-    each b r true = omega arith
-    each b r false = refl
+run_on s i h e = rw (drop-cons s i 0 h, e, add-one)
 
--- that byte's place, or the bytes' number
-pub run_position : (t : List ℕ) → unwrap_or (position (λ b. not (is_text b)) t) (length t) ≡ text_length t
-run_position t = rw (run_length t) (go (dec_lt n (length t)))
-  where
-    n : ℕ
-    n = position_or_len (λ b. not (is_text b)) t
-
-    go : Dec (n < length t) → unwrap_or (cond (ltb n (length t)) (Some n) None) (length t) ≡ n
-    go (yes l) = rw (lt-ltb n (length t) l) refl
-    go (no l) = let m : length t ≤ n = omega arith in rw (le-ltb n (length t) m) (omega (arith, run_in t, run_length t))
+-- a byte that is no TEXTDATA ends the count
+pub run_off : (s : List ℕ) (i : ℕ) → i < length s → is_text (get_or s i 0) ≡ false → text_length (drop i s) ≡ 0
+unfolding text_length
+run_off s i h e = rw (drop-cons s i 0 h, e)
 
 -- past the end no TEXTDATA is left
 pub run_end : (s : List ℕ) (i : ℕ) → length s ≤ i → text_length (drop i s) ≡ 0
 unfolding text_length
 run_end s i h = rw (drop_of_length-le s h)
-
--- the end of the TEXTDATA, for a search
-pub ruleset run_lengths = (run_position, run_in, run_end)
 
 module _ (s : List ℕ) (i n : ℕ) (d : Bool) where
   -- between quotes, a byte that quotes may hold counts one

@@ -2,7 +2,7 @@
 #![tactic(auto)]
 
 ghost use Rattle.std.specs.Prelude.{◌≡◌};
-ghost use Rattle.csv_records.specs.Reading.{told_reading, told_fields, read_at, reading_of, record_in};
+ghost use Rattle.csv_records.specs.Reading.{told_reading, read_at, reading_of, record_in};
 
 use csv_field::{Span, Stop};
 
@@ -34,14 +34,15 @@ pub fn read_record(text: &[u8], at: usize, limit: usize) -> Result<Option<Record
         return Ok(None);
     }
     if limit < text.len() {
-        return read_fields(&text[..limit], true, at).map(Some);
+        return read_fields(&text[..limit], true, at);
     }
-    read_fields(text, false, at).map(Some)
+    read_fields(text, false, at)
 }
 
-// Reads field after field up to the end of the record. `cut` says that the text goes on behind s, past the limit.
-fn read_fields(s: &[u8], cut: bool, at: usize) -> Result<Record, Unread>
-    ensures { told_fields result ≡ reading_of (record_in s.now cut at) }
+// Reads field after field up to the end of the record, of which there always is one. `cut` says that the text goes on behind s, past the limit. The
+// record comes in an `Option`, as read_record answers it, since it is large and would be moved once more.
+fn read_fields(s: &[u8], cut: bool, at: usize) -> Result<Option<Record>, Unread>
+    ensures { told_reading result ≡ reading_of (record_in s.now cut at) }
 {
     let none = Span {
         start: 0,
@@ -71,11 +72,11 @@ fn read_fields(s: &[u8], cut: bool, at: usize) -> Result<Record, Unread>
             Stop::Bad => return Err(Unread::Malformed),
             Stop::Cut => return Err(Unread::Limit),
         };
-        return Ok(Record {
+        return Ok(Some(Record {
             count,
             spans,
             end,
             next,
-        });
+        }));
     }
 }
