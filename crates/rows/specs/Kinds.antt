@@ -1,5 +1,5 @@
--- The kinds of rows, their numbers and their words.
-use Rattle.std.specs.Prelude.{ℕ, ◌≡◌, ◌≤◌, List, [], ◌∷◌, get_or, Result, MatchResult}
+-- The kinds of rows and their numbers.
+use Rattle.std.specs.Prelude.{ℕ, ◌≡◌, ◌≤◌, Result, MatchResult}
 use Rattle.rows.specs.declared.kind.Kind.{Kind}
 use Rattle.rows.specs.declared.kind.Kind.TheVariants.{Read, Write, Commit, Open, Close, Sync, Send, Recv, Wait, Barrier}
 use Rattle.rows.specs.declared.kind.UnknownKind.{UnknownKind}
@@ -44,21 +44,6 @@ ARRIVAL = WAIT
 abbrev pub KINDS : ℕ
 KINDS = 10
 
--- The kinds' words, by number, in small letters.
-abbrev pub kind_words : List (List ℕ)
-kind_words =
-    (114 ∷ 101 ∷ 97 ∷ 100 ∷ [])  -- read
-    ∷ (119 ∷ 114 ∷ 105 ∷ 116 ∷ 101 ∷ [])  -- write
-    ∷ (99 ∷ 111 ∷ 109 ∷ 109 ∷ 105 ∷ 116 ∷ [])  -- commit
-    ∷ (111 ∷ 112 ∷ 101 ∷ 110 ∷ [])  -- open
-    ∷ (99 ∷ 108 ∷ 111 ∷ 115 ∷ 101 ∷ [])  -- close
-    ∷ (115 ∷ 121 ∷ 110 ∷ 99 ∷ [])  -- sync
-    ∷ (115 ∷ 101 ∷ 110 ∷ 100 ∷ [])  -- send
-    ∷ (114 ∷ 101 ∷ 99 ∷ 118 ∷ [])  -- recv
-    ∷ (119 ∷ 97 ∷ 105 ∷ 116 ∷ [])  -- wait
-    ∷ (98 ∷ 97 ∷ 114 ∷ 114 ∷ 105 ∷ 101 ∷ 114 ∷ [])  -- barrier
-    ∷ []
-
 -- The number that stands for a kind in a row.
 abbrev pub kind_number : Kind → ℕ
 kind_number Read = READ
@@ -71,10 +56,6 @@ kind_number Send = SEND
 kind_number Recv = RECV
 kind_number Wait = WAIT
 kind_number Barrier = BARRIER
-
--- The word that stands for a kind in a trace.
-abbrev pub word : Kind → List ℕ
-word kind = get_or kind_words (kind_number kind) []
 
 -- The kind with a number, or the number that is no kind's.
 abbrev pub Decodes : ℕ → Result Kind UnknownKind → Type 0

@@ -1,6 +1,6 @@
 // The kinds of rows, and the numbers that stand for them in a row.
 ghost use Rattle.std.specs.Prelude.{◌≡◌};
-ghost use Rattle.rows.specs.Kinds.{kind_number, Decodes, word};
+ghost use Rattle.rows.specs.Kinds.{kind_number, Decodes};
 
 use std::error::Error;
 use std::fmt;
@@ -49,24 +49,6 @@ impl Kind {
         ensures { result ≡ kind_number self }
     {
         self as u32
-    }
-
-    // The word that stands for the kind in a trace.
-    pub fn word(self) -> &'static [u8]
-        ensures { result.now ≡ word self }
-    {
-        match self {
-            Kind::Read => b"read",
-            Kind::Write => b"write",
-            Kind::Commit => b"commit",
-            Kind::Open => b"open",
-            Kind::Close => b"close",
-            Kind::Sync => b"sync",
-            Kind::Send => b"send",
-            Kind::Recv => b"recv",
-            Kind::Wait => b"wait",
-            Kind::Barrier => b"barrier",
-        }
     }
 }
 

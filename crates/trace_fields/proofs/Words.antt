@@ -2,13 +2,12 @@
 use Rattle.std.proofs.Common.{ℕ, suc, zero-add, ◌+◌, ◌-◌, ◌≤◌, ◌<◌, arith, ◌≡◌, sym, ap, add-one, drop-cons, cond, ◌∙◌, Bool, true, false, List, [], ◌∷◌, ◌++◌, length, take, drop, replicate, get_or-append-add}
 use lib.ListN.{get_or, get_or-map, get_or-replicate, length-replicate, get_or-append, get_or-eq_default}
 use Rattle.csv_content.specs.Content.{same_bytes}
-use Rattle.rows.specs.Kinds.{COMMIT, SEND, KINDS, kind_number, word}
+use Rattle.rows.specs.Kinds.{COMMIT, SEND, KINDS, kind_number}
 use Rattle.rows.specs.declared.kind.Kind.{Kind}
 use Rattle.rows.specs.declared.kind.Kind.TheVariants.{Read, Write, Commit, Open, Close, Sync, Send, Recv, Wait, Barrier}
 use Rattle.std.proofs.lemmas.List.FromFn.{get_or-range_with_len}
 use Rattle.trace_numbers.specs.declared.Used.{Used}
-use Rattle.rows.specs.Kinds.{kind_words}
-use Rattle.trace_fields.specs.Rows.{word_of, kind_of, used_by, used_table, range_used, file_used, message_used, none_used}
+use Rattle.trace_fields.specs.Rows.{kind_words, word, word_of, kind_of, used_by, used_table, range_used, file_used, message_used, none_used}
 
 -- every kind, by its number
 abbrev pub kinds : List Kind

@@ -1,13 +1,32 @@
--- Rows of a trace: the kind of a word, the fields that a kind uses, and the row that a record stands for.
+-- Rows of a trace: kinds and their words, the fields that a kind uses, and the row that a record stands for.
 use Rattle.std.specs.Prelude.{ℕ, ◌+◌, Bool, true, false, cond, ◌&&◌, List, [], ◌∷◌, get_or, Option, Some, None}
 use Rattle.csv_content.specs.Content.{same_bytes}
 use Rattle.rows.specs.declared.row.Row.{Row}
 use Rattle.rows.specs.declared.kind.Kind.{Kind}
-use Rattle.rows.specs.Kinds.{KINDS, kind_words, kind_number}
+use Rattle.rows.specs.Kinds.{KINDS, kind_number}
 use Rattle.trace_numbers.specs.declared.Used.{Used}
 use Rattle.trace_numbers.specs.Numbers.{value, field}
 
 -- ---- Kinds
+
+-- the kinds' words, by number, in small letters
+abbrev pub kind_words : List (List ℕ)
+kind_words =
+    (114 ∷ 101 ∷ 97 ∷ 100 ∷ [])  -- read
+    ∷ (119 ∷ 114 ∷ 105 ∷ 116 ∷ 101 ∷ [])  -- write
+    ∷ (99 ∷ 111 ∷ 109 ∷ 109 ∷ 105 ∷ 116 ∷ [])  -- commit
+    ∷ (111 ∷ 112 ∷ 101 ∷ 110 ∷ [])  -- open
+    ∷ (99 ∷ 108 ∷ 111 ∷ 115 ∷ 101 ∷ [])  -- close
+    ∷ (115 ∷ 121 ∷ 110 ∷ 99 ∷ [])  -- sync
+    ∷ (115 ∷ 101 ∷ 110 ∷ 100 ∷ [])  -- send
+    ∷ (114 ∷ 101 ∷ 99 ∷ 118 ∷ [])  -- recv
+    ∷ (119 ∷ 97 ∷ 105 ∷ 116 ∷ [])  -- wait
+    ∷ (98 ∷ 97 ∷ 114 ∷ 114 ∷ 105 ∷ 101 ∷ 114 ∷ [])  -- barrier
+    ∷ []
+
+-- the word that stands for a kind in a trace
+abbrev pub word : Kind → List ℕ
+word kind = get_or kind_words (kind_number kind) []
 
 -- the place of the first word that is the content, and the number of words where none is
 unfoldable pub word_of : List (List ℕ) → List ℕ → ℕ

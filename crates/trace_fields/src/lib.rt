@@ -3,7 +3,7 @@
 
 ghost use Rattle.std.specs.Prelude.{◌≡◌};
 ghost use Rattle.csv_content.specs.Content.{content_of};
-ghost use Rattle.trace_fields.specs.Rows.{told_kind, kind_of, used_by};
+ghost use Rattle.trace_fields.specs.Rows.{word, told_kind, kind_of, used_by};
 ghost use Rattle.trace_fields.specs.Questions.{as_used};
 ghost use Rattle.trace_fields.specs.Reads.{fills_as, judged_fields};
 ghost use Rattle.trace_numbers.specs.Numbers.{fields_of, told_row};
@@ -14,12 +14,30 @@ use rows::kind::Kind;
 use rows::refusal::Refusal;
 use trace_numbers::Used;
 
+// The word that stands for a kind in a trace.
+pub fn word(kind: Kind) -> &'static [u8]
+    ensures { result.now ≡ word «kind» }
+{
+    match kind {
+        Kind::Read => b"read",
+        Kind::Write => b"write",
+        Kind::Commit => b"commit",
+        Kind::Open => b"open",
+        Kind::Close => b"close",
+        Kind::Sync => b"sync",
+        Kind::Send => b"send",
+        Kind::Recv => b"recv",
+        Kind::Wait => b"wait",
+        Kind::Barrier => b"barrier",
+    }
+}
+
 // The kind whose word the field's content is.
 fn kind_of(text: &[u8], span: Span) -> Option<Kind>
     ensures { told_kind result ≡ kind_of (content_of text.now span) }
 {
     for kind in Kind::ALL {
-        if csv_content::is_word(text, span, kind.word()) {
+        if csv_content::is_word(text, span, word(kind)) {
             return Some(kind);
         }
     }

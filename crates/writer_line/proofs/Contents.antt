@@ -18,8 +18,7 @@ use Rattle.rows.specs.Counting.{any_below}
 use Rattle.rows.proofs.Bools.{and_out}
 use Rattle.rows.proofs.Below.{each-passes}
 use Rattle.trace_numbers.specs.declared.Used.{Used}
-use Rattle.rows.specs.Kinds.{kind_words}
-use Rattle.trace_fields.specs.Rows.{word_of, kind_of, used_by}
+use Rattle.trace_fields.specs.Rows.{kind_words, word_of, kind_of, used_by}
 use Rattle.writer_line.specs.Lines.{number_field, contents_of, commas, line_of, record_of}
 use Rattle.writer_line.proofs.Digits.{decimal_text}
 

@@ -8,8 +8,7 @@ use Rattle.print.proofs.Laying.{put-lay}
 use Rattle.print.proofs.Parts.{Laid, put-laid, laid-length, then}
 use Rattle.rows.specs.declared.row.Row.{Row}
 use Rattle.trace_numbers.specs.declared.Used.{Used}
-use Rattle.rows.specs.Kinds.{kind_words}
-use Rattle.trace_fields.specs.Rows.{used_by}
+use Rattle.trace_fields.specs.Rows.{kind_words, used_by}
 use Rattle.writer_line.specs.Lines.{number_field, record_of}
 use Rattle.writer_line.proofs.Contents.{comma, record-size, parts_using}
 

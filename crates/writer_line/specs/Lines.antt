@@ -4,8 +4,7 @@ use Rattle.csv_field.specs.FieldGrammar.{COMMA, CRLF}
 use Rattle.print.specs.Decimal.{decimal_of}
 use Rattle.rows.specs.declared.row.Row.{Row}
 use Rattle.trace_numbers.specs.declared.Used.{Used}
-use Rattle.rows.specs.Kinds.{kind_words}
-use Rattle.trace_fields.specs.Rows.{used_by}
+use Rattle.trace_fields.specs.Rows.{kind_words, used_by}
 
 -- The digits of a used field's number; any other field is empty.
 abbrev pub number_field : Bool → ℕ → List ℕ

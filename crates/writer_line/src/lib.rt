@@ -4,7 +4,7 @@
 ghost use Rattle.std.specs.Prelude.{◌≡◌, [], ◌∷◌, ◌+◌, ◌≤◌, length, get_or};
 ghost use Rattle.csv_field.specs.FieldGrammar.{COMMA};
 ghost use Rattle.print.specs.Puts.{lay, put_in, put_end};
-ghost use Rattle.rows.specs.Kinds.{kind_words};
+ghost use Rattle.trace_fields.specs.Rows.{kind_words};
 ghost use Rattle.writer_line.specs.Lines.{number_field, record_of};
 
 use rows::Row;
@@ -36,7 +36,7 @@ fn word_of(kind: u32) -> &'static [u8]
     ensures few { length result.now ≤ 7 }
 {
     match Kind::try_from(kind) {
-        Ok(kind) => kind.word(),
+        Ok(kind) => trace_fields::word(kind),
         Err(_) => b"",
     }
 }

@@ -1,8 +1,7 @@
 -- `trace_fields::kind_of` meets its contract.
 use Rattle.std.proofs.Common.{◌≡◌, ◌+◌, drop}
 use Rattle.csv_content.specs.Content.{content_of}
-use Rattle.rows.specs.Kinds.{kind_words}
-use Rattle.trace_fields.specs.Rows.{word_of, kind_of}
+use Rattle.trace_fields.specs.Rows.{kind_words, word_of, kind_of}
 use Rattle.trace_fields.proofs.kind_of.Given as goal
 
 -- The words that are left decide.

@@ -1,7 +1,7 @@
 -- `writer_line::put_word` meets its contract.
 use Rattle.std.proofs.Common.{[], ap, ◌∙◌, get_or}
 use Rattle.print.specs.Puts.{put_in, put_end}
-use Rattle.rows.specs.Kinds.{kind_words}
+use Rattle.trace_fields.specs.Rows.{kind_words}
 use Rattle.writer_line.proofs.Putting.{content-laid}
 use Rattle.writer_line.proofs.put_word.Goals as goal
 
