@@ -1,5 +1,6 @@
 -- A file of a join is read with nothing asked of a row behind the questions 6 to 11.
-use Rattle.std.proofs.Common.{ℕ, ◌+◌, ◌*◌, ◌≤◌, ◌≡◌, le-leb, refl, ap, ◌∙◌, cond, List, [], ◌∷◌, ◌++◌, length}
+use Rattle.std.proofs.Common.{ℕ, ◌+◌, ◌*◌, ◌≤◌, ◌≡◌, le-leb, refl, ap, ◌∙◌, cond, List, [], ◌∷◌, ◌++◌, length, replicate, Result, Ok, Err}
+use Rattle.std.specs.Result.{IfErr}
 use lib.Dec.{eqb}
 use Rattle.csv_records.specs.Reading.{Records, Ending, all_read, at-malformed, at-limit}
 use Rattle.rows.specs.declared.row.Row.{Row}
@@ -7,9 +8,11 @@ use Rattle.rows.specs.Limits.{FIELDS, ROWS}
 use Rattle.rows.specs.Questions.{first_no}
 use Rattle.trace.specs.declared.questions.Unasked.{Unasked}
 use Rattle.trace.specs.Rows.{row_of}
-use Rattle.trace.specs.Questions.{record_questions, Outcome, refused}
-use Rattle.trace.specs.Reader.{judge_asked, behind_header, read_by, read_asked}
+use Rattle.rows.specs.declared.refusal.Refused.{Refused}
+use Rattle.trace.specs.Questions.{record_questions, Outcome, refused, told, checked_of}
+use Rattle.trace.specs.Reader.{judge_asked, behind_header, read_by, read_asked, room_questions, text_left}
 use Rattle.trace.specs.Asked.{nothing_asked, nothing_noted}
+use Rattle.trace.proofs.Whole.{refused-told}
 use Rattle.join_meaning.specs.Files.{file_rows, file_header, file_records}
 
 module _ (R P : ℕ) (none : Unasked) where
@@ -42,3 +45,12 @@ pub roomy : (judge : List (List (List ℕ)) → Ending → Outcome) (header R ro
     read_asked judge header R rowsLength r ≡ read_by judge header r
 unfolding read_asked first_no
 roomy judge header R rowsLength r room few = rw (le-leb (FIELDS * R) rowsLength room, le-leb R ROWS few) refl
+
+-- Where the text is refused behind those two questions, the slice is left filled with 0.
+pub cleared-where : (R : ℕ) (xs : List ℕ) {ys : List ℕ} (o : Outcome) (answer : Result ℕ Refused) → FIELDS * R ≤ length xs → R ≤ ROWS →
+    told answer ≡ checked_of o → ys ≡ text_left (first_no (room_questions R (length xs))) o xs → IfErr answer (λ e. ys ≡ replicate (length xs) 0)
+unfolding first_no
+cleared-where R xs o (Ok n) room few answered left = tt
+cleared-where R xs o (Err e) room few answered left =
+    let no = refused-told o answered in
+    rw (no, le-leb (FIELDS * R) (length xs) room, le-leb R ROWS few) at left

@@ -1,7 +1,7 @@
 // Reads one file of a join by itself: puts the questions 1 to 11 to it, and leaves its rows in a slice that the caller lends.
 #![tactic(auto)]
 
-ghost use Rattle.std.specs.Prelude.{◌≡◌, ◌≤◌, ◌*◌, length};
+ghost use Rattle.std.specs.Prelude.{◌≡◌, ◌≤◌, ◌*◌, length, replicate, IfErr};
 ghost use Rattle.rows.specs.Limits.{ROWS, FIELDS};
 ghost use Rattle.rows.specs.Questions.{first_no};
 ghost use Rattle.rows.specs.Refusals.{Asks};
@@ -36,17 +36,9 @@ pub fn read_file(
         byte_limit: text.len(),
     };
     ask_file(call, rows.len())?;
-    // Cleared by two arms, as `trace::check_trace` does: one function for both is no plainer, since the clause of each speaks of its own slices.
-    match read_text(text, call, rows) {
-        Ok(n) => {
-            rows[n as usize * rows::FIELDS..].fill(0);
-            Ok(n)
-        }
-        Err(refused) => {
-            rows.fill(0);
-            Err(refused)
-        }
-    }
+    let n = read_text(text, call, rows)?;
+    rows[n as usize * rows::FIELDS..].fill(0);
+    Ok(n)
 }
 
 // Puts the questions 1 to 3 to a file's call, as to a trace of some model whose counts just fit.
@@ -58,13 +50,14 @@ fn ask_file(call: Call, rows_len: usize) -> Result<(), Refusal>
     trace::ask_call(call, rows_len, counts_len)
 }
 
-// Puts the questions 4 to 11 to a file's text, and nothing to a row behind them.
+// Puts the questions 4 to 11 to a file's text, and nothing to a row behind them. A refusal leaves the rows filled with 0.
 fn read_text(text: &[u8], call: Call, rows: &mut [u32]) -> Result<u32, Refused>
     requires few { call.row_limit ≤ ROWS }
     requires room { FIELDS * call.row_limit ≤ length rows.old }
     requires whole { call.byte_limit ≡ length text.now }
     ensures answer { told result ≡ checked_of (read_file call.header call.row_limit call.process_limit text.now) }
     ensures held { Holds (read_file call.header call.row_limit call.process_limit text.now) rows.old rows.new }
+    ensures cleared { IfErr result (λ e. rows.new ≡ replicate (length rows.old) 0) }
 {
     trace::read_text(text, call, &mut Unasked, rows)
 }

@@ -1,8 +1,8 @@
 -- Rows that are asked by a table of their messages are judged as the rows before judge them.
-use Rattle.std.proofs.Common.{ℕ, ◌+◌, ◌<◌, ◌≤◌, arith, ◌≡◌, refl, ap, ◌∙◌, Bool, true, false, cond, List, [], ◌∷◌, ◌++◌, length, replicate, ne_eqb, eqb-true}
+use Rattle.std.proofs.Common.{ℕ, ◌+◌, ◌<◌, ◌≤◌, arith, ◌≡◌, refl, sym, ap, ◌∙◌, Bool, true, false, cond, List, [], ◌∷◌, ◌++◌, length, replicate, ne_eqb, eqb-true}
 use lib.Dec.{eqb}
 use borrow.Author.Tests.{eqb-false}
-use Rattle.csv_records.specs.Reading.{Records, Ending, all_read, at-malformed, at-limit}
+use Rattle.csv_records.specs.Reading.{Records, records, read_at, Ending, all_read, at-malformed, at-limit}
 use Rattle.rows.specs.declared.row.Row.{Row}
 use Rattle.rows.specs.Limits.{PROCESSES, MESSAGES}
 use Rattle.rows.specs.Questions.{Question, first_no}
@@ -12,10 +12,12 @@ use Rattle.messages.specs.Table.{table_after}
 use Rattle.messages.proofs.Tables.{Tells, tells_none, tells-asks, tells-next}
 use Rattle.trace.specs.Rows.{row_of}
 use Rattle.trace.specs.Questions.{field_questions, record_questions, row_questions, message_questions, Outcome, refused, judge_rows, judge_header, read_records}
-use Rattle.trace.specs.Reader.{judge_asked, behind_header, read_by}
+use Rattle.trace.specs.Reader.{judge_asked, rows_asked, behind_header, read_by, header_no, rows_start}
+use Rattle.trace.specs.Reads.{judge_from}
 use Rattle.trace.specs.Asked.{table_asked, table_noted}
 use Rattle.trace.proofs.Asking.{numbered}
 use Rattle.trace.proofs.Laws.{well-formed}
+use Rattle.trace.proofs.Turns.{records_at, header-refused, header-passed}
 
 module _ (R : ℕ) {P : ℕ} (few : P ≤ PROCESSES) where
   -- a row that passes 6 to 11 has its process and its message within the table's bounds
@@ -83,19 +85,32 @@ module _ (R : ℕ) {P : ℕ} (few : P ≤ PROCESSES) where
           then false d f goes = refl
           then true d f goes = goes (tells-next t row f.0 f.1 (eqb-true second 0 d))
 
--- A text is read by a fresh table as its records are.
-pub read_records_by : (R P header : ℕ) → P ≤ PROCESSES → (table : MessageTable) → table.entries ≡ replicate MESSAGES 0 → (r : Records) →
-    read_by (judge_asked table_asked table_noted R P table []) header r ≡ read_records header R P r
-unfolding read_by read_records behind_header judge_header
-read_records_by R P header few table e r =
-    (λ i. cond (eqb header 0) (same r.rows r.ending i) (behind_header (λ recs ending. same recs ending i) r.rows r.ending))
-    ∙ ap (λ (o : Outcome). cond (eqb header 0) (judge_rows R P [] r.rows r.ending) o) (headers r.rows r.ending)
-  where
-    same : (recs : List (List (List ℕ))) (ending : Ending) → judge_asked table_asked table_noted R P table [] recs ending ≡ judge_rows R P [] recs ending
-    same recs ending = by_table R few recs ending [] table (rw e tells_none)
+-- Rows are read by a fresh table as their records are.
+pub fresh_table : (R P : ℕ) → P ≤ PROCESSES → (table : MessageTable) → table.entries ≡ replicate MESSAGES 0 → (text : List ℕ) (limit at : ℕ) →
+    rows_asked table_asked table_noted R P text limit table at ≡ judge_from R P text limit at
+unfolding rows_asked judge_from
+fresh_table R P few table e text limit at =
+    let r = records_at text limit at in
+    by_table R few r.rows r.ending [] table (rw e tells_none)
 
+-- Behind a header as without one, the rows of a text are judged as its records are.
+read_records_by : (R P header : ℕ) (r : Records) → read_by (judge_rows R P []) header r ≡ read_records header R P r
+unfolding read_by read_records behind_header judge_header
+read_records_by R P header r = ap (λ (o : Outcome). cond (eqb header 0) (judge_rows R P [] r.rows r.ending) o) (headers r.rows r.ending)
+  where
     headers : (recs : List (List (List ℕ))) (ending : Ending) → behind_header (judge_rows R P []) recs ending ≡ judge_header R P recs ending
     headers [] all_read = refl
     headers [] at-malformed = refl
     headers [] at-limit = refl
     headers (fields ∷ rest) ending = refl
+
+module _ (R P header : ℕ) (text : List ℕ) (limit : ℕ) where
+  -- A No to the header refuses the text.
+  pub records-refused : {k : ℕ} → k ≡ header_no header text (read_at text 0 limit) → (k ≡ 0 → ⊥) → read_records header R P (records text limit) ≡ refused k 0
+  records-refused e n = sym (read_records_by R P header (records text limit)) ∙ header-refused (judge_rows R P []) text limit header e n
+
+  -- Where it has none, the rows decide from their start on.
+  pub records-passed : {s : ℕ} → header_no header text (read_at text 0 limit) ≡ 0 → s ≡ rows_start header (read_at text 0 limit) →
+      read_records header R P (records text limit) ≡ judge_from R P text limit s
+  unfolding judge_from
+  records-passed e d = sym (read_records_by R P header (records text limit)) ∙ header-passed (judge_rows R P []) text limit header e d

@@ -3,6 +3,7 @@ pub mod Laws
 pub mod Asking
 pub mod Refusing
 pub mod Turns
+pub mod States
 pub mod Going
 pub mod Whole
 pub mod Accepting

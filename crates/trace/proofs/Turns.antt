@@ -20,7 +20,7 @@ use Rattle.trace_numbers.specs.Numbers.{ReadRow, Kept, No}
 use Rattle.trace.specs.Rows.{header_names, same_fields, row_of}
 use Rattle.trace.specs.Questions.{field_questions, record_questions, is_header, Outcome, refused, accepted, Accepted, Refused, checked_of, Holds}
 use Rattle.trace.specs.Reads.{fields_of, judged_by, headed}
-use Rattle.trace.specs.Reader.{judge_asked, behind_header, read_by, first_record_no, behind_first, header_no, rows_start, Step, ended, stopped, taken, step_of}
+use Rattle.trace.specs.Reader.{judge_asked, behind_header, read_by, first_record_no, behind_first, header_no, rows_start, Step, ended, stopped, taken, step_of, state_asked, state_of}
 use Rattle.trace.proofs.Asking.{no_of, kept_of, numbered}
 
 -- the records from a place on
@@ -153,11 +153,18 @@ pub begin : {judge : List Row → Judge} {o : Outcome} {rowLimit : ℕ} {text : 
 unfolding numbers
 begin e = record { whole = e; many = refl; few = omega arith; held = refl }
 
--- The loop that reads the rows, with the state s of what is asked.
-pub record Reading {S : Type 0} (asked : S → Row → ℕ) (noted : S → Row → S) (R P : ℕ) (text : List ℕ) (limit : ℕ) (o : Outcome) (xs₀ : List ℕ)
+-- The state of what is asked is s behind the n rows `done`, and z behind the last record, where the record behind the rows starts at `at`.
+pub record Noting {S : Type 0} (asked : S → Row → ℕ) (noted : S → Row → S) (R P : ℕ) (text : List ℕ) (limit : ℕ) (z s : S) (done : List Row) (at n : ℕ) :
+    Type 0 where
+  pub many : n ≡ length done
+  pub last : z ≡ state_asked asked noted R P s done (records_at text limit at).rows
+
+-- The loop that reads the rows, with the state s of what is asked; z is the state behind the last record that is asked.
+pub record Reading {S : Type 0} (asked : S → Row → ℕ) (noted : S → Row → S) (R P : ℕ) (text : List ℕ) (limit : ℕ) (o : Outcome) (z : S) (xs₀ : List ℕ)
     (s : S) (at n : ℕ) (xs : List ℕ) : Type 0 where
   pub done : List Row
   pub going : Going (judge_asked asked noted R P s) o R text limit xs₀ done at n xs
+  pub noting : Noting asked noted R P text limit z s done at n
 
 module _ {S : Type 0} (asked : S → Row → ℕ) (noted : S → Row → S) (R P : ℕ) (s : S)
     {o : Outcome} {text : List ℕ} {limit : ℕ} {xs₀ : List ℕ} {done : List Row} {at n : ℕ} {xs : List ℕ}
@@ -340,6 +347,20 @@ module _ (asked : Row → ℕ) (R P n : ℕ) (text : List ℕ) (at limit : ℕ) 
     row-taken a =
         sym (here true true (eq-eqb first 0 row-is.0) (eq-eqb (asked (row_of all)) 0 (sym (ap asked row-is.1) ∙ a))
         ∙ ap₂ taken (sym row-is.1) (sym t.place))
+
+  module _ {S : Type 0} (noted : S → Row → S) (s : S) where
+    -- the state behind the record, by its first No
+    state-here : (x : Bool) → eqb first 0 ≡ x → state_of noted R P n s text (read_at text at limit) ≡ cond x (noted s (row_of all)) s
+    unfolding state_of
+    state-here x p = rw (t.is_found, p)
+
+    -- a No of 6 to 11 leaves the state
+    pub state-no : {k : ℕ} → j ≡ No k → s ≡ state_of noted R P n s text (read_at text at limit)
+    state-no q = let o = no_of first all (sym whole-record ∙ q) in sym (state-here false (ne_eqb first 0 o.1))
+
+    -- a row that they let pass is noted
+    pub state-noted : {row : Row} → j ≡ Kept row → noted s row ≡ state_of noted R P n s text (read_at text at limit)
+    state-noted q = ap (noted s) (row-is q).1 ∙ sym (state-here true (eq-eqb first 0 (row-is q).0))
 
 -- what the reading of rows answers and holds where the outcome is a refusal
 pub refusal : {o : Outcome} {k p : ℕ} (xs ys : List ℕ) → o ≡ refused k p → (Refused k p ≡ checked_of o) × Holds o xs ys

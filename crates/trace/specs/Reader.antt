@@ -1,11 +1,12 @@
 -- Reading the rows of a text, whatever is asked of a row behind the questions 6 to 11. What is asked has a state: `asked` gives the number of
--- the first No to a row, 0 where there is none, and `noted` the state behind a row that passed.
-use Rattle.std.specs.Prelude.{ℕ, suc, ◌+◌, ◌*◌, cond, leb, List, [], ◌∷◌, ◌++◌, length, eqb, Option, Some, None, Result, Ok, Err}
+-- the first No to a row, 0 where there is none, and `noted` the state behind the row.
+use Rattle.std.specs.Prelude.{ℕ, suc, ◌+◌, ◌*◌, cond, leb, List, [], ◌∷◌, ◌++◌, length, drop, replicate, eqb, Option, Some, None, Result, Ok, Err}
 use Rattle.csv_records.specs.Reading.{Finding, nothing, malformed, past-limit, found, records_from, Records, Ending, all_read, at-malformed, at-limit}
 use Rattle.rows.specs.declared.row.Row.{Row}
 use Rattle.rows.specs.declared.refusal.Refusal.{Refusal}
 use Rattle.rows.specs.Limits.{FIELDS, ROWS}
 use Rattle.rows.specs.Questions.{Question, first_no}
+use Rattle.rows.specs.Rows.{numbers}
 use Rattle.rows.specs.Refusals.{SHORT_SLICE, LIMITS, MALFORMED, HEADER, ROW_LIMIT, number_of}
 use Rattle.trace.specs.declared.reading.NextRow.{NextRow}
 use Rattle.trace.specs.Rows.{row_of}
@@ -54,6 +55,43 @@ read_asked judge header rowLimit rowsLength r =
     let first = first_no (room_questions rowLimit rowsLength) in
     cond (eqb first 0) (read_by judge header r) (refused first 0)
 
+-- what the reading leaves of a slice that was xs, by the first No to the slice and the row limit: that No keeps the slice, any other No fills it with
+-- 0, and the rows of an accepted text stand at its front
+abbrev pub text_left : ℕ → Outcome → List ℕ → List ℕ
+text_left first (refused number place) xs = cond (eqb first 0) (replicate (length xs) 0) xs
+text_left first (accepted rows) xs = numbers rows ++ drop (6 * length rows) xs
+
+-- ---- What is known behind the reading
+
+-- the state behind the rest of the records behind the rows before: that behind the first No, and behind every record where there is none
+unfoldable pub state_asked : {S : Type 0} → (S → Row → ℕ) → (S → Row → S) → ℕ → ℕ → S → List Row → List (List (List ℕ)) → S
+state_asked asked noted rowLimit processLimit s rows [] = s
+state_asked asked noted rowLimit processLimit s rows (fields ∷ rest) =
+    let first = first_no (record_questions rowLimit processLimit (length rows) (length fields) fields) in
+    let row = row_of fields in
+    cond (eqb first 0)
+    (cond (eqb (asked s row) 0) (state_asked asked noted rowLimit processLimit (noted s row) (rows ++ (row ∷ [])) rest) (noted s row))
+    s
+
+-- the state behind the rows from a place of the text on
+unfoldable pub rows_state : {S : Type 0} → (S → Row → ℕ) → (S → Row → S) → ℕ → ℕ → List ℕ → ℕ → S → ℕ → S
+rows_state asked noted rowLimit processLimit text byteLimit s at =
+    state_asked asked noted rowLimit processLimit s [] (records_from (suc (length text)) text byteLimit at).rows
+
+-- the state behind records with a header first, where it was s before them: a No to the header leaves it
+unfoldable pub state_behind_header : {S : Type 0} → (List (List (List ℕ)) → S) → S → List (List (List ℕ)) → S
+state_behind_header state s [] = s
+state_behind_header state s (fields ∷ rest) = cond (is_header fields) (state rest) s
+
+-- the state behind records under a header word
+unfoldable pub state_by : {S : Type 0} → (List (List (List ℕ)) → S) → S → ℕ → Records → S
+state_by state s header r = cond (eqb header 0) (state r.rows) (state_behind_header state s r.rows)
+
+-- the state behind records under a header word, of a slice and a row limit that are asked first: a No to these leaves it
+unfoldable pub state_read : {S : Type 0} → (List (List (List ℕ)) → S) → S → ℕ → ℕ → ℕ → Records → S
+state_read state s header rowLimit rowsLength r =
+    cond (eqb (first_no (room_questions rowLimit rowsLength)) 0) (state_by state s header r) s
+
 -- ---- The parts of the reading
 
 -- the number of the No to the first record as a header, by what the reader finds, and 0 where it has the six names
@@ -100,3 +138,13 @@ step_of asked rowLimit processLimit n text (found spans end next) =
     let first = first_no (record_questions rowLimit processLimit n (length fields) fields) in
     let row = row_of fields in
     cond (eqb first 0) (cond (eqb (asked row) 0) (taken row next) (stopped (asked row))) (stopped first)
+
+-- the state behind the record that the reader finds behind n rows: that of its row, where the questions 6 to 11 have no No
+unfoldable pub state_of : {S : Type 0} → (S → Row → S) → ℕ → ℕ → ℕ → S → List ℕ → Finding → S
+state_of noted rowLimit processLimit n s text nothing = s
+state_of noted rowLimit processLimit n s text malformed = s
+state_of noted rowLimit processLimit n s text past-limit = s
+state_of noted rowLimit processLimit n s text (found spans end next) =
+    let fields = fields_of text spans in
+    let first = first_no (record_questions rowLimit processLimit n (length fields) fields) in
+    cond (eqb first 0) (noted s (row_of fields)) s

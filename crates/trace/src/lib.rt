@@ -10,7 +10,7 @@ ghost use Rattle.trace_numbers.specs.Numbers.{told_row};
 ghost use Rattle.trace.specs.Questions.{call_questions, record_questions, read_records, read_trace, check_trace, told, checked_of, Holds, Leaves};
 ghost use Rattle.rows.specs.Questions.{first_no};
 ghost use Rattle.rows.specs.Refusals.{Asks};
-ghost use Rattle.trace.specs.Reads.{fields_of, headed, judged_by};
+ghost use Rattle.trace.specs.Reads.{fields_of, headed, judged_by, judge_from};
 ghost use Rattle.rows.specs.Limits.{ROWS, FIELDS, PROCESSES};
 
 use csv_records::Record;
@@ -101,7 +101,7 @@ fn read_trace(text: &[u8], call: Call, rows: &mut [u32]) -> Result<u32, Refused>
     }
 }
 
-// Puts the questions of the records to a text, those of a row's message by a table.
+// Puts the questions of the records to a text. Its header comes first, so that a text that is refused there needs no table.
 fn read_records(text: &[u8], call: Call, rows: &mut [u32]) -> Result<u32, Refused>
     requires few { call.row_limit ≤ ROWS }
     requires room { FIELDS * call.row_limit ≤ length rows.old }
@@ -109,8 +109,22 @@ fn read_records(text: &[u8], call: Call, rows: &mut [u32]) -> Result<u32, Refuse
     ensures answer { told result ≡ checked_of (read_records call.header call.row_limit call.process_limit (records text.now call.byte_limit)) }
     ensures held { Holds (read_records call.header call.row_limit call.process_limit (records text.now call.byte_limit)) rows.old rows.new }
 {
+    let start = reading::rows_start(text, call)?;
+    read_by_table(text, start, call, rows)
+}
+
+// Puts the questions of the records from a place of the text on, those of a row's message by a table. A call of its own: the table's 128 KB of the stack
+// are given back before those of question 22 are taken.
+#[inline(never)]
+fn read_by_table(text: &[u8], start: usize, call: Call, rows: &mut [u32]) -> Result<u32, Refused>
+    requires few { call.row_limit ≤ ROWS }
+    requires room { FIELDS * call.row_limit ≤ length rows.old }
+    requires processes { call.process_limit ≤ PROCESSES }
+    ensures answer { told result ≡ checked_of (judge_from call.row_limit call.process_limit text.now call.byte_limit start) }
+    ensures held { Holds (judge_from call.row_limit call.process_limit text.now call.byte_limit start) rows.old rows.new }
+{
     let mut table = MessageTable::new();
-    reading::read_header_and_rows(text, call, &mut table, rows)
+    reading::read_rows(text, start, call, &mut table, rows)
 }
 
 // Whether the record has the six names of the header in order: question 5.

@@ -6,7 +6,7 @@ ghost use Rattle.rows.specs.Limits.{ROWS, FIELDS};
 ghost use Rattle.rows.specs.Questions.{first_no};
 ghost use Rattle.rows.specs.Refusals.{Asks, refused_at};
 ghost use Rattle.trace.specs.Questions.{told, checked_of, Holds};
-ghost use Rattle.trace.specs.Reader.{judge_asked, rows_asked, read_by, read_asked, room_questions, header_no, rows_start, told_step, step_of};
+ghost use Rattle.trace.specs.Reader.{judge_asked, rows_asked, read_by, read_asked, room_questions, text_left, state_asked, rows_state, state_by, state_read, header_no, rows_start, told_step, step_of, state_of};
 
 use crate::questions::RowQuestions;
 use crate::{Call, is_header, judge_record};
@@ -22,8 +22,10 @@ struct NextRow {
 }
 
 // Reads a text under a header word into the lent rows, six numbers each: the rows stand behind a header unless the word is 0. Of the questions 1 to 3
-// it asks whether the slice has room for as many rows as the limit says, and whether that limit is within its range; their refusals keep the slice.
-#[tactic(auto, unfolding(crate::specs::Reader::read_asked, rows::specs::Questions::first_no))]
+// it asks whether the slice has room for as many rows as the limit says, and whether that limit is within its range; their refusals keep the slice. Any
+// other refusal leaves it filled with 0, and an accepted text keeps what stands behind its rows. The questions note each row that 6 to 11 let pass, up
+// to the first refusal.
+#[tactic(auto, unfolding(crate::specs::Reader::read_asked, crate::specs::Reader::state_read, rows::specs::Questions::first_no))]
 pub fn read_text<Q: RowQuestions>(
     text: &[u8],
     call: Call,
@@ -33,6 +35,8 @@ pub fn read_text<Q: RowQuestions>(
     ensures answer { told result ≡ checked_of (read_asked (judge_asked Q.asked Q.noted call.row_limit call.process_limit questions.old []) call.header call.row_limit (length rows.old) (records text.now call.byte_limit)) }
     ensures held { Holds (read_asked (judge_asked Q.asked Q.noted call.row_limit call.process_limit questions.old []) call.header call.row_limit (length rows.old) (records text.now call.byte_limit)) rows.old rows.new }
     ensures kept { first_no (room_questions call.row_limit (length rows.old)) ≢ 0 → rows.new ≡ rows.old }
+    ensures left { rows.new ≡ text_left (first_no (room_questions call.row_limit (length rows.old))) (read_asked (judge_asked Q.asked Q.noted call.row_limit call.process_limit questions.old []) call.header call.row_limit (length rows.old) (records text.now call.byte_limit)) rows.old }
+    ensures state { questions.new ≡ state_read (state_asked Q.asked Q.noted call.row_limit call.process_limit questions.old []) questions.old call.header call.row_limit (length rows.old) (records text.now call.byte_limit) }
 {
     if rows.len() / FIELDS < call.row_limit as usize {
         return Err(Refusal::ShortSlice.into());
@@ -40,11 +44,17 @@ pub fn read_text<Q: RowQuestions>(
     if ROWS < call.row_limit {
         return Err(Refusal::Limits.into());
     }
-    read_header_and_rows(text, call, questions, rows)
+    match read_header_and_rows(text, call, questions, rows) {
+        Ok(n) => Ok(n),
+        Err(refused) => {
+            rows.fill(0);
+            Err(refused)
+        }
+    }
 }
 
 // Reads a text under a header word into rows that have room for it.
-pub(crate) fn read_header_and_rows<Q: RowQuestions>(
+fn read_header_and_rows<Q: RowQuestions>(
     text: &[u8],
     call: Call,
     questions: &mut Q,
@@ -54,13 +64,14 @@ pub(crate) fn read_header_and_rows<Q: RowQuestions>(
     requires room { FIELDS * call.row_limit ≤ length rows.old }
     ensures answer { told result ≡ checked_of (read_by (judge_asked Q.asked Q.noted call.row_limit call.process_limit questions.old []) call.header (records text.now call.byte_limit)) }
     ensures held { Holds (read_by (judge_asked Q.asked Q.noted call.row_limit call.process_limit questions.old []) call.header (records text.now call.byte_limit)) rows.old rows.new }
+    ensures state { questions.new ≡ state_by (state_asked Q.asked Q.noted call.row_limit call.process_limit questions.old []) questions.old call.header (records text.now call.byte_limit) }
 {
     let start = rows_start(text, call)?;
     read_rows(text, start, call, questions, rows)
 }
 
 // Where the rows of a text start: at once under header word 0, and behind the header under any other.
-fn rows_start(text: &[u8], call: Call) -> Result<usize, Refusal>
+pub(crate) fn rows_start(text: &[u8], call: Call) -> Result<usize, Refusal>
     ensures asked { Asks (header_no call.header text.now (read_at text.now 0 call.byte_limit)) result }
     ensures start { IfOk result (λ start. start ≡ rows_start call.header (read_at text.now 0 call.byte_limit)) }
 {
@@ -82,7 +93,7 @@ fn rows_start(text: &[u8], call: Call) -> Result<usize, Refusal>
 }
 
 // Reads rows from a place of the text on, up to the end of the text or the first No.
-fn read_rows<Q: RowQuestions>(
+pub(crate) fn read_rows<Q: RowQuestions>(
     text: &[u8],
     start: usize,
     call: Call,
@@ -93,6 +104,7 @@ fn read_rows<Q: RowQuestions>(
     requires room { FIELDS * call.row_limit ≤ length rows.old }
     ensures answer { told result ≡ checked_of (rows_asked Q.asked Q.noted call.row_limit call.process_limit text.now call.byte_limit questions.old start) }
     ensures held { Holds (rows_asked Q.asked Q.noted call.row_limit call.process_limit text.now call.byte_limit questions.old start) rows.old rows.new }
+    ensures state { questions.new ≡ rows_state Q.asked Q.noted call.row_limit call.process_limit text.now call.byte_limit questions.old start }
 {
     let mut at = start;
     let mut n = 0;
@@ -122,6 +134,7 @@ fn next_row<Q: RowQuestions>(
 ) -> Result<Option<NextRow>, Refusal>
     ensures answer { told_step result ≡ step_of (Q.asked questions.old) call.row_limit call.process_limit n text.now (read_at text.now at call.byte_limit) }
     ensures left { IfOk result (λ found. IfSome found (λ r. questions.new ≡ Q.noted questions.old r.row)) }
+    ensures state { questions.new ≡ state_of Q.noted call.row_limit call.process_limit n questions.old text.now (read_at text.now at call.byte_limit) }
 {
     let record = match csv_records::read_record(text, at, call.byte_limit) {
         Ok(Some(record)) => record,

@@ -23,7 +23,7 @@ slice_bounds-fill-count c =
     omega (
       arith,
       file-rows-in c.args.text.now c.args.header c.args.row_limit c.args.process_limit (length c.args.rows.now) c.in_ok-ask_file.ensures c.args.rows.now c.read_text.new.rows
-          c.in-Ok.ensures.held c.in-Ok.ensures.answer,
+          c.in_ok-n.ensures.held c.in_ok-n.ensures.answer,
     )
 
 pub slice_bounds-fill-start : goal.slice_bounds-fill-start
@@ -31,15 +31,17 @@ slice_bounds-fill-start c =
     omega (
       arith,
       file-rows-in c.args.text.now c.args.header c.args.row_limit c.args.process_limit (length c.args.rows.now) c.in_ok-ask_file.ensures c.args.rows.now c.read_text.new.rows
-          c.in-Ok.ensures.held c.in-Ok.ensures.answer,
+          c.in_ok-n.ensures.held c.in_ok-n.ensures.answer,
     )
 
-pub returns-in-Ok : goal.returns-in-Ok
-returns-in-Ok c =
-    reads-rows c.args.text.now c.args.header c.args.row_limit c.args.process_limit (length c.args.rows.now) c.in_ok-ask_file.ensures c.args.rows.now c.read_text.new.rows
-    c.in-Ok.ensures.held c.in-Ok.ensures.answer (c.fill.ensures.after (λ y e. e))
+pub returns-in_err-n : goal.returns-in_err-n
+returns-in_err-n c =
+    let p = err_from_is_err_and c.from_residual-in_err-n.result c.from_residual-in_err-n.ensures.1 in
+    rw (p.1, p.2)
+    (reads_none c.args.text.now c.args.header c.args.row_limit c.args.process_limit (length c.args.rows.now) c.in_ok-ask_file.ensures c.args.rows.now c.args.rows.now
+    c.in_err-n.field-0.0 c.in_err-n.ensures.answer refl c.in_err-n.ensures.cleared)
 
-pub returns-in-Err : goal.returns-in-Err
-returns-in-Err c =
-    reads_none c.args.text.now c.args.header c.args.row_limit c.args.process_limit (length c.args.rows.now) c.in_ok-ask_file.ensures c.args.rows.now c.read_text.new.rows
-    c.in-Err.refused c.in-Err.ensures.answer c.read_text.auto.rows (c.fill-in-Err.ensures.after (λ y e. e))
+pub returns : goal.returns
+returns c =
+    reads-rows c.args.text.now c.args.header c.args.row_limit c.args.process_limit (length c.args.rows.now) c.in_ok-ask_file.ensures c.args.rows.now c.read_text.new.rows
+    c.in_ok-n.ensures.held c.in_ok-n.ensures.answer (c.fill.ensures.after (λ y e. e))

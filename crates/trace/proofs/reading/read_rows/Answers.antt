@@ -1,15 +1,16 @@
 -- `trace::reading::read_rows` meets its contract.
-use Rattle.std.proofs.Common.{length, ◌+◌, ◌*◌, ◌≤◌, arith, refl, ◌≡◌, ◌∙◌, [], Some, None, Ok}
+use Rattle.std.proofs.Common.{length, ◌+◌, ◌*◌, ◌≤◌, arith, refl, sym, ◌≡◌, ◌∙◌, [], Some, None, Ok}
 use Rattle.std.proofs.lemmas.Result.{err_from_is_err_and}
 use Rattle.rows.proofs.Slices.{with_room}
-use Rattle.trace.specs.Reader.{rows_asked}
+use Rattle.trace.specs.Reader.{rows_asked, rows_state}
 use Rattle.trace.proofs.Refusing.{refusal-was, value-was}
 use Rattle.trace.proofs.Turns.{begin, at-end, at-no, row_in, next_row_lem, refusal}
+use Rattle.trace.proofs.States.{state-end, state-stop, state-next}
 use Rattle.trace.proofs.reading.read_rows.Goals as goal
 
 pub loop-found-init : goal.loop-found-init
-unfolding rows_asked
-loop-found-init g c = (record { done = []; going = begin refl }, refl)
+unfolding rows_asked rows_state
+loop-found-init g c = (record { done = []; going = begin refl; noting = record { many = refl; last = refl } }, refl)
 
 pub returns-in_err-found-clause-answer : goal.returns-in_err-found-clause-answer
 returns-in_err-found-clause-answer g c =
@@ -36,7 +37,8 @@ loop-found-preserved g c =
     omega (arith, row_in _ _ _ _ _ going step, c.loop-found.invariant.1, c.requires.room) in
     let put = c.put_row.ensures ∙ with_room c.loop-found.n c.in-Some.found.row c.loop-found.rows room in
     let left = rw was at c.next_row.ensures.left in
-    (rw left (record { done = _; going = next_row_lem _ _ _ _ _ going step put }), c.put_row.auto.rows ∙ c.loop-found.invariant.1)
+    let noting = state-next _ _ _ _ c.loop-found.invariant.0.noting (sym left ∙ c.next_row.ensures.state) step in
+    (rw left (record { done = _; going = next_row_lem _ _ _ _ _ going step put; noting = noting }), c.put_row.auto.rows ∙ c.loop-found.invariant.1)
 
 pub returns-clause-answer : goal.returns-clause-answer
 returns-clause-answer g c =
@@ -47,3 +49,13 @@ pub returns-clause-held : goal.returns-clause-held
 returns-clause-held g c =
     let was : c.next_row.result ≡ Ok None = rw c.in_default.is at (value-was (c.loop-found.n + 1) c.next_row.result c.in_ok-found.field-0 c.in_ok-found.ensures) in
     (at-end _ _ _ _ _ c.loop-found.invariant.0.going (rw was at c.next_row.ensures.answer)).1
+
+pub returns-in_err-found-clause-state : goal.returns-in_err-found-clause-state
+returns-in_err-found-clause-state g c =
+    let was = refusal-was (c.loop-found.n + 1) c.next_row.result c.in_err-found.field-0.0 c.in_err-found.ensures in
+    state-stop _ _ _ _ c.loop-found.invariant.0.noting c.next_row.ensures.state (rw was.1 at c.next_row.ensures.answer)
+
+pub returns-clause-state : goal.returns-clause-state
+returns-clause-state g c =
+    let was : c.next_row.result ≡ Ok None = rw c.in_default.is at (value-was (c.loop-found.n + 1) c.next_row.result c.in_ok-found.field-0 c.in_ok-found.ensures) in
+    state-end _ _ _ _ c.loop-found.invariant.0.noting c.next_row.ensures.state (rw was at c.next_row.ensures.answer)

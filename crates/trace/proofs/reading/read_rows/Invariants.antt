@@ -1,6 +1,6 @@
 -- `trace::reading::read_rows` meets its contract.
 use Rattle.std.proofs.Common.{length, ◌-◌, ◌≡◌}
-use Rattle.trace.specs.Reader.{rows_asked}
+use Rattle.trace.specs.Reader.{rows_asked, rows_state}
 use Rattle.trace.proofs.Turns.{Reading}
 use Rattle.trace.proofs.reading.read_rows.Given as goal
 
@@ -9,6 +9,7 @@ abbrev pub invariant-loop-found : goal.invariant-loop-found
 invariant-loop-found g l =
     Reading g.Q.RowQuestions.asked g.Q.RowQuestions.noted l.call.row_limit l.call.process_limit l.text l.call.byte_limit
     (rows_asked g.Q.RowQuestions.asked g.Q.RowQuestions.noted l.call.row_limit l.call.process_limit l.text l.call.byte_limit l.initial.questions l.start)
+    (rows_state g.Q.RowQuestions.asked g.Q.RowQuestions.noted l.call.row_limit l.call.process_limit l.text l.call.byte_limit l.initial.questions l.start)
     l.initial.rows l.questions l.at l.n l.rows
     × (length l.rows ≡ length l.initial.rows)
 
