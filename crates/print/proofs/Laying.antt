@@ -1,7 +1,7 @@
 -- Bytes laid into a slice, one part behind the other.
 use Rattle.std.proofs.Common.{ℕ, zero, suc, ◌+◌, ◌-◌, ◌/◌, ◌%◌, ◌≤◌, ◌<◌, arith, ◌≡◌, refl, sym, ap, ◌∙◌, List, [], ◌∷◌, ◌++◌, append_assoc, append-nil, length, take, drop, length-append, take-append-drop, length-set, length-take-le, take_at, drop_at, drop-set-lt, drop-cons, drop-drop, get_or-set_same, le-leb}
-use lib.ListN.{set}
-use lib.Seq.{take-length, length-paste, paste, take-set-le, append_snoc}
+use lib.ListN.{set, get_or}
+use lib.Seq.{paste-zero, paste-suc, take-length, length-paste, paste, take-set-le, append_snoc}
 use Rattle.print.specs.Decimal.{digits_of, width_of, decimal_of}
 use Rattle.print.specs.Puts.{lay, put_in, put_end}
 
@@ -55,6 +55,35 @@ digits_length zero n = refl
 digits_length (suc k) n = length-append (digits_of k _) (_ ∷ []) ∙ ap (λ (l : ℕ). l + 1) (digits_length k _) ∙ omega arith
 
 -- ---- Bytes put one after the other
+
+-- What a copy keeps: the first i bytes are in their places.
+pub record Copying (xs : List ℕ) (at : ℕ) (w ys : List ℕ) (i : ℕ) : Type 0 where
+  pub so_far : ys ≡ paste xs at w i
+  pub within : i ≤ length w
+  pub fit : at + length w ≤ length xs
+
+pub copy_start : (xs : List ℕ) (at : ℕ) (w : List ℕ) → at + length w ≤ length xs → Copying xs at w xs 0
+copy_start xs at w h = record { so_far = paste-zero xs at w; within = omega arith; fit = h }
+
+module _ {xs : List ℕ} {at : ℕ} {w ys : List ℕ} {i : ℕ} (g : Copying xs at w ys i) where
+  pub copy_length : length ys ≡ length xs
+  copy_length = ap length g.so_far ∙ length-paste xs at w i (omega (arith, g.within, g.fit)) g.within
+
+  pub copy_next : i < length w → Copying xs at w (set ys (at + i) (get_or w i 0)) (i + 1)
+  copy_next h =
+      let e : suc i ≡ i + 1 = omega arith in
+      record {
+        so_far =
+            ap (λ (l : List ℕ). set l (at + i) (get_or w i 0)) g.so_far ∙ paste-suc xs at w i 0 (omega (arith, g.fit)) h
+            ∙ ap (λ (k : ℕ). paste xs at w k) e;
+        within = omega arith;
+        fit = g.fit;
+      }
+
+  pub copy_done : length w ≤ i → (at + length w ≡ put_end xs at w) × (ys ≡ put_in xs at w)
+  copy_done h =
+      let e : i ≡ length w = omega (arith, g.within) in
+      ((put-lay xs at w g.fit).0, g.so_far ∙ ap (λ (k : ℕ). paste xs at w k) e ∙ lay-paste xs at w ∙ (put-lay xs at w g.fit).1)
 
 -- What spelling from the last digit on keeps: the digits that are left, laid on what is there, make the whole.
 pub record Spelling (xs : List ℕ) (at n width : ℕ) (ys : List ℕ) (i rest : ℕ) : Type 0 where

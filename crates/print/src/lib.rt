@@ -20,9 +20,11 @@ pub fn put(out: &mut [u8], at: usize, bytes: &[u8]) -> usize
     if out.len() < bytes.len() || out.len() - bytes.len() < at {
         return at;
     }
-    let end = at + bytes.len();
-    out[at..end].copy_from_slice(bytes);
-    end
+    // Byte by byte: the library's copy of as many bytes as a slice has is a call of C's `memmove`, which the static library needs for nothing else.
+    for i in 0..bytes.len() {
+        out[at + i] = bytes[i];
+    }
+    at + bytes.len()
 }
 
 // Puts a number's decimal digits and answers the index behind them.
