@@ -57,8 +57,8 @@ const MODELS: usize = rows::MODELS as usize;
 
 const KINDS: usize = rows::KINDS as usize;
 
-// Models by kinds: read, write, commit, open, close, sync, send, recv, wait, barrier.
-const TABLE: [[Marks; KINDS]; MODELS] = [
+// Models by kinds: read, write, commit, open, close, sync, send, recv, wait, barrier. A static: a constant would be put on the stack at each reading.
+static TABLE: [[Marks; KINDS]; MODELS] = [
     // POSIX
     [
         REFRESH, PUBLISH, NEITHER, NEITHER, NEITHER, NEITHER, NEITHER, NEITHER, NEITHER, NEITHER,
