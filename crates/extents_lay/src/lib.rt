@@ -21,7 +21,7 @@ pub fn lay(map: &mut [u32], start: u32, end: u32, cell: u32) -> bool
 {
     let read = LawfulMap { numbers: &*map };
     let all = read.runs_in();
-    let first = first_met(read, start, cell);
+    let first = first_met(read, all, start, cell);
     let behind = first_behind(read, all, first, end, cell);
     let left = left_side(read, all, first, start, cell);
     let right = right_side(read, first, behind, end, cell);
@@ -38,10 +38,11 @@ pub fn lay(map: &mut [u32], start: u32, end: u32, cell: u32) -> bool
 }
 
 // The first run that a range from `start` on meets: a run that ends behind the start, or at the start with the range's cell.
-fn first_met(map: LawfulMap<'_>, start: u32, cell: u32) -> usize
+fn first_met(map: LawfulMap<'_>, all: usize, start: u32, cell: u32) -> usize
+    requires { all ≡ length (runs map.numbers.now) }
     ensures { Met (runs map.entry.numbers.now) start cell result }
 {
-    let i = map.first_past(start);
+    let i = map.first_past_among(all, start);
     if i == 0 {
         return 0;
     }

@@ -7,7 +7,7 @@ use borrow.Author.Tests.{eqb-false, not-true}
 use Rattle.rows.specs.Limits.{OFFSET_MAX}
 use Rattle.std.specs.Simd.{first_chunks}
 use Rattle.std.specs.List.Sorted.{IsPartitionPoint, IsPartitionedBy}
-use Rattle.std.proofs.lemmas.List.{get_or-take}
+use Rattle.std.proofs.lemmas.List.{get_or-take, length-take-le}
 use Rattle.extents_meaning.specs.Runs.{Run, Rising}
 use Rattle.extents_meaning.specs.Maps.{runs, lawful}
 use Rattle.extents_meaning.proofs.Trips.{lawful-map}
@@ -166,3 +166,56 @@ module _ (xs : List ℕ) (e : lawful xs ≡ true) (x : ℕ) where
         let n = length_quads (length xs / 4) xs in
         let m = (lawful-map xs e).fit in
         leb-false _ x (sym (passed_there r [] l) ∙ p.1 r [] (omega arith) (omega (arith, n, m, l)))
+
+-- ---- The first run behind a byte, among the runs alone
+
+-- Four numbers that end at byte x or before.
+abbrev pub is_over : ℕ → List ℕ → Bool
+is_over x run = leb (get_or run 0 0 + get_or run 1 0) x
+
+module _ (xs : List ℕ) (e : lawful xs ≡ true) (x n : ℕ) (q : n ≡ length (runs xs)) where
+  -- the first arrays, one for each run
+  abbrev pub own_quads : List (List ℕ)
+  own_quads = take n (quads xs)
+
+  -- there are as many of them
+  pub length_own : length own_quads ≡ n
+  length_own =
+      let m = (lawful-map xs e).fit in
+      let k = length_quads (length xs / 4) xs in
+      length-take-le n (quads xs) (omega (arith, k, m, q))
+
+  -- what the test says of one of them
+  over_there : (i : ℕ) (d : List ℕ) → i < n → is_over x (get_or own_quads i d) ≡ leb (end_of (run_no (runs xs) i)) x
+  over_there i d h =
+      ap (λ (run : List ℕ). is_over x run) (get_or-take n (quads xs) i d h) ∙ ap (λ (k : ℕ). leb k x) (end_there xs e x i d (omega (arith, q)))
+
+  -- Runs that end at the byte or before stand before the others.
+  pub over_parted : IsPartitionedBy (is_over x) own_quads
+  over_parted i j d h k t =
+      let l : j < n = omega (arith, length_own) in
+      let g = (lawful-map xs e).lawful-runs.in_order in
+      let s : i + (j - i) ≡ j = omega arith in
+      let o : end_of (run_no (runs xs) i) ≤ end_of (run_no (runs xs) j) = rw s at (ends-rise (runs xs) g i (j - i) (omega (arith, l, q))) in
+      let p = leb-true _ _ (sym (over_there j d l) ∙ t) in
+      over_there i d (omega (arith, l)) ∙ le-leb _ x (omega (arith, o, p))
+
+  module _ (r : ℕ) (h : r ≤ length own_quads)
+      (p : IsPartitionPoint (λ run. is_over x run ≡ true) (λ run. is_over x run ≡ false) own_quads r) where
+    -- The first that does not pass is one of the runs, or stands behind the last.
+    pub over_within : r ≤ n
+    over_within = omega (arith, h, length_own)
+
+    -- The run before it ends at the byte or before.
+    pub before-over : end_of (run_before (runs xs) r) ≤ x
+    before-over = go (dec_lt 0 r)
+      where
+        go : Dec (0 < r) → end_of (run_before (runs xs) r) ≤ x
+        go (yes l) =
+            let w = over_within in
+            rw (before_last (runs xs) r l) (leb-true _ x (sym (over_there (r - 1) [] (omega arith)) ∙ p.0 (r - 1) [] (omega arith) (omega arith)))
+        go (no l) = let z : r ≡ 0 = omega arith in rw z (omega arith)
+
+    -- It ends behind the byte.
+    pub at-over : r < n → x < end_of (run_no (runs xs) r)
+    at-over l = leb-false _ x (sym (over_there r [] l) ∙ p.1 r [] (omega arith) (omega (arith, length_own, l)))

@@ -140,6 +140,18 @@ impl<'a> LawfulMap<'a> {
         })
     }
 
+    // The first run that ends behind byte x, looked for among the runs alone: `all` is how many there are.
+    pub fn first_past_among(self, all: usize, x: u32) -> usize
+        requires { all ≡ length (runs self.numbers.now) }
+        ensures within { result ≤ all }
+        ensures passed { end_of (run_before (runs self.entry.numbers.now) result) ≤ x }
+        ensures not_passed { result < all → x < end_of (run_no (runs self.entry.numbers.now) result) }
+    {
+        let numbers = self.numbers;
+        let (quads, _) = numbers.as_chunks::<4>();
+        quads[..all].partition_point(|run| u64::from(run[0]) + u64::from(run[1]) <= u64::from(x))
+    }
+
     // A run from which `scan::see` may look for byte x: all runs before it end at x or before.
     pub fn seek(self, x: u32) -> usize
         ensures { Passing self.entry.numbers.now 0 x result }

@@ -47,6 +47,7 @@ pub trait Mode {
 }
 
 // The published map after publishing the view and the range.
+#[derive(Clone, Copy, Debug, PartialEq, Eq, Hash)]
 pub struct Publish;
 
 impl Mode for Publish {
@@ -77,6 +78,7 @@ impl Mode for Publish {
 }
 
 // The view after publishing it and the range.
+#[derive(Clone, Copy, Debug, PartialEq, Eq, Hash)]
 pub struct MarkPublished;
 
 impl Mode for MarkPublished {
@@ -104,6 +106,7 @@ impl Mode for MarkPublished {
 }
 
 // The view after a refresh.
+#[derive(Clone, Copy, Debug, PartialEq, Eq, Hash)]
 pub struct Refresh;
 
 impl Mode for Refresh {
@@ -128,6 +131,7 @@ impl Mode for Refresh {
 }
 
 // A piece's value, its row number and one, in the view.
+#[derive(Clone, Copy, Debug, PartialEq, Eq, Hash)]
 pub struct ReadMap;
 
 impl Mode for ReadMap {
@@ -152,6 +156,7 @@ impl Mode for ReadMap {
 }
 
 // A piece's value in the view after a refresh.
+#[derive(Clone, Copy, Debug, PartialEq, Eq, Hash)]
 pub struct ReadFresh;
 
 impl Mode for ReadFresh {

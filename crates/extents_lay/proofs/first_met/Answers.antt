@@ -6,7 +6,7 @@ use Rattle.extents_lay.proofs.first_met.Goals as goal
 
 pub returns-then-cell_at-cell : goal.returns-then-cell_at-cell
 returns-then-cell_at-cell c =
-    let i = c.first_past-i.ensures.within in
+    let i = c.first_past_among-i.ensures.within in
     let e = c.end_at.ensures in
     met_last (omega (arith, i)) (order _ c.args.map.lawful) (omega (arith, c.if-i-eq0.false))
     (sym e ∙ c.if-end_at-start.true)
