@@ -14,6 +14,7 @@ use rows::Row;
 use rows::refusal::Refusal;
 
 // The layered file: the published map stands first in its slice, then the view of each process.
+#[derive(Clone, Copy, Debug, PartialEq, Eq, Hash)]
 pub struct Layered;
 
 impl File for Layered {

@@ -11,6 +11,7 @@ use rows::Row;
 use rows::refusal::Refusal;
 
 // The plain file: one map, without marks.
+#[derive(Clone, Copy, Debug, PartialEq, Eq, Hash)]
 pub struct Plain;
 
 impl File for Plain {
