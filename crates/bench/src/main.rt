@@ -123,9 +123,9 @@ fn put_judged<W: Write>(out: &mut W, answer: Result<Judged, Refused>) -> io::Res
     }
 }
 
-// Writes that there was a refusal, and its number.
-fn put_refusal<W: Write>(out: &mut W, refusal: Refusal) -> io::Result<()> {
-    put(out, b"refused ")?;
+// Writes a word for a refusal, and its number.
+fn put_refusal<W: Write>(out: &mut W, word: &[u8], refusal: Refusal) -> io::Result<()> {
+    put(out, word)?;
     put_number(out, refusal.number())
 }
 
@@ -138,7 +138,7 @@ fn put_answer<W: Write>(out: &mut W, answer: Result<Option<u32>, Refusal>) -> io
             put(out, b" pieces:")
         }
         Err(refusal) => {
-            put_refusal(out, refusal)?;
+            put_refusal(out, b"refused ", refusal)?;
             put(out, b":")
         }
     }
@@ -146,12 +146,13 @@ fn put_answer<W: Write>(out: &mut W, answer: Result<Option<u32>, Refusal>) -> io
 
 // Writes whether a machine or a plain file was made.
 fn put_made<W: Write>(out: &mut W, made: Result<(), Refusal>) -> io::Result<()> {
-    put(out, b" ")?;
     match made {
-        Ok(()) => put(out, b"made")?,
-        Err(refusal) => put_refusal(out, refusal)?,
+        Ok(()) => put(out, b" made\n"),
+        Err(refusal) => {
+            put_refusal(out, b" refused ", refusal)?;
+            put(out, b"\n")
+        }
     }
-    put(out, b"\n")
 }
 
 // As many numbers as are asked for, and at most all.
@@ -173,10 +174,7 @@ fn put_step<W: Write>(
             let end = within(n as usize * PIECE, pieces);
             put_groups(out, &pieces[..end], PIECE)
         }
-        Err(refusal) => {
-            put(out, b" ")?;
-            put_refusal(out, refusal)
-        }
+        Err(refusal) => put_refusal(out, b" refused ", refusal),
     }
 }
 
