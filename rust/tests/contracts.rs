@@ -8,7 +8,8 @@ const ABOUT: &str = "# Public functions and their contracts
 
 Every public function of every library, with its contract as the source has it. `x.now` is what a parameter that is lent to be read (`&`) holds,
 `x.old` and `x.new` are what one that is lent to be written (`&mut`) holds when the function is called and afterwards, and `result` is the answer.
-Between the word `ensures` or `requires` and the brace may stand the clause's name. A function without `requires` answers for every input. The gate
+Between the word `ensures` or `requires` and the brace may stand the clause's name. A function without `requires` answers for every input. Behind the
+functions of a crate stand its `impl`s of traits, with what each gives for the words of the trait's clauses. The gate
 compares this list with the sources; `KIQSARYN_WRITE=1 cargo test --offline --manifest-path rust/Cargo.toml --test contracts` writes it anew.
 ";
 
@@ -164,11 +165,66 @@ fn functions(path: &str, text: &str) -> Vec<Function> {
     found
 }
 
+/// An `impl` of a trait: its head, the comment above it, and what it gives for the words of the trait's clauses.
+struct Given {
+    head: String,
+    about: String,
+    ghosts: Vec<String>,
+}
+
+/// What an `impl` gives: its lines `ghost WORD = { .. };`, without those that bring in names.
+fn ghosts(block: &str) -> Vec<String> {
+    let (mut found, mut at) = (Vec::new(), 0);
+    for line in block.split_inclusive('\n') {
+        if line.starts_with("    ghost ") && line.contains(" = {") {
+            let open = at + line.find('{').expect("a brace");
+            found.push(squeezed(&block[at..closed(block, open)]));
+        }
+        at += line.len();
+    }
+    found
+}
+
+/// The `impl`s of a text that give something, but those of a trait that is private to the crate.
+fn impls(text: &str, private: &[String]) -> Vec<Given> {
+    let (mut found, mut about, mut at) = (Vec::new(), Vec::new(), 0);
+    for whole in text.split_inclusive('\n') {
+        let (start, line) = (at, whole.trim_end());
+        at += whole.len();
+        if let Some(comment) = line.strip_prefix("// ") {
+            about.push(comment);
+            continue;
+        }
+        let head = line.strip_suffix(" {").filter(|l| l.starts_with("impl") && l.contains(" for "));
+        if let Some(head) = head {
+            let block = &text[start..closed(text, start + line.len() - 1)];
+            let is_private = private.iter().any(|name| head.contains(&format!("{name} for ")));
+            let ghosts = ghosts(block);
+            if !is_private && !ghosts.is_empty() {
+                found.push(Given { head: head.to_string(), about: about.join(" "), ghosts });
+            }
+        }
+        about.clear();
+    }
+    found
+}
+
+/// The `impl`s of a crate that give something, by file.
+fn given(krate: &str) -> Vec<Given> {
+    let folder = root().join("crates").join(krate).join("src");
+    let mut files: Vec<PathBuf> = std::fs::read_dir(&folder).expect("the sources").map(|file| file.expect("a file").path()).collect();
+    files.sort();
+    let texts: Vec<String> = files.iter().map(|file| read(file)).collect();
+    let private = texts.iter().flat_map(|text| text.lines().filter_map(|l| l.strip_prefix("trait ")));
+    let private: Vec<String> = private.map(|name| without_parameters(name.trim_end_matches(" {")).to_string()).collect();
+    texts.iter().flat_map(|text| impls(text, &private)).collect()
+}
+
 fn listed() -> String {
     let mut out = ABOUT.to_string();
     for krate in libraries() {
-        let found = public_functions(&krate);
-        if found.is_empty() {
+        let (found, given) = (public_functions(&krate), given(&krate));
+        if found.is_empty() && given.is_empty() {
             continue;
         }
         writeln!(out, "\n## {krate}").expect("a line");
@@ -176,6 +232,15 @@ fn listed() -> String {
             writeln!(out, "\n### `{}`\n\n{}\n\n    {}", f.name, f.about, f.signature).expect("a line");
             for clause in f.clauses {
                 writeln!(out, "      {clause}").expect("a line");
+            }
+        }
+        for g in given {
+            writeln!(out, "\n### `{}`\n", g.head).expect("a line");
+            if !g.about.is_empty() {
+                writeln!(out, "{}\n", g.about).expect("a line");
+            }
+            for ghost in g.ghosts {
+                writeln!(out, "    {ghost}").expect("a line");
             }
         }
     }

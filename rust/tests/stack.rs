@@ -1,4 +1,4 @@
-//! The stack that the C header names is enough for every exported call.
+//! The stack that the C header names is enough for every exported call, and what the library takes from outside.
 
 #[allow(dead_code)]
 mod running;
@@ -19,6 +19,9 @@ fn bound(call: &str) -> usize {
         _ => 4,
     }
 }
+
+/// What a call that reads a trace may take, in KB: the table of messages and those of the barriers do not stand at the same time.
+const READING: usize = 150;
 
 /// A trace with data rows, commits, messages and a barrier, free under commit, whose replay is accepted. The barrier's number is that of the second
 /// file's.
@@ -62,6 +65,7 @@ fn every_call_keeps_to_the_stack_that_the_header_names() {
         let (call, bytes) = line.split_once(' ').expect("a call and its bytes");
         let bytes: usize = bytes.parse().expect("a number");
         assert!(bytes < 1024 * bound(call), "{line}");
+        assert!(!["check_trace", "judge", "list_races", "report"].contains(&call) || bytes < 1024 * READING, "{line}");
     }
 }
 
@@ -98,4 +102,17 @@ fn large_frames_are_made_at_the_entry() {
         }
     }
     assert!(large > 1, "the tables by message stand in large frames");
+}
+
+/// A caller may have no C library: the archive takes two functions from outside, which a compiler's own code takes too.
+#[test]
+fn two_names_come_from_outside() {
+    let library = Path::new(env!("CARGO_MANIFEST_DIR")).join("../crates/kiqsaryn/out/libkiqsaryn.a");
+    let run = Command::new("nm").arg("-u").arg(&library).output().expect("nm runs");
+    assert!(run.status.success());
+    let text = String::from_utf8(run.stdout).expect("plain text");
+    let mut names: Vec<&str> = text.lines().filter_map(|line| line.trim_start().strip_prefix("U ")).collect();
+    names.sort();
+    names.dedup();
+    assert_eq!(names, ["memcpy", "memset"]);
 }
