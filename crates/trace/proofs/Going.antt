@@ -85,18 +85,23 @@ module _ (R : ℕ) {P : ℕ} (few : P ≤ PROCESSES) where
           then false d f goes = refl
           then true d f goes = goes (tells-next t row f.0 f.1 (eqb-true second 0 d))
 
+-- Records are judged by a fresh table as they are by the rows before each.
+by_fresh_table : (R P : ℕ) → P ≤ PROCESSES → (table : MessageTable) → table.entries ≡ replicate MESSAGES 0 →
+    (recs : List (List (List ℕ))) (ending : Ending) → judge_asked table_asked table_noted R P table [] recs ending ≡ judge_rows R P [] recs ending
+by_fresh_table R P few table e recs ending = by_table R few recs ending [] table (rw e tells_none)
+
 -- Rows are read by a fresh table as their records are.
 pub fresh_table : (R P : ℕ) → P ≤ PROCESSES → (table : MessageTable) → table.entries ≡ replicate MESSAGES 0 → (text : List ℕ) (limit at : ℕ) →
     rows_asked table_asked table_noted R P text limit table at ≡ judge_from R P text limit at
 unfolding rows_asked judge_from
 fresh_table R P few table e text limit at =
     let r = records_at text limit at in
-    by_table R few r.rows r.ending [] table (rw e tells_none)
+    by_fresh_table R P few table e r.rows r.ending
 
 -- Behind a header as without one, the rows of a text are judged as its records are.
-read_records_by : (R P header : ℕ) (r : Records) → read_by (judge_rows R P []) header r ≡ read_records header R P r
+judged_by_header : (R P header : ℕ) (r : Records) → read_by (judge_rows R P []) header r ≡ read_records header R P r
 unfolding read_by read_records behind_header judge_header
-read_records_by R P header r = ap (λ (o : Outcome). cond (eqb header 0) (judge_rows R P [] r.rows r.ending) o) (headers r.rows r.ending)
+judged_by_header R P header r = ap (λ (o : Outcome). cond (eqb header 0) (judge_rows R P [] r.rows r.ending) o) (headers r.rows r.ending)
   where
     headers : (recs : List (List (List ℕ))) (ending : Ending) → behind_header (judge_rows R P []) recs ending ≡ judge_header R P recs ending
     headers [] all_read = refl
@@ -104,13 +109,23 @@ read_records_by R P header r = ap (λ (o : Outcome). cond (eqb header 0) (judge_
     headers [] at-limit = refl
     headers (fields ∷ rest) ending = refl
 
+-- A text is read by a fresh table as its records are.
+pub read_records_by : (R P header : ℕ) → P ≤ PROCESSES → (table : MessageTable) → table.entries ≡ replicate MESSAGES 0 → (r : Records) →
+    read_by (judge_asked table_asked table_noted R P table []) header r ≡ read_records header R P r
+unfolding read_by behind_header
+read_records_by R P header few table e r =
+    (λ i. cond (eqb header 0) (same r.rows r.ending i) (behind_header (λ recs ending. same recs ending i) r.rows r.ending)) ∙ judged_by_header R P header r
+  where
+    same : (recs : List (List (List ℕ))) (ending : Ending) → judge_asked table_asked table_noted R P table [] recs ending ≡ judge_rows R P [] recs ending
+    same = by_fresh_table R P few table e
+
 module _ (R P header : ℕ) (text : List ℕ) (limit : ℕ) where
   -- A No to the header refuses the text.
   pub records-refused : {k : ℕ} → k ≡ header_no header text (read_at text 0 limit) → (k ≡ 0 → ⊥) → read_records header R P (records text limit) ≡ refused k 0
-  records-refused e n = sym (read_records_by R P header (records text limit)) ∙ header-refused (judge_rows R P []) text limit header e n
+  records-refused e n = sym (judged_by_header R P header (records text limit)) ∙ header-refused (judge_rows R P []) text limit header e n
 
   -- Where it has none, the rows decide from their start on.
   pub records-passed : {s : ℕ} → header_no header text (read_at text 0 limit) ≡ 0 → s ≡ rows_start header (read_at text 0 limit) →
       read_records header R P (records text limit) ≡ judge_from R P text limit s
   unfolding judge_from
-  records-passed e d = sym (read_records_by R P header (records text limit)) ∙ header-passed (judge_rows R P []) text limit header e d
+  records-passed e d = sym (judged_by_header R P header (records text limit)) ∙ header-passed (judge_rows R P []) text limit header e d
